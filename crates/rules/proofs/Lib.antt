@@ -1,0 +1,2 @@
+-- The theorems about document 01's definitions.
+pub mod Examples

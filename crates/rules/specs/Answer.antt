@@ -1,0 +1,60 @@
+-- Document 01, "Refusal numbers": what each call answers, and what it leaves in the tables that it was lent.
+-- "A refusal returns its number and writes nothing."
+use mathlib.Core.Bool.{cond}
+use mathlib.Core.List.{List, _++_}
+use Prim.Native.Nat.{ℕ, zero, suc}
+use lib.ListN.{drop, replicate}
+use Rattle.rules.specs.declared.Rule.{Rule}
+use Rattle.rules.specs.declared.Verdict.{Verdict}
+use Rattle.rules.specs.declared.Verdict.the-variants as verdict
+use Rattle.rules.specs.declared.Rating.{Rating}
+use Rattle.rules.specs.declared.Rating.the-variants as rating
+use Rattle.rules.specs.declared.Counting.{Counting}
+use Rattle.rules.specs.declared.Counting.the-variants as counting
+use Rattle.rules.specs.State.{S}
+use Rattle.rules.specs.Verdict.{fails}
+use Rattle.rules.specs.Count.{countsOf}
+use Rattle.rules.specs.Figure.{low, high}
+use Rattle.rules.specs.Stretch.{stretch}
+use Rattle.rules.specs.Refusal.{cells, verdictRefusal, countRefusal, figuresRefusal, stretchRefusal}
+
+-- the refusal where there is one, else the answer
+unfoldable pub unless : {A : Type 0} → (refusal : ℕ) (refused : ℕ → A) (answer : A) → A
+unless zero refused answer = answer
+unless (suc r) refused answer = refused (suc r)
+
+-- "After an accepted call the first 7,800 cells of the working table are 0, cells beyond are untouched"
+abbrev pub cleared : List ℕ → List ℕ
+cleared table = replicate cells 0 ++ drop cells table
+
+-- the working table after a call
+abbrev pub tableAfter : (refusal : ℕ) → List ℕ → List ℕ
+tableAfter refusal table = unless refusal (λ r. table) (cleared table)
+
+-- the verdict on one state
+unfoldable pub verdictOf : Rule → (n : ℕ) (weights : List ℕ) (w : ℕ) → Verdict
+verdictOf rule n weights w =
+    unless (verdictRefusal rule n weights w) verdict.Refused (cond (fails rule n weights w) verdict.Fails verdict.Works)
+
+-- the figures of a sound list
+abbrev pub range : Rule → (survival weights : List ℕ) → Rating
+range rule survival weights = rating.Range (low S rule survival weights) (high S rule survival weights)
+
+-- the figures of a whole list
+unfoldable pub figuresOf : Rule → (survival weights table : List ℕ) → Rating
+figuresOf rule survival weights table =
+    unless (figuresRefusal rule survival weights table) rating.Refused (range rule survival weights)
+
+-- the figures of a stretch: "answers as a list of those components alone would, weights too"
+unfoldable pub stretchOf : Rule → (a b : ℕ) (survival weights table : List ℕ) → Rating
+stretchOf rule a b survival weights table =
+    unless (stretchRefusal rule a b survival weights table) rating.Refused
+    (range rule (stretch a b survival) (stretch a b weights))
+
+-- the count table's call, and the room for the counts after it: "the count table's first n + 1 cells are written and the rest untouched"
+unfoldable pub countingOf : Rule → (n : ℕ) (weights table room : List ℕ) → Counting
+countingOf rule n weights table room =
+    unless (countRefusal rule n weights table room) counting.Refused counting.Counted
+
+unfoldable pub roomAfter : (refusal : ℕ) → Rule → (n : ℕ) (weights room : List ℕ) → List ℕ
+roomAfter refusal rule n weights room = unless refusal (λ r. room) (countsOf rule n weights ++ drop (suc n) room)

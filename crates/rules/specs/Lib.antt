@@ -1,0 +1,12 @@
+-- Document 01, in its own order: what is rated, the verdicts, the count table, the memory of a reading, stretches, refusals, the deck file.
+-- Lay it beside the document; every definition names the sentence or row that it writes down.
+pub mod Below
+pub mod State
+pub mod Verdict
+pub mod Count
+pub mod Memory
+pub mod Figure
+pub mod Stretch
+pub mod Refusal
+pub mod Answer
+pub mod File

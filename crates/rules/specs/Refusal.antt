@@ -1,0 +1,121 @@
+-- Document 01, "Refusal numbers": each condition of the table, and each call's refusal, "the lowest number that applies, and none otherwise".
+use mathlib.Core.Bool.{Bool, true, false, cond, not, _&&_, _||_}
+use mathlib.Core.List.{List, [], _∷_}
+use Prim.Native.Nat.{ℕ, suc, _^_}
+use lib.Dec.{ltb, leb, eqb}
+use lib.ListN.{length, getD}
+use Rattle.rules.specs.declared.Rule.{Rule}
+use Rattle.rules.specs.Below.{some, total, within, rowOf}
+use Rattle.rules.specs.State.{S}
+use Rattle.rules.specs.Stretch.{stretch}
+
+-- 1: kind not 1..7
+abbrev pub badKind : Rule → Bool
+badKind rule = not (within 1 (rule .kind) 7)
+
+-- 2: n 0 or above 64
+abbrev pub badSize : ℕ → Bool
+badSize n = not (within 1 n 64)
+
+-- 3: a = 0, b < a or b > n
+abbrev pub badStretch : (a b n : ℕ) → Bool
+badStretch a b n = eqb a 0 || ltb b a || ltb n b
+
+-- 4: a P read is above S
+unfoldable pub aboveUnit : (survival : List ℕ) → Bool
+aboveUnit survival = some (λ i. ltb S (getD survival i 0)) (length survival)
+
+-- 5: kind 2: weights' length is not n, or the total over the components rated is above 120
+unfoldable pub badWeights : Rule → (n : ℕ) (weights rated : List ℕ) → Bool
+badWeights rule n weights rated = eqb (rule .kind) 2 && (not (eqb (length weights) n) || ltb 120 (total rated))
+
+-- 6: first or second out of range: the table's column "range"
+abbrev pub rangeOne : (k most second : ℕ) → Bool
+rangeOne k most second = within 1 k most && eqb second 0
+
+abbrev pub rangeTwo : (first r n : ℕ) → Bool
+rangeTwo first r n = eqb first 2 && within 2 r n
+
+unfoldable pub inRange : Rule → (n : ℕ) (weights : List ℕ) → Bool
+inRange rule n weights =
+    let first = rule .first in
+    let second = rule .second in
+    rowOf (rule .kind) false
+    (rangeOne first n second
+    ∷ rangeOne first (total weights) second
+    ∷ (leb first second && leb second n)
+    ∷ rangeOne first n second
+    ∷ rangeOne first n second
+    ∷ rangeTwo first second n
+    ∷ rangeTwo first second n
+    ∷ [])
+
+-- 7: working table under 7,800 64-bit cells
+abbrev pub cells : ℕ
+cells = 7800
+
+abbrev pub shortTable : (table : List ℕ) → Bool
+shortTable table = ltb (length table) cells
+
+-- 8: count table's room under n + 1 cells
+abbrev pub shortRoom : (n : ℕ) (room : List ℕ) → Bool
+shortRoom n room = ltb (length room) (suc n)
+
+-- 9: a one above bit n - 1
+abbrev pub highOne : (n w : ℕ) → Bool
+highOne n w = leb (2 ^ n) w
+
+-- the number of the first condition that holds; 0 where none does
+unfoldable pub firstOf : List (ℕ × Bool) → ℕ
+firstOf [] = 0
+firstOf (c ∷ cs) = cond (c .1) (c .0) (firstOf cs)
+
+-- "The verdict checks 1, 2, 5, 6, 9"
+unfoldable pub verdictRefusal : Rule → (n : ℕ) (weights : List ℕ) (w : ℕ) → ℕ
+verdictRefusal rule n weights w =
+    firstOf
+    ((1, badKind rule)
+    ∷ (2, badSize n)
+    ∷ (5, badWeights rule n weights weights)
+    ∷ (6, not (inRange rule n weights))
+    ∷ (9, highOne n w)
+    ∷ [])
+
+-- "the count table 1, 2, 5, 6, 7, 8"
+unfoldable pub countRefusal : Rule → (n : ℕ) (weights table room : List ℕ) → ℕ
+countRefusal rule n weights table room =
+    firstOf
+    ((1, badKind rule)
+    ∷ (2, badSize n)
+    ∷ (5, badWeights rule n weights weights)
+    ∷ (6, not (inRange rule n weights))
+    ∷ (7, shortTable table)
+    ∷ (8, shortRoom n room)
+    ∷ [])
+
+-- "the figures 1, 2, 3 (stretch calls), 4, 5, 6, 7"
+unfoldable pub figuresRefusal : Rule → (survival weights table : List ℕ) → ℕ
+figuresRefusal rule survival weights table =
+    firstOf
+    ((1, badKind rule)
+    ∷ (2, badSize (length survival))
+    ∷ (4, aboveUnit survival)
+    ∷ (5, badWeights rule (length survival) weights weights)
+    ∷ (6, not (inRange rule (length survival) weights))
+    ∷ (7, shortTable table)
+    ∷ [])
+
+unfoldable pub stretchRefusal : Rule → (a b : ℕ) (survival weights table : List ℕ) → ℕ
+stretchRefusal rule a b survival weights table =
+    let n = length survival in
+    let part = stretch a b survival in
+    let rated = stretch a b weights in
+    firstOf
+    ((1, badKind rule)
+    ∷ (2, badSize n)
+    ∷ (3, badStretch a b n)
+    ∷ (4, aboveUnit part)
+    ∷ (5, badWeights rule n weights rated)
+    ∷ (6, not (inRange rule (length part) rated))
+    ∷ (7, shortTable table)
+    ∷ [])

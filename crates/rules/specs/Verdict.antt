@@ -1,0 +1,43 @@
+-- Document 01, "The seven verdicts": the system fails exactly if ..
+use mathlib.Core.Bool.{Bool, true, false, cond, not}
+use mathlib.Core.List.{List, [], _∷_}
+use Prim.Native.Nat.{ℕ, suc}
+use lib.Dec.{leb}
+use lib.Count.{ones}
+use Rattle.rules.specs.declared.Rule.{Rule}
+use Rattle.rules.specs.Below.{sumBelow, some, within, rowOf}
+use Rattle.rules.specs.State.{numberOf, down, heldIn, starts}
+
+-- row 1: at least k components have failed
+abbrev pub fails1 : (k w : ℕ) → Bool
+fails1 k w = leb k (ones w)
+
+-- row 2: the failed components' weights add up to k or more
+abbrev pub fails2 : (k n : ℕ) (weights : List ℕ) (w : ℕ) → Bool
+fails2 k n weights w = leb k (sumBelow n (λ i. cond (down i w) (numberOf weights (suc i)) 0))
+
+-- row 3: the number failed is at least l and at most h
+abbrev pub fails3 : (l h w : ℕ) → Bool
+fails3 l h w = within l (ones w) h
+
+-- rows 4 to 7: some `width` components in a row hold `need` failed ones or more
+unfoldable pub someWindow : (ring : Bool) (n width need w : ℕ) → Bool
+someWindow ring n width need w = some (λ a. leb need (heldIn n a w width)) (starts ring n width)
+
+-- the table: kinds 4 and 5 want all k of k in a row, kinds 6 and 7 two or more of r; 4 and 6 on the line, 5 and 7 on the ring
+unfoldable pub fails : Rule → (n : ℕ) (weights : List ℕ) (w : ℕ) → Bool
+fails rule n weights w =
+    let first = rule .first in
+    let second = rule .second in
+    rowOf (rule .kind) true
+    (fails1 first w
+    ∷ fails2 first n weights w
+    ∷ fails3 first second w
+    ∷ someWindow false n first first w
+    ∷ someWindow true n first first w
+    ∷ someWindow false n second 2 w
+    ∷ someWindow true n second 2 w
+    ∷ [])
+
+abbrev pub works : Rule → (n : ℕ) (weights : List ℕ) (w : ℕ) → Bool
+works rule n weights w = not (fails rule n weights w)

@@ -1,0 +1,34 @@
+// The words that every call shares: a rule, a system of a deck, and what each call answers. They hold no code.
+
+// Document 01, "The seven verdicts": the rule carries two numbers, "first" and "second".
+pub struct Rule {
+    pub kind: u64,
+    pub first: u64,
+    pub second: u64,
+}
+
+// A system of a deck: a rule over the fans from a to b.
+pub struct System {
+    pub rule: Rule,
+    pub a: u64,
+    pub b: u64,
+}
+
+// The verdict on one state.
+pub enum Verdict {
+    Works,
+    Fails,
+    Refused(u64),
+}
+
+// The figures of a list or a stretch.
+pub enum Rating {
+    Range { low: u64, high: u64 },
+    Refused(u64),
+}
+
+// Whether a count table was written.
+pub enum Counting {
+    Counted,
+    Refused(u64),
+}
