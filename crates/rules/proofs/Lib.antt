@@ -1,2 +1,11 @@
--- The theorems about document 01's definitions.
+-- The theorems about document 01's definitions, from the ground up.
 pub mod Examples
+pub mod Sums
+pub mod Bits
+pub mod Split
+pub mod Rounding
+pub mod Enclosure
+pub mod Simulation
+pub mod Windows
+pub mod Reading
+pub mod InARow

@@ -1,0 +1,83 @@
+-- A reading looks at nothing above the components it reads; so the exact sum, and the number of working words with j ones, split at the top
+-- component into what follows where it works and what follows where it fails, for any memory. Assumes nothing.
+use mathlib.Core.Path.{_≡_, refl, ap}
+use mathlib.Core.Bool.{Bool, true, false, cond, _&&_, and-false}
+use Prim.Native.Nat.{ℕ, zero, suc, _+_, _*_, _^_, _<_}
+use native.Mathlib.Omega.{arith}
+use native.Mathlib.Nat.{one-mul}
+use lib.Dec.{eqb, eqb·suc-zero, eqb·suc-suc}
+use lib.Count.{ones}
+use Rattle.rules.specs.Below.{sumBelow, held}
+use Rattle.rules.specs.State.{failure, down}
+use Rattle.rules.specs.Count.{countIf}
+use Rattle.rules.specs.Memory.{Machine, run}
+use Rattle.rules.specs.Figure.{product, exactIf}
+use Rattle.rules.proofs.Sums.{sum-split, sum-same, held-sum, held-same}
+use Rattle.rules.proofs.Bits.{down-low, down-high, shift, bit-above, ones-high}
+
+pub run-above : {M : Type 0} (K : Machine M) (i a : ℕ) (m : M) (w : ℕ) → run K i m (a * 2 ^ i + w) ≡ run K i m w
+unfolding run
+run-above K zero a m w = refl
+run-above K (suc i) a m w = rw (bit-above a i w, shift a i) (run-above K i (a * 2) _ w)
+
+product-above : (u : ℕ) (P : ℕ → ℕ) (i a w : ℕ) → product u P i (a * 2 ^ i + w) ≡ product u P i w
+unfolding product
+product-above u P zero a w = refl
+product-above u P (suc i) a w = rw (bit-above a i w, shift a i, product-above u P i (a * 2) w)
+
+cond-mul : (b : Bool) (c x : ℕ) → cond b (c * x) 0 ≡ c * cond b x 0
+cond-mul true c x = refl
+cond-mul false c x = omega arith
+
+module _ {M : Type 0} (K : Machine M) (u : ℕ) (P : ℕ → ℕ) where
+  pub exact-zero : (m : M) → exactIf (run K 0 m) u P 0 ≡ cond (K .ends m) 1 0
+  unfolding exactIf run product sumBelow
+  exact-zero m = omega arith
+
+  pub exact-split : (i : ℕ) (m : M)
+      → exactIf (run K (suc i) m) u P (suc i) ≡ P (suc i) * exactIf (run K i (K .worked (suc i) m)) u P i + failure u (P (suc i)) * exactIf (run K i (K .failed (suc i) m)) u P i
+  unfolding exactIf run product
+  exact-split i m = sum-split i (P (suc i)) (failure u (P (suc i))) _ _ _
+      (λ w h. rw (down-low i w h, cond-mul))
+      (λ w h. rw (down-high i w h, run-above K i 1 _ w, product-above u P i 1 w, cond-mul))
+
+-- a verdict that agrees with another on every word below 2^n has the same exact sum and the same counts
+pub exact-same : (p q : ℕ → Bool) (u : ℕ) (P : ℕ → ℕ) (n : ℕ) → ((w : ℕ) → w < 2 ^ n → p w ≡ q w) → exactIf p u P n ≡ exactIf q u P n
+unfolding exactIf
+exact-same p q u P n h = sum-same (2 ^ n) _ _ (λ w l. rw (h w l))
+
+pub count-same : (p q : ℕ → Bool) (n j : ℕ) → ((w : ℕ) → w < 2 ^ n → p w ≡ q w) → countIf p n j ≡ countIf q n j
+unfolding countIf
+count-same p q n j h = held-same _ _ (2 ^ n) (λ w l. rw (h w l))
+
+-- the words of one more bit with j ones: p says which work where the new bit is clear, q where it is set
+module _ (p q r : ℕ → Bool) (i : ℕ) (low : (w : ℕ) → w < 2 ^ i → r w ≡ p w) (high : (w : ℕ) → w < 2 ^ i → r (1 * 2 ^ i + w) ≡ q w) where
+  pub top-zero : countIf r (suc i) 0 ≡ countIf p i 0
+  unfolding countIf
+  top-zero = rw (held-sum (λ w. r w && eqb (ones w) 0) (2 ^ suc i), held-sum (λ w. p w && eqb (ones w) 0) (2 ^ i))
+      (omega (arith, sum-split i 1 0 (λ w. cond (r w && eqb (ones w) 0) 1 0) (λ w. cond (p w && eqb (ones w) 0) 1 0) (λ w. 0)
+      (λ w h. rw (low w h, one-mul))
+      (λ w h. rw (ones-high i w h, eqb·suc-zero, and-false))))
+
+  pub top-suc : (j : ℕ) → countIf r (suc i) (suc j) ≡ countIf p i (suc j) + countIf q i j
+  unfolding countIf
+  top-suc j = rw (held-sum (λ w. r w && eqb (ones w) (suc j)) (2 ^ suc i), held-sum (λ w. p w && eqb (ones w) (suc j)) (2 ^ i), held-sum (λ w. q w && eqb (ones w) j) (2 ^ i))
+      (omega (arith, sum-split i 1 1 (λ w. cond (r w && eqb (ones w) (suc j)) 1 0) (λ w. cond (p w && eqb (ones w) (suc j)) 1 0) (λ w. cond (q w && eqb (ones w) j) 1 0)
+      (λ w h. rw (low w h, one-mul))
+      (λ w h. rw (high w h, ones-high i w h, eqb·suc-suc, one-mul))))
+
+module _ {M : Type 0} (K : Machine M) (i : ℕ) (m : M) where
+  run-low : (w : ℕ) → w < 2 ^ i → run K (suc i) m w ≡ run K i (K .worked (suc i) m) w
+  unfolding run
+  run-low w h = rw (down-low i w h)
+
+  run-high : (w : ℕ) → w < 2 ^ i → run K (suc i) m (1 * 2 ^ i + w) ≡ run K i (K .failed (suc i) m) w
+  unfolding run
+  run-high w h = rw (down-high i w h, run-above K i 1 _ w)
+
+  pub count-zero : countIf (run K (suc i) m) (suc i) 0 ≡ countIf (run K i (K .worked (suc i) m)) i 0
+  count-zero = top-zero _ _ (run K (suc i) m) i run-low run-high
+
+  pub count-suc : (j : ℕ)
+      → countIf (run K (suc i) m) (suc i) (suc j) ≡ countIf (run K i (K .worked (suc i) m)) i (suc j) + countIf (run K i (K .failed (suc i) m)) i j
+  count-suc j = top-suc _ _ (run K (suc i) m) i run-low run-high j

@@ -1,0 +1,135 @@
+"""Cases for the count table: kind, first, second, n, room, slots, seed, W, then the weights."""
+
+import random
+from typing import NamedTuple
+
+from foambeetle import (
+    KINDS, MOST_WEIGHT, TABLE_CELLS, Refusal, Rule, count_slots_after, count_table, working_table_after,
+)
+from samples import (
+    HUGE, all_rules, edge_rules, random_rule, random_weights, unread_weights, weights_for,
+    weights_of_total, wrong_rules,
+)
+from words import checksum, rubbish
+
+ANSWERS_WANTED = {"counts"} | {f"refused {number}" for number in (1, 2, 5, 6, 7, 8)}
+SEEDS = (0, 1, 2, 2 ** 32, 2 ** 63, 2 ** 64 - 1, 88172645463325252)
+MOST_SLOTS = 80
+
+
+class Case(NamedTuple):
+    rule: Rule
+    n: int
+    room: int
+    slots: int
+    seed: int
+    weights: list
+
+    def words(self):
+        return [*self.rule, self.n, self.room, self.slots, self.seed, len(self.weights), *self.weights]
+
+    def line(self):
+        answer = count_table(self.rule, self.n, self.weights, self.room, self.slots)
+        table, slots = rubbish(self.seed, self.room, self.slots)
+        table, slots = working_table_after(table, answer), count_slots_after(slots, answer)
+        sums = f"cells {checksum(table)} {checksum(slots)}"
+        if isinstance(answer, Refusal):
+            return f"refused {answer.number} {sums}"
+        return f"counts {' '.join(map(str, answer))} {sums}"
+
+
+def lent(rng, n):
+    """Working table and room for the counts that are long enough, and a seed."""
+    slots = rng.choice((n + 1, n + 1, n + 2, min(n + 9, MOST_SLOTS), MOST_SLOTS))
+    return rng.choice((TABLE_CELLS, TABLE_CELLS, 8000)), slots, rng.choice(SEEDS)
+
+
+def run_only_cases(rng):
+    # document 01, 'Proved examples': "Run only"
+    yield Case(Rule(1, 64, 0), 64, 7800, 65, 1, [])
+    yield Case(Rule(1, 64, 0), 65, 7800, 66, 1, [])
+    for kind in (6, 7):
+        for n in (1, 2, 3, 8, 63, 64):
+            yield Case(Rule(kind, 2, n), n, 7800, n + 1, 2, [])
+            yield Case(Rule(kind, 2, n + 1), n, 7800, n + 1, 2, [])
+    for n in (1, 2, 20, 64):
+        for total in (119, MOST_WEIGHT, MOST_WEIGHT + 1):
+            for first in (1, 60, 120):
+                yield Case(Rule(2, first, 0), n, 7800, n + 1, 3, weights_of_total(rng, n, total))
+
+
+def small_cases(rng):
+    """Every rule in range for n up to 5, under two lists of weights."""
+    for n in range(1, 6):
+        for _ in range(2):
+            weights = weights_of_total(rng, n, n + 2)
+            for rule in all_rules(n, sum(weights)):
+                read = weights if rule.kind == 2 else unread_weights(rng)
+                yield Case(rule, n, *lent(rng, n), read)
+
+
+def long_cases(rng):
+    """Rules of every kind for larger n, the ends of the range at n = 64 among them."""
+    for kind in KINDS:
+        weights = weights_of_total(rng, 64, MOST_WEIGHT) if kind == 2 else []
+        for rule in edge_rules(kind, 64, MOST_WEIGHT):
+            yield Case(rule, 64, *lent(rng, 64), weights)
+        for place in range(40):
+            n = rng.randint(6, 64) if place % 3 == 0 else rng.randint(6, 20)
+            weights = weights_for(rng, kind, n)
+            yield Case(random_rule(rng, kind, n, sum(weights)), n, *lent(rng, n), weights)
+
+
+def rule_cases(rng):
+    """Rules just out of range."""
+    # document 01, 'Refusal numbers', row 6
+    for n in (1, 2, 3, 5, 64):
+        for kind in KINDS:
+            for rule in wrong_rules(kind, n, n + 1):
+                weights = weights_of_total(rng, n, n + 1) if kind == 2 else []
+                yield Case(rule, n, *lent(rng, n), weights)
+
+
+def slot_cases(rng):
+    """Room of n, n + 1 and more cells for the counts, and working tables around 7,800."""
+    # document 01, 'Refusal numbers', rows 7 and 8
+    for n in (1, 2, 3, 7, 31, 64):
+        for slots in (0, 1, n - 1, n, n + 1, n + 2, MOST_SLOTS):
+            for room in (0, TABLE_CELLS - 1, TABLE_CELLS, 8000):
+                yield Case(Rule(rng.choice((1, 4, 5)), 1, 0), n, room, slots, rng.choice(SEEDS), [])
+
+
+def spoil(rng, case, damage):
+    """The case with one thing made wrong."""
+    rule, n, weights = case.rule, case.n, case.weights
+    if damage == 1:
+        return case._replace(rule=rule._replace(kind=rng.choice((0, 8, 9, 255) + HUGE)))
+    if damage == 2:
+        return case._replace(n=rng.choice((0, 65, 79, 128) + HUGE))
+    if damage == 5:
+        return case._replace(rule=Rule(2, 1, 0), weights=rng.choice(([], [121], weights + [1, 1], [61] * n)))
+    if damage == 6:
+        field, number = rng.choice(("first", "second")), rng.choice((0, n + 1, 65, 121) + HUGE)
+        return case._replace(rule=rule._replace(**{field: number}))
+    if damage == 7:
+        return case._replace(room=rng.choice((0, 1, TABLE_CELLS - 1)))
+    return case._replace(slots=rng.randrange(min(n, MOST_SLOTS) + 1))
+
+
+def refused_cases(rng):
+    """One, two or three things wrong at once, so that the lowest number must win."""
+    for _ in range(360):
+        n = rng.choice((1, 2, 3, 5, 7, 12))
+        kind = rng.choice(KINDS)
+        weights = random_weights(rng, n) if kind == 2 else unread_weights(rng)
+        rule = random_rule(rng, kind, n, sum(weights)) or Rule(1, 1, 0)
+        case = Case(rule, n, *lent(rng, n), weights)
+        for damage in sorted(rng.sample((1, 2, 5, 6, 7, 8), rng.choice((1, 1, 2, 3))), reverse=True):
+            case = spoil(rng, case, damage)
+        yield case
+
+
+def make_cases():
+    rng = random.Random(202)
+    return [*run_only_cases(rng), *small_cases(rng), *long_cases(rng), *rule_cases(rng),
+            *slot_cases(rng), *refused_cases(rng)]

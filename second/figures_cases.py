@@ -1,0 +1,235 @@
+"""Cases for the figures, whole list or stretch.
+
+Words of a case: call, kind, first, second, a, b, room, seed, N, the survival numbers, W, the weights.
+"""
+
+import random
+from typing import NamedTuple
+
+from files import random_stretch
+from foambeetle import KINDS, MOST_WEIGHT, TABLE_CELLS, UNIT, Refusal, Rule, figures, stretch
+from foambeetle import working_table_after
+from samples import (
+    EDGE_SURVIVALS, HUGE, OVER_UNIT, all_rules, edge_rules, random_rule, random_survivals,
+    random_weights, rules_in_range, unread_weights, weights_for, weights_of_total, wrong_rules,
+)
+from words import checksum, rubbish
+
+ANSWERS_WANTED = {"low"} | {f"refused {number}" for number in range(1, 8)}
+SEEDS = (0, 1, 3, 2 ** 32, 2 ** 63, 2 ** 64 - 1, 2685821657736338717)
+WHOLE, STRETCH = 0, 1
+
+
+class Case(NamedTuple):
+    call: int
+    rule: Rule
+    a: int
+    b: int
+    room: int
+    seed: int
+    survivals: list
+    weights: list
+
+    def words(self):
+        return [self.call, *self.rule, self.a, self.b, self.room, self.seed,
+                len(self.survivals), *self.survivals, len(self.weights), *self.weights]
+
+    def answer(self):
+        if self.call == WHOLE:
+            return figures(self.rule, self.survivals, self.weights, self.room)
+        return stretch(self.rule, self.a, self.b, self.survivals, self.weights, self.room)
+
+    def line(self):
+        answer = self.answer()
+        table, = rubbish(self.seed, self.room)
+        cells = f"cells {checksum(working_table_after(table, answer))}"
+        if isinstance(answer, Refusal):
+            return f"refused {answer.number} {cells}"
+        return f"low {answer[0]} high {answer[1]} {cells}"
+
+
+def whole(rng, rule, survivals, weights):
+    """A whole-list call with a working table that is long enough."""
+    room = rng.choice((TABLE_CELLS, TABLE_CELLS, 8000))
+    return Case(WHOLE, rule, 0, 0, room, rng.choice(SEEDS), survivals, weights)
+
+
+def part(rng, rule, a, b, survivals, weights):
+    return whole(rng, rule, survivals, weights)._replace(call=STRETCH, a=a, b=b)
+
+
+def small_cases(rng):
+    """Every rule in range for n up to 6, under several lists of survival numbers."""
+    for n in range(1, 7):
+        for _ in range(4 if n < 5 else 2):
+            weights = weights_of_total(rng, n, n + 1)
+            for rule in all_rules(n, sum(weights)):
+                read = weights if rule.kind == 2 else unread_weights(rng)
+                yield whole(rng, rule, random_survivals(rng, n), read)
+
+
+def alike_cases(rng):
+    """All survival numbers at one edge of their range, and S + 1 beside them."""
+    for survival in EDGE_SURVIVALS + OVER_UNIT:
+        for kind in KINDS:
+            for n in (2, 3, 5, 9):
+                weights = [1] * n if kind == 2 else []
+                yield whole(rng, random_rule(rng, kind, n, n), [survival] * n, weights)
+
+
+def every_length_cases(rng):
+    for n in range(1, 65):
+        for kind in rng.sample(KINDS, 2):
+            weights = weights_for(rng, kind, n)
+            rule = random_rule(rng, kind, n, sum(weights)) or Rule(5, 1, 0)
+            yield whole(rng, rule, random_survivals(rng, n), weights)
+
+
+def long_cases(rng):
+    """Random rules for larger n, and the ends of the range for n = 63 and 64."""
+    for kind in KINDS:
+        for place in range(24):
+            n = rng.randint(7, 64) if place % 3 == 0 else rng.randint(7, 24)
+            weights = weights_for(rng, kind, n)
+            yield whole(rng, random_rule(rng, kind, n, sum(weights)), random_survivals(rng, n), weights)
+        for n in (63, 64):
+            weights = weights_of_total(rng, n, MOST_WEIGHT) if kind == 2 else []
+            for rule in edge_rules(kind, n, MOST_WEIGHT):
+                yield whole(rng, rule, random_survivals(rng, n), weights)
+
+
+def sound_fan_cases(rng):
+    """Lists of 64 sound fans, where low and high stand well inside the range."""
+    for kind in KINDS:
+        weights = weights_of_total(rng, 64, MOST_WEIGHT) if kind == 2 else []
+        rules = rules_in_range(kind, 64, MOST_WEIGHT)
+        for rule in (rules[0], rules[1], rules[3], rng.choice(rules)):
+            yield whole(rng, rule, [UNIT - rng.randrange(UNIT // 64) for _ in range(64)], weights)
+
+
+def weight_cases(rng):
+    """Totals of 120 and 121, zero weights, and lists of the wrong length."""
+    # document 01, 'Refusal numbers', row 5
+    for n in (1, 2, 3, 6, 20):
+        for total in (119, MOST_WEIGHT, MOST_WEIGHT + 1):
+            weights = weights_of_total(rng, n, total)
+            for first in (1, 61, 119, 120, 121):
+                yield whole(rng, Rule(2, first, 0), random_survivals(rng, n), weights)
+        for weights in ([], [1] * (n - 1), [1] * (n + 1), [0] * n, [65535] * n, [0] * (n - 1) + [2]):
+            yield whole(rng, Rule(2, 1, 0), random_survivals(rng, n), weights)
+            yield part(rng, Rule(2, 1, 0), 1, rng.randint(1, n), random_survivals(rng, n), weights)
+
+
+def stretch_cases(rng):
+    """Stretches inside, whole and of a single fan; what stands outside must not be read."""
+    # document 01, 'Stretches': "Components and weights outside it are not read"
+    for place in range(420):
+        n = rng.randint(1, 14) if place % 10 else rng.choice((40, 63, 64))
+        a, b = random_stretch(rng, n)
+        kind = rng.choice(KINDS)
+        survivals = random_survivals(rng, n)
+        weights = random_weights(rng, n) if kind == 2 else unread_weights(rng)
+        rule = random_rule(rng, kind, b - a + 1, sum(weights[a - 1:b])) or Rule(4, 1, 0)
+        for outside in [*range(a - 1), *range(b, n)]:
+            survivals[outside] = rng.choice(OVER_UNIT + (7,))
+            if kind == 2:
+                weights[outside] = rng.choice((0, 121, 65535))
+        yield part(rng, rule, a, b, survivals, weights)
+
+
+def rule_cases(rng):
+    """Rules just out of range, for a whole list and for a stretch of a longer one."""
+    # document 01, 'Refusal numbers', row 6: "a stretch uses its own length"
+    for n in (1, 2, 3, 5):
+        for kind in KINDS:
+            weights = weights_of_total(rng, n, n + 1)
+            for rule in wrong_rules(kind, n, n + 1):
+                yield whole(rng, rule, random_survivals(rng, n), weights)
+                yield part(rng, rule, 2, n + 1, random_survivals(rng, n + 3), [1] + weights + [1, 1])
+
+
+def room_cases(rng):
+    """Working tables of no cells, one too few, just enough and more."""
+    # document 01, 'Refusal numbers', row 7
+    for kind in KINDS:
+        weights = weights_of_total(rng, 4, 6) if kind == 2 else []
+        for room in (0, TABLE_CELLS - 1, TABLE_CELLS, 8000):
+            case = whole(rng, random_rule(rng, kind, 4, 6), random_survivals(rng, 4), weights)
+            yield case._replace(room=room)
+            yield case._replace(room=room, call=STRETCH, a=1, b=4)
+
+
+def wrong_stretch_cases(rng):
+    # document 01, 'Refusal numbers', row 3
+    for n in (1, 2, 5, 9):
+        ends = [(0, n), (0, 0), (1, 0), (n, n - 1), (1, n + 1), (n + 1, n + 1), (n + 1, n), (1, n), (n, n)]
+        ends += [(1, number) for number in HUGE] + [(number, number) for number in HUGE]
+        ends += [(2 ** 64 - 1, 1), (2 ** 64 - 1, 0), (0, 2 ** 64 - 1)]
+        for a, b in ends:
+            yield part(rng, Rule(rng.choice((1, 4, 5)), 1, 0), a, b, random_survivals(rng, n), [])
+
+
+def survival_cases(rng):
+    """One survival number above S, inside or outside what is read."""
+    # document 01, 'Refusal numbers', row 4
+    for n in (1, 2, 4, 8):
+        for place in range(n):
+            for survival in OVER_UNIT + (UNIT,):
+                survivals = random_survivals(rng, n)
+                survivals[place] = survival
+                a, b = random_stretch(rng, n)
+                yield whole(rng, Rule(1, 1, 0), survivals, [])
+                yield part(rng, Rule(5, 1, 0), a, b, survivals, [])
+
+
+def length_cases(rng):
+    # document 01, 'Refusal numbers', row 2
+    for n in (0, 65, 70):
+        for kind in (0, 1, 2, 5, 7):
+            survivals = random_survivals(rng, n)
+            yield whole(rng, Rule(kind, 1, 0), survivals, [1] * min(n, 3))
+            yield part(rng, Rule(kind, 1, 0), rng.choice((0, 1)), n, survivals, [1] * min(n, 3))
+
+
+def spoil(rng, case, damage):
+    """The case with one thing made wrong."""
+    rule, n = case.rule, len(case.survivals)
+    if damage == 1:
+        return case._replace(rule=rule._replace(kind=rng.choice((0, 8, 9, 255) + HUGE)))
+    if damage == 2:
+        return case._replace(survivals=[])
+    if damage == 3:
+        return case._replace(a=rng.choice((0, case.b + 1)) if case.call == STRETCH else 0)
+    if damage == 4:
+        over = list(case.survivals)
+        over[rng.randrange(n)] = rng.choice(OVER_UNIT)
+        return case._replace(survivals=over)
+    if damage == 5:
+        return case._replace(rule=Rule(2, 1, 0), weights=rng.choice(([], [121], [121] * n, [1] * (n + 1))))
+    if damage == 6:
+        field, number = rng.choice(("first", "second")), rng.choice((0, n + 1, 65, 121) + HUGE)
+        return case._replace(rule=rule._replace(**{field: number}))
+    return case._replace(room=rng.choice((0, TABLE_CELLS - 1)))
+
+
+def refused_cases(rng):
+    """One, two or three things wrong at once, so that the lowest number must win."""
+    for _ in range(520):
+        n = rng.choice((1, 2, 3, 5, 7, 10))
+        a, b = random_stretch(rng, n) if rng.random() < 0.6 else (0, 0)
+        length = b - a + 1 if a else n
+        kind = rng.choice(KINDS)
+        weights = random_weights(rng, n) if kind == 2 else unread_weights(rng)
+        rule = random_rule(rng, kind, length, sum(weights[a - 1:b] if a else weights)) or Rule(1, 1, 0)
+        case = whole(rng, rule, random_survivals(rng, n), weights)._replace(call=int(a > 0), a=a, b=b)
+        for damage in sorted(rng.sample(range(1, 8), rng.choice((1, 1, 2, 3))), reverse=True):
+            case = spoil(rng, case, damage)
+        yield case
+
+
+def make_cases():
+    rng = random.Random(303)
+    makers = (small_cases, alike_cases, every_length_cases, long_cases, sound_fan_cases, weight_cases,
+              stretch_cases, rule_cases, room_cases, wrong_stretch_cases, survival_cases, length_cases,
+              refused_cases)
+    return [case for maker in makers for case in maker(rng)]

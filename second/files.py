@@ -1,0 +1,127 @@
+"""Deck files to try the readers on: sound ones and damaged ones, at random."""
+
+import random
+
+from foambeetle import KINDS, Deck, Rule, System, deck_bytes
+from samples import OVER_UNIT, random_rule, random_survivals, random_weights
+
+# Place and size of each header field, document 01, 'Deck file and printing'
+HEADER_FIELDS = ((0, 2), (2, 2), (4, 2), (6, 2), (8, 4), (12, 4), (16, 4))
+
+
+def random_stretch(rng, n):
+    """A stretch inside the list: the whole, a single fan, or any other."""
+    manner = rng.randrange(4)
+    if manner == 0:
+        return 1, n
+    a = rng.randint(1, n)
+    return (a, a) if manner == 1 else (a, rng.randint(a, n))
+
+
+def sound_system(rng, n, weights):
+    """A system that is rated unless its stretch leaves its kind no rule at all."""
+    a, b = random_stretch(rng, n)
+    kind = rng.choice(KINDS)
+    rule = random_rule(rng, kind, b - a + 1, sum(weights[a - 1:b]))
+    return System(rule or Rule(1, 1, 0), a, b)
+
+
+def spoilt_system(rng, n, system):
+    """The system with one thing wrong: its kind, its stretch or its rule."""
+    rule, a, b = system
+    length = b - a + 1
+    manner = rng.randrange(3)
+    if manner == 0:
+        return System(rule._replace(kind=rng.choice((0, 8, 9, 65535))), a, b)
+    if manner == 1:
+        return System(rule, *rng.choice(((0, b), (b, b - 1), (a, n + 1), (65535, 65535), (0, 0))))
+    wrong = rng.choice((
+        rule._replace(first=rng.choice((0, length + 1, 121, 65535))),
+        rule._replace(second=rng.choice((1, length + 1, 65535))),
+    ))
+    return System(wrong, a, b)
+
+
+def random_deck(rng):
+    """A deck whose file is sound; some of its systems are to be refused."""
+    n = rng.choice((1, 2, 3, 64, rng.randint(1, 12), rng.randint(1, 12), rng.randint(1, 64)))
+    survivals, weights = random_survivals(rng, n), random_weights(rng, n)
+    if rng.random() < 0.15:
+        survivals[rng.randrange(n)] = rng.choice(OVER_UNIT)
+    if rng.random() < 0.4:
+        weights[rng.randrange(n)] += rng.choice((1, 60, 121, 65000))
+    systems = [sound_system(rng, n, weights) for _ in range(rng.choice((1, 2, 3, 4, 8, 32)))]
+    systems = [system if rng.random() < 0.7 else spoilt_system(rng, n, system) for system in systems]
+    return Deck(survivals, weights, systems)
+
+
+def with_field(data, at, size, number):
+    return data[:at] + (number % 256 ** size).to_bytes(size, "little") + data[at + size:]
+
+
+def field_off_by_one(rng, data):
+    at, size = rng.choice(HEADER_FIELDS)
+    number = int.from_bytes(data[at:at + size], "little")
+    return with_field(data, at, size, number + rng.choice((-1, 1)))
+
+
+def field_at_random(rng, data):
+    at, size = rng.choice(HEADER_FIELDS)
+    number = int.from_bytes(data[at:at + size], "little")
+    return with_field(data, at, size, number + rng.randint(1, 256 ** size - 1))
+
+
+def one_bit_of_header(rng, data):
+    at, bit = rng.randrange(20), rng.randrange(8)
+    return data[:at] + bytes([data[at] ^ 1 << bit]) + data[at + 1:]
+
+
+def cut_short(rng, data):
+    return data[:rng.choice((0, 1, 19, 20, len(data) - 1, rng.randrange(len(data))))]
+
+
+def run_on(rng, data):
+    return data + bytes(rng.randrange(256) for _ in range(rng.choice((1, 2, 9, 10, 20))))
+
+
+def wrong_version(rng, data):
+    return with_field(data, 0, 2, rng.choice((0, 2, 3, 256, 65535)))
+
+
+def zero_field_set(rng, data):
+    return with_field(data, 2, 2, rng.choice((1, 256, 65535)))
+
+
+def wrong_count(rng, data):
+    """A header whose n or m is out of range, the rest as it was."""
+    at, number = rng.choice(((4, 0), (4, 65), (4, 65535), (6, 0), (6, 33), (6, 65535)))
+    return with_field(data, at, 2, number)
+
+
+def laid_out_wrong_count(rng, data):
+    """A file that is laid out as its counts say, with a count out of range."""
+    n, m = rng.choice(((0, 1), (65, 1), (70, 2), (1, 0), (3, 33), (0, 0), (65, 33), (64, 33)))
+    survivals, weights = random_survivals(rng, n), [1] * n
+    return deck_bytes(Deck(survivals, weights, [System(Rule(1, 1, 0), 1, 1)] * m))
+
+
+def two_damages(rng, data):
+    """Two damages at once, so that the order of the checks shows."""
+    damages = (field_off_by_one, field_at_random, wrong_version, zero_field_set, wrong_count, run_on)
+    for damage in rng.sample(damages, 2):
+        data = damage(rng, data)
+    return data
+
+
+DAMAGES = (field_off_by_one, field_at_random, one_bit_of_header, cut_short, run_on, wrong_version,
+           zero_field_set, wrong_count, laid_out_wrong_count, two_damages)
+
+
+def random_files(seed, count):
+    """Bytes of deck files, a sound one and a damaged one by turns, the sound one first."""
+    rng = random.Random(seed)
+    for place in range(count):
+        data = deck_bytes(random_deck(rng))
+        if place % 2:
+            data = DAMAGES[place // 2 % len(DAMAGES)](rng, data)
+        yield data

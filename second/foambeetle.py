@@ -1,0 +1,571 @@
+"""The rules of document 01 written down in plain Python.
+
+Slow and plain on purpose: every function restates one sentence or row of the
+document, so that the two can be read side by side. Nothing is shared with the
+proved programs that this one checks.
+"""
+
+from collections import Counter
+from functools import lru_cache
+from math import prod
+from typing import Any, Callable, NamedTuple
+
+UNIT = 2 ** 30  # document 01, 'What is rated': S
+MOST_FANS = 64  # document 01, 'Refusal numbers', row 2
+MOST_WEIGHT = 120  # document 01, 'The seven verdicts': "their total at most 120"
+TABLE_CELLS = 7800  # document 01, 'Refusal numbers', row 7
+MOST_SYSTEMS = 32  # document 01, 'Refusal numbers', row 12
+HEADER_BYTES = 20  # document 01, 'Deck file and printing'
+KINDS = range(1, 8)  # document 01, 'Refusal numbers', row 1
+WORKS, FAILS = "works", "fails"
+DEAD = "dead"
+
+
+class Rule(NamedTuple):
+    kind: int
+    first: int
+    second: int
+
+
+class Refusal(NamedTuple):
+    number: int
+
+
+class System(NamedTuple):
+    rule: Rule
+    a: int
+    b: int
+
+
+class Deck(NamedTuple):
+    survivals: list
+    weights: list
+    systems: list
+
+
+# ---- verdicts ----------------------------------------------------------------
+
+
+def mask(window):
+    # document 01, 'The seven verdicts': "bit i - 1 is one where component i has failed"
+    return sum(1 << (component - 1) for component in window)
+
+
+@lru_cache(maxsize=None)
+def line_windows(n, length):
+    # document 01, 'The seven verdicts', rows 4 and 6: "in a row, on the line"
+    return [mask(range(start, start + length)) for start in range(1, n - length + 2)]
+
+
+@lru_cache(maxsize=None)
+def ring_windows(n, length):
+    # document 01, 'The seven verdicts', row 5: "the same on the ring, n followed by 1"
+    return [mask((start + step) % n + 1 for step in range(length)) for start in range(n)]
+
+
+def failed_weight(state, weights):
+    # document 01, 'The seven verdicts', row 2: "the failed components' weights add up"
+    return sum(weight for place, weight in enumerate(weights) if state >> place & 1)
+
+
+def window_rule(rule, n):
+    # document 01, 'The seven verdicts', rows 4 to 7: which windows, and how many failed in one
+    if rule.kind == 4:
+        return line_windows(n, rule.first), rule.first
+    if rule.kind == 5:
+        return ring_windows(n, rule.first), rule.first
+    if rule.kind == 6:
+        return line_windows(n, rule.second), 2
+    return ring_windows(n, rule.second), 2
+
+
+def fails(rule, n, state, weights):
+    # document 01, 'The seven verdicts': "the system fails exactly if"
+    if rule.kind == 1:
+        return state.bit_count() >= rule.first
+    if rule.kind == 2:
+        return failed_weight(state, weights) >= rule.first
+    if rule.kind == 3:
+        return rule.first <= state.bit_count() <= rule.second
+    windows, least = window_rule(rule, n)
+    return any((state & window).bit_count() >= least for window in windows)
+
+
+# ---- the memory of a reading -------------------------------------------------
+
+
+class Row(NamedTuple):
+    """One row of the table under 'The memory of a reading'."""
+
+    start: Any
+    working: Callable
+    failed: Callable
+    end: Callable
+
+
+def unless_over(memory, limit):
+    # document 01, 'The memory of a reading', rows 1, 2 and 4: "k is dead", "k or more is dead"
+    return DEAD if memory >= limit else memory
+
+
+def lead_after_failed(rule, memory, weight):
+    # document 01, 'The memory of a reading', row 5; lead t is held as (t, None)
+    lead, run = memory
+    if run is None:
+        return DEAD if lead + 1 == rule.first else (lead + 1, None)
+    return DEAD if run + 1 == rule.first else (lead, run + 1)
+
+
+def lead_end(rule, memory):
+    # document 01, 'The memory of a reading', row 5; as k <= n a lead never gets here alive
+    lead, run = memory
+    return lead + (run or 0) < rule.first
+
+
+def clean_after_working(rule, memory):
+    # document 01, 'The memory of a reading', row 7; clean x is held as (x, None)
+    clean, gap = memory
+    if gap is None:
+        return min(clean + 1, rule.second - 1), None
+    return clean, max(gap - 1, 0)
+
+
+def clean_after_failed(rule, memory, weight):
+    # document 01, 'The memory of a reading', row 7: only a clean memory or a gap of 0 lives
+    clean, gap = memory
+    return DEAD if gap else (clean, rule.second - 1)
+
+
+def clean_end(rule, memory):
+    # document 01, 'The memory of a reading', row 7: "(x, g) works exactly if x >= g"
+    clean, gap = memory
+    return gap is None or clean >= gap
+
+
+def same(rule, memory):
+    # document 01, 'The memory of a reading', rows 1 to 3: "unchanged"
+    return memory
+
+
+def always(rule, memory):
+    # document 01, 'The memory of a reading', rows 1, 2, 4 and 6: the end "works"
+    return True
+
+
+# document 01, 'The memory of a reading': the table, row by row
+ROWS = {
+    1: Row(0, same, lambda rule, m, weight: unless_over(m + 1, rule.first), always),
+    2: Row(0, same, lambda rule, m, weight: unless_over(m + weight, rule.first), always),
+    3: Row(0, same, lambda rule, m, weight: m + 1,
+           lambda rule, m: not rule.first <= m <= rule.second),
+    4: Row(0, lambda rule, m: 0, lambda rule, m, weight: unless_over(m + 1, rule.first), always),
+    5: Row((0, None), lambda rule, m: (m[0], 0), lead_after_failed, lead_end),
+    6: Row(0, lambda rule, m: max(m - 1, 0),
+           lambda rule, m, weight: DEAD if m else rule.second - 1, always),
+    7: Row((0, None), clean_after_working, clean_after_failed, clean_end),
+}
+
+
+def read(rule, n, weights, end_value, step):
+    """Value at the start with all n left; step joins the values after working and failed."""
+    # document 01, 'The memory of a reading': "reading the components from n down to 1"
+    row = ROWS[rule.kind]
+
+    @lru_cache(maxsize=None)
+    def value(left, memory):
+        if memory == DEAD:
+            return end_value(False)
+        if left == 0:
+            return end_value(row.end(rule, memory))
+        weight = weights[left - 1] if rule.kind == 2 else 0
+        after_working = value(left - 1, row.working(rule, memory))
+        after_failed = value(left - 1, row.failed(rule, memory, weight))
+        return step(left, after_working, after_failed)
+
+    return value(n, row.start)
+
+
+# ---- low, high and the exact sum ---------------------------------------------
+
+
+def rounded_step(survival, after_working, after_failed, unit):
+    # document 01, 'The memory of a reading': "rounded down each time for low, rounded up each time for high"
+    failure = unit - survival
+    low = survival * after_working[0] + failure * after_failed[0]
+    high = survival * after_working[1] + failure * after_failed[1]
+    return low // unit, -(-high // unit)
+
+
+def low_and_high(rule, survivals, weights, unit=UNIT):
+    # document 01, 'The memory of a reading': "The answer is the value at the start with all n left"
+    def end_value(works):
+        return (unit, unit) if works else (0, 0)
+
+    def step(i, after_working, after_failed):
+        return rounded_step(survivals[i - 1], after_working, after_failed, unit)
+
+    return read(rule, len(survivals), weights, end_value, step)
+
+
+def low_and_high_by_words(rule, survivals, weights, unit=UNIT):
+    """The same two figures with no memory: every word is an end of its own."""
+    # document 01, 'The memory of a reading': a memory only merges states of equal value
+    n = len(survivals)
+    values = [(0, 0) if fails(rule, n, state, weights) else (unit, unit) for state in range(2 ** n)]
+    for survival in survivals:
+        values = [rounded_step(survival, values[at], values[at + 1], unit)
+                  for at in range(0, len(values), 2)]
+    return values[0]
+
+
+def exact_sum(rule, survivals, weights, unit=UNIT):
+    # document 01, 'The memory of a reading': "The exact sum E", read down without rounding
+    def step(i, after_working, after_failed):
+        return survivals[i - 1] * after_working + (unit - survivals[i - 1]) * after_failed
+
+    return read(rule, len(survivals), weights, int, step)
+
+
+def exact_sum_by_words(rule, survivals, weights, unit=UNIT):
+    # document 01, 'The memory of a reading': "The exact sum E adds, over every working state"
+    n = len(survivals)
+    return sum(
+        prod(unit - p if state >> place & 1 else p for place, p in enumerate(survivals))
+        for state in range(2 ** n)
+        if not fails(rule, n, state, weights)
+    )
+
+
+# ---- counts ------------------------------------------------------------------
+
+
+@lru_cache(maxsize=None)
+def pascal_row(n):
+    # document 01, 'The seven verdicts': "ends are 1, each other entry is the sum of the two above"
+    if n == 0:
+        return [1]
+    above = pascal_row(n - 1)
+    return [1] + [left + right for left, right in zip(above, above[1:])] + [1]
+
+
+def states_with(n, failed):
+    # document 01, 'The seven verdicts': "How many states have j failed at all"
+    return pascal_row(n)[failed] if 0 <= failed <= n else 0
+
+
+def counts_by_words(rule, n, weights):
+    # document 01, 'The seven verdicts': "the number of working states with exactly j failed"
+    counts = [0] * (n + 1)
+    for state in range(2 ** n):
+        if not fails(rule, n, state, weights):
+            counts[state.bit_count()] += 1
+    return counts
+
+
+@lru_cache(maxsize=None)
+def fillings(gaps, total, most):
+    # document 01, 'The seven verdicts', row 4: failed ones fall in the gaps between working ones
+    if gaps == 0:
+        return int(total == 0)
+    return sum(fillings(gaps - 1, total - here, most) for here in range(min(most, total) + 1))
+
+
+def light_choices(n, weights, limit):
+    # document 01, 'The seven verdicts', row 2: choices of failed ones that weigh under k, by number
+    choices = Counter({(0, 0): 1})
+    for weight in weights:
+        grown = Counter(choices)
+        for (failed, total), ways in choices.items():
+            if total + weight < limit:
+                grown[failed + 1, total + weight] += ways
+        choices = grown
+    counts = [0] * (n + 1)
+    for (failed, _), ways in choices.items():
+        counts[failed] += ways
+    return counts
+
+
+def ring_runs_count(n, failed, k):
+    # document 01, 'The seven verdicts', row 5: each state is turned to start at each working one in turn
+    working = n - failed
+    return n * fillings(working, failed, k - 1) // working if working else 0
+
+
+def line_apart_count(n, failed, r):
+    # document 01, 'The seven verdicts', row 6: failed ones stand r apart, so r - 1 working follow all but the last
+    if failed == 0:
+        return 1
+    return states_with(max(n - (failed - 1) * (r - 1), 0), failed)
+
+
+def ring_apart_count(n, failed, r):
+    # document 01, 'The seven verdicts', row 7: with one failed place fixed the rest fill the gaps round the ring
+    if failed < 2:
+        return n if failed else 1
+    spare = n - failed * r
+    return n * states_with(spare + failed - 1, failed - 1) // failed if spare >= 0 else 0
+
+
+def counts_by_choice(rule, n, weights):
+    """The count table by counting choices of failed ones, for any n."""
+    # document 01, 'The seven verdicts': one counting argument from each row of the table
+    kind, first, second = rule
+    if kind == 2:
+        return light_choices(n, weights, first)
+    entry = {
+        1: lambda j: states_with(n, j) if j < first else 0,
+        3: lambda j: 0 if first <= j <= second else states_with(n, j),
+        4: lambda j: fillings(n - j + 1, j, first - 1),
+        5: lambda j: ring_runs_count(n, j, first),
+        6: lambda j: line_apart_count(n, j, second),
+        7: lambda j: ring_apart_count(n, j, second),
+    }[kind]
+    return [entry(j) for j in range(n + 1)]
+
+
+def counts_by_reading(rule, n, weights):
+    """The count table through the memory: a failed one multiplies by a wide base."""
+    # document 01, 'The memory of a reading': the exact sum with P = 1 and Q = 2^66 carries all counts
+    packed = read(rule, n, weights, int, lambda i, working, failed: working + (failed << 66))
+    return [packed >> 66 * j & 2 ** 66 - 1 for j in range(n + 1)]
+
+
+# ---- refusals ----------------------------------------------------------------
+
+
+def bad_kind(rule):
+    # document 01, 'Refusal numbers', row 1
+    return rule.kind not in KINDS
+
+
+def bad_length(n):
+    # document 01, 'Refusal numbers', row 2
+    return not 1 <= n <= MOST_FANS
+
+
+def bad_stretch(a, b, n):
+    # document 01, 'Refusal numbers', row 3
+    return a == 0 or b < a or b > n
+
+
+def bad_survivals(rated, unit):
+    # document 01, 'Refusal numbers', row 4
+    return any(survival > unit for survival in rated)
+
+
+def bad_weights(rule, n, weights, rated):
+    # document 01, 'Refusal numbers', row 5
+    return rule.kind == 2 and (len(weights) != n or sum(rated) > MOST_WEIGHT)
+
+
+def bad_rule(rule, n, rated_weights):
+    # document 01, 'Refusal numbers', row 6, with the ranges of 'The seven verdicts'
+    kind, first, second = rule
+    if kind == 3:
+        return not 0 <= first <= second <= n
+    if kind in (6, 7):
+        return not (first == 2 and 2 <= second <= n)
+    most = sum(rated_weights) if kind == 2 else n
+    return not (1 <= first <= most and second == 0)
+
+
+def verdict_refusal(rule, n, state, weights):
+    # document 01, 'Refusal numbers': "The verdict checks 1, 2, 5, 6, 9"
+    if bad_kind(rule):
+        return 1
+    if bad_length(n):
+        return 2
+    if bad_weights(rule, n, weights, weights):
+        return 5
+    if bad_rule(rule, n, weights):
+        return 6
+    return 9 if state >> n else None
+
+
+def count_refusal(rule, n, weights, room, slots):
+    # document 01, 'Refusal numbers': "the count table 1, 2, 5, 6, 7, 8"
+    if bad_kind(rule):
+        return 1
+    if bad_length(n):
+        return 2
+    if bad_weights(rule, n, weights, weights):
+        return 5
+    if bad_rule(rule, n, weights):
+        return 6
+    if room < TABLE_CELLS:
+        return 7
+    return 8 if slots < n + 1 else None
+
+
+def rated_refusal(rule, a, b, survivals, weights, unit):
+    # document 01, 'Stretches': "Components and weights outside it are not read"
+    if bad_survivals(survivals[a - 1:b], unit):
+        return 4
+    if bad_weights(rule, len(survivals), weights, weights[a - 1:b]):
+        return 5
+    return 6 if bad_rule(rule, b - a + 1, weights[a - 1:b]) else None
+
+
+def figures_refusal(rule, survivals, weights, room, unit):
+    # document 01, 'Refusal numbers': "the figures 1, 2, 3 (stretch calls), 4, 5, 6, 7", 3 left out
+    n = len(survivals)
+    if bad_kind(rule):
+        return 1
+    if bad_length(n):
+        return 2
+    return rated_refusal(rule, 1, n, survivals, weights, unit) or (7 if room < TABLE_CELLS else None)
+
+
+def stretch_refusal(rule, a, b, survivals, weights, room, unit):
+    # document 01, 'Refusal numbers': "the figures 1, 2, 3 (stretch calls), 4, 5, 6, 7"
+    n = len(survivals)
+    if bad_kind(rule):
+        return 1
+    if bad_length(n):
+        return 2
+    if bad_stretch(a, b, n):
+        return 3
+    return rated_refusal(rule, a, b, survivals, weights, unit) or (7 if room < TABLE_CELLS else None)
+
+
+# ---- the public calls --------------------------------------------------------
+
+
+def verdict(rule, n, state, weights):
+    # document 01, 'Refusal numbers': "The lowest number that applies is given, and none otherwise"
+    number = verdict_refusal(rule, n, state, weights)
+    if number:
+        return Refusal(number)
+    return FAILS if fails(rule, n, state, weights) else WORKS
+
+
+def count_table(rule, n, weights, room=TABLE_CELLS, slots=MOST_FANS + 1):
+    # document 01, 'The seven verdicts': "The count table has n + 1 entries"
+    number = count_refusal(rule, n, weights, room, slots)
+    if number:
+        return Refusal(number)
+    return counts_by_words(rule, n, weights) if n <= 10 else counts_by_choice(rule, n, weights)
+
+
+def figures(rule, survivals, weights, room=TABLE_CELLS, unit=UNIT):
+    # document 01, 'What is rated': "the low and high figures for a whole list"
+    number = figures_refusal(rule, survivals, weights, room, unit)
+    return Refusal(number) if number else low_and_high(rule, survivals, weights, unit)
+
+
+def stretch(rule, a, b, survivals, weights, room=TABLE_CELLS, unit=UNIT):
+    # document 01, 'Stretches': "answers as a list of those components alone would, weights too"
+    number = stretch_refusal(rule, a, b, survivals, weights, room, unit)
+    if number:
+        return Refusal(number)
+    return low_and_high(rule, survivals[a - 1:b], weights[a - 1:b], unit)
+
+
+def working_table_after(cells, answer):
+    # document 01, 'Refusal numbers': "the first 7,800 cells of the working table are 0"
+    if isinstance(answer, Refusal):
+        return cells
+    return [0] * TABLE_CELLS + cells[TABLE_CELLS:]
+
+
+def count_slots_after(slots, answer):
+    # document 01, 'Refusal numbers': "the count table's first n + 1 cells are written and the rest untouched"
+    if isinstance(answer, Refusal):
+        return slots
+    return answer + slots[len(answer):]
+
+
+# ---- deck file, decklist and the loading computer's call ---------------------
+
+
+def number_at(data, at, size):
+    # document 01, 'Deck file and printing': "Little-endian"
+    return sum(data[at + place] << 8 * place for place in range(size))
+
+
+def layout(n, m):
+    # document 01, 'Deck file and printing': offsets 20, 20 + 4n, 20 + 6n, length 20 + 6n + 10m
+    return HEADER_BYTES, HEADER_BYTES + 4 * n, HEADER_BYTES + 6 * n, HEADER_BYTES + 6 * n + 10 * m
+
+
+def file_refusal(data):
+    # document 01, 'Refusal numbers': "A file is checked 10, 11, 2, 12, 13"
+    if len(data) < HEADER_BYTES:
+        return 10
+    if number_at(data, 0, 2) != 1 or number_at(data, 2, 2) != 0:
+        return 11
+    n, m = number_at(data, 4, 2), number_at(data, 6, 2)
+    if bad_length(n):
+        return 2
+    if not 1 <= m <= MOST_SYSTEMS:
+        return 12
+    found = (number_at(data, 8, 4), number_at(data, 12, 4), number_at(data, 16, 4), len(data))
+    return 13 if found != layout(n, m) else None
+
+
+def system_at(data, at):
+    # document 01, 'Deck file and printing': "systems of 10 bytes: kind, first, second, a, b (2 each)"
+    kind, first, second, a, b = (number_at(data, at + 2 * place, 2) for place in range(5))
+    return System(Rule(kind, first, second), a, b)
+
+
+def read_deck(data):
+    # document 01, 'Deck file and printing': "Then P (4 bytes each), weights (2 each), systems"
+    number = file_refusal(data)
+    if number:
+        return Refusal(number)
+    n, m = number_at(data, 4, 2), number_at(data, 6, 2)
+    at_survivals, at_weights, at_systems, _ = layout(n, m)
+    return Deck(
+        [number_at(data, at_survivals + 4 * place, 4) for place in range(n)],
+        [number_at(data, at_weights + 2 * place, 2) for place in range(n)],
+        [system_at(data, at_systems + 10 * place) for place in range(m)],
+    )
+
+
+def deck_bytes(deck):
+    # document 01, 'Deck file and printing': the header's fields in order, then the three lists
+    n, m = len(deck.survivals), len(deck.systems)
+    at_survivals, at_weights, at_systems, _ = layout(n, m)
+    fields = [(1, 2), (0, 2), (n, 2), (m, 2), (at_survivals, 4), (at_weights, 4), (at_systems, 4)]
+    fields += [(survival, 4) for survival in deck.survivals]
+    fields += [(weight, 2) for weight in deck.weights]
+    for system in deck.systems:
+        fields += [(number, 2) for number in (*system.rule, system.a, system.b)]
+    return b"".join(number.to_bytes(size, "little") for number, size in fields)
+
+
+def rate_system(deck, system):
+    # document 01, 'Refusal numbers': "only then the system's own 1 and 3 to 6"; 7 doesn't arise
+    return stretch(system.rule, system.a, system.b, deck.survivals, deck.weights)
+
+
+def decklist_output(data):
+    # document 01, 'Deck file and printing': "Its first line gives n and m, then one line per system"
+    deck = read_deck(data)
+    if isinstance(deck, Refusal):
+        return f"file refused {deck.number}\n"
+    lines = [f"deck {len(deck.survivals)} systems {len(deck.systems)}"]
+    for place, system in enumerate(deck.systems, 1):
+        answer = rate_system(deck, system)
+        if isinstance(answer, Refusal):
+            lines.append(f"system {place} refused {answer.number}")
+        else:
+            lines.append(f"system {place} low {answer[0]} high {answer[1]}")
+    return "".join(line + "\n" for line in lines)
+
+
+def packed(answer):
+    # document 01, 'Deck file and printing': "low times 2^32 plus high; for a refusal, (2^32 - 1) times 2^32"
+    top, bottom = (2 ** 32 - 1, answer.number) if isinstance(answer, Refusal) else answer
+    return top * 2 ** 32 + bottom
+
+
+def rate(data, system):
+    # document 01, 'Refusal numbers': "the loading computer's call then checks 14"
+    deck = read_deck(data)
+    if isinstance(deck, Refusal):
+        return packed(deck)
+    if not 1 <= system <= len(deck.systems):
+        return packed(Refusal(14))
+    return packed(rate_system(deck, deck.systems[system - 1]))

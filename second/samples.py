@@ -1,0 +1,93 @@
+"""Rules, survival numbers and weights to draw from, shared by the checks and the case files."""
+
+from foambeetle import KINDS, MOST_WEIGHT, UNIT, Rule
+
+HUGE = (2 ** 16, 2 ** 32, 2 ** 63, 2 ** 64 - 1)
+OVER_UNIT = (UNIT + 1, 2 ** 31, 2 ** 32 - 1)
+EDGE_SURVIVALS = (0, 1, UNIT // 2, UNIT - 1, UNIT)
+
+
+def rules_in_range(kind, n, total):
+    """Every rule of the kind that n components of this total weight accept."""
+    # document 01, 'The seven verdicts', column "range"
+    if kind == 3:
+        return [Rule(3, low, high) for high in range(n + 1) for low in range(high + 1)]
+    if kind in (6, 7):
+        return [Rule(kind, 2, r) for r in range(2, n + 1)]
+    most = total if kind == 2 else n
+    return [Rule(kind, k, 0) for k in range(1, most + 1)]
+
+
+def all_rules(n, total):
+    return [rule for kind in KINDS for rule in rules_in_range(kind, n, total)]
+
+
+def edge_rules(kind, n, total):
+    """Rules at the ends of the range, and where a ring's windows begin to overlap."""
+    if kind == 3:
+        pairs = ((0, n), (0, 0), (n, n), (1, n), (0, n - 1), (n // 2, n // 2))
+    elif kind in (6, 7):
+        pairs = ((2, 2), (2, 3), (2, n // 2), (2, n // 2 + 1), (2, n - 1), (2, n))
+    else:
+        most = total if kind == 2 else n
+        pairs = ((1, 0), (2, 0), (most // 2, 0), (most - 1, 0), (most, 0))
+    accepted = set(rules_in_range(kind, n, total))
+    return [rule for rule in (Rule(kind, *pair) for pair in pairs) if rule in accepted]
+
+
+def wrong_rules(kind, n, total):
+    """Rules just out of range for the kind, n and total weight."""
+    # document 01, 'Refusal numbers', row 6
+    if kind == 3:
+        pairs = ((0, n + 1), (n + 1, n + 1), (n, n - 1), (1, 0), (n + 1, 0))
+    elif kind in (6, 7):
+        pairs = ((2, n + 1), (2, 1), (2, 0), (1, n), (3, n), (0, 2))
+    else:
+        most = total if kind == 2 else n
+        pairs = ((0, 0), (most + 1, 0), (1, 1), (most, 2 ** 32), (0, 1))
+    return [Rule(kind, *pair) for pair in pairs]
+
+
+def random_rule(rng, kind, n, total):
+    """A rule in range, at an end of it one time in three; None where the range is empty."""
+    rules = edge_rules(kind, n, total) if rng.random() < 0.34 else rules_in_range(kind, n, total)
+    return rng.choice(rules) if rules else None
+
+
+def random_survivals(rng, n):
+    """n survival numbers: sound fans, poor fans, edges of the range, or all alike."""
+    manner = rng.choice(("any", "any", "sound", "poor", "edge", "mixed", "alike"))
+    if manner == "alike":
+        return [rng.choice((UNIT // 2, 1, UNIT - 1, rng.randrange(UNIT + 1)))] * n
+    draw = {
+        "any": lambda: rng.randrange(UNIT + 1),
+        "sound": lambda: UNIT - rng.randrange(UNIT // 8),
+        "poor": lambda: rng.randrange(20),
+        "edge": lambda: rng.choice(EDGE_SURVIVALS),
+        "mixed": lambda: rng.choice(EDGE_SURVIVALS + (rng.randrange(UNIT + 1),) * 5),
+    }[manner]
+    return [draw() for _ in range(n)]
+
+
+def weights_of_total(rng, n, total):
+    """n weights adding up to the total, about a quarter of them 0 where n allows."""
+    bearers = rng.sample(range(n), max(1, n - n // 4))
+    weights = [0] * n
+    for _ in range(total):
+        weights[rng.choice(bearers)] += 1
+    return weights
+
+
+def random_weights(rng, n):
+    """n weights that a kind 2 rule accepts, heavy about as often as light."""
+    return weights_of_total(rng, n, rng.choice((1, n, rng.randint(1, MOST_WEIGHT), MOST_WEIGHT)))
+
+
+def unread_weights(rng):
+    """Weights for the kinds that don't read them: any length, any size."""
+    # document 01, 'The seven verdicts': "For other kinds weights aren't read and may have any length"
+    return [rng.choice((0, 1, 121, 65535)) for _ in range(rng.choice((0, 0, 0, 1, 2, 5)))]
+
+
+def weights_for(rng, kind, n):
+    return random_weights(rng, n) if kind == 2 else unread_weights(rng)

@@ -1,0 +1,432 @@
+"""Checks of the second program against document 01, its sources and itself by other ways.
+
+Each group yields pairs: what was found, and what it must equal.
+"""
+
+import random
+import sys
+from fractions import Fraction
+from math import factorial
+
+import sources
+import words
+from files import DAMAGES, random_deck, random_files
+from foambeetle import (
+    DEAD, FAILS, KINDS, ROWS, TABLE_CELLS, UNIT, WORKS, Deck, Refusal, Rule, System, bad_rule,
+    count_slots_after, count_table, counts_by_choice, counts_by_reading, counts_by_words, deck_bytes,
+    decklist_output, exact_sum, exact_sum_by_words, fails, figures, file_refusal, low_and_high,
+    low_and_high_by_words, pascal_row, rate, read_deck, stretch, verdict, working_table_after,
+)
+from samples import all_rules, random_rule, random_survivals, random_weights, rules_in_range
+
+EXAMPLE_FILE = bytes.fromhex(
+    "01 00 00 00 03 00 03 00 14 00 00 00 20 00 00 00 26 00 00 00"
+    + " 00 00 00 20" * 3 + " 00" * 6
+    + "01 00 02 00 00 00 01 00 03 00 04 00 02 00 00 00 01 00 03 00 04 00 04 00 00 00 01 00 03 00")
+EXAMPLE_LINES = """deck 3 systems 3
+system 1 low 536870912 high 536870912
+system 2 low 671088640 high 671088640
+system 3 refused 6
+"""
+SMALL_WEIGHTS = ([], [3], [2, 1], [2, 1, 1], [0, 3, 1, 2], [1, 0, 4, 0, 2], [1, 2, 0, 1, 3, 1],
+                 [1, 1, 1, 1, 1, 1, 1], [2, 0, 1, 3, 0, 1, 1, 2], [1, 3, 0, 0, 2, 1, 1, 0, 2])
+
+
+def random_systems(seed, count, most):
+    """Systems of every kind by turns: rule, survival numbers, weights."""
+    rng = random.Random(seed)
+    for place in range(count):
+        kind = KINDS[place % len(KINDS)]
+        n = rng.randint(2, most)
+        weights = random_weights(rng, n)
+        yield random_rule(rng, kind, n, sum(weights)), random_survivals(rng, n), weights
+
+
+def small_systems(most):
+    """Every rule in range for every n up to most, with weights."""
+    for n in range(1, most + 1):
+        for rule in all_rules(n, sum(SMALL_WEIGHTS[n])):
+            yield rule, n, SMALL_WEIGHTS[n]
+
+
+def counted_examples():
+    # document 01, 'Proved examples', A to F
+    examples = (
+        (Rule(6, 2, 3), 7, [], [1, 7, 10, 1, 0, 0, 0, 0]),
+        (Rule(7, 2, 3), 7, [], [1, 7, 7, 0, 0, 0, 0, 0]),
+        (Rule(4, 2, 0), 4, [], [1, 4, 3, 0, 0]),
+        (Rule(5, 2, 0), 4, [], [1, 4, 2, 0, 0]),
+        (Rule(3, 1, 2), 4, [], [1, 0, 0, 4, 1]),
+        (Rule(2, 2, 0), 3, [2, 1, 1], [1, 2, 0, 0]),
+    )
+    for rule, n, weights, counts in examples:
+        yield count_table(rule, n, weights), counts
+        yield counts_by_choice(rule, n, weights), counts
+        yield counts_by_reading(rule, n, weights), counts
+
+
+def judged_and_rated_examples():
+    # document 01, 'Proved examples', G to K
+    yield verdict(Rule(6, 2, 3), 7, 9, []), WORKS
+    yield verdict(Rule(6, 2, 3), 7, 5, []), FAILS
+    yield verdict(Rule(6, 2, 3), 7, 33, []), WORKS
+    yield verdict(Rule(7, 2, 3), 7, 33, []), FAILS
+    yield figures(Rule(1, 1, 0), [1, 1], []), (0, 1)
+    yield figures(Rule(1, 2, 0), [1, 1], []), (1, 2)
+    yield figures(Rule(1, 1, 0), [UNIT], []), (UNIT, UNIT)
+
+
+def run_only_examples():
+    # document 01, 'Proved examples': "Run only"
+    counts = count_table(Rule(1, 64, 0), 64, [])
+    yield (counts[32], counts[64], len(counts)), (1832624140942590534, 0, 65)
+    yield count_table(Rule(1, 64, 0), 65, []), Refusal(2)
+    yield verdict(Rule(1, 64, 0), 65, 0, []), Refusal(2)
+    yield figures(Rule(1, 64, 0), [UNIT] * 65, []), Refusal(2)
+    for kind in (6, 7):
+        for n in (2, 5, 64):
+            yield verdict(Rule(kind, 2, n), n, 0, []), WORKS
+            yield count_table(Rule(kind, 2, n), n, []), [1, n] + [0] * (n - 1)
+            yield figures(Rule(kind, 2, n), [UNIT] * n, []), (UNIT, UNIT)
+            yield verdict(Rule(kind, 2, n + 1), n, 0, []), Refusal(6)
+            yield count_table(Rule(kind, 2, n + 1), n, []), Refusal(6)
+            yield figures(Rule(kind, 2, n + 1), [UNIT] * n, []), Refusal(6)
+    for weights, refused in (([100, 20], False), ([100, 21], True)):
+        for answer in (verdict(Rule(2, 120, 0), 2, 3, weights), count_table(Rule(2, 120, 0), 2, weights),
+                       figures(Rule(2, 120, 0), [0, 0], weights)):
+            yield answer == Refusal(5), refused
+
+
+def example_file():
+    # document 01, 'Deck file and printing': the hex and its four lines
+    yield decklist_output(EXAMPLE_FILE), EXAMPLE_LINES
+    yield rate(EXAMPLE_FILE, 1), 536870912 * 2 ** 32 + 536870912
+    yield rate(EXAMPLE_FILE, 2), 671088640 * 2 ** 32 + 671088640
+    for system, number in ((3, 6), (0, 14), (4, 14), (2 ** 64 - 1, 14)):
+        yield rate(EXAMPLE_FILE, system), 2 ** 64 - 2 ** 32 + number
+    half = Deck([UNIT // 2] * 3, [0] * 3, [System(Rule(k, f, 0), 1, 3) for k, f in ((1, 2), (4, 2), (4, 4))])
+    yield deck_bytes(half), EXAMPLE_FILE
+    yield read_deck(EXAMPLE_FILE), half
+
+
+def traps():
+    # document 01, 'Traps on this deck'
+    half = [UNIT // 2] * 3
+    yield Fraction(exact_sum_by_words(Rule(7, 2, 3), half, []), UNIT ** 3), Fraction(1, 2)
+    yield figures(Rule(7, 2, 3), half, []), (UNIT // 2, UNIT // 2)
+    yield sources.ring_window_as_printed(3, [Fraction(1, 2)] * 3), Fraction(11, 32)
+    yield figures(Rule(6, 2, 2), [0, UNIT, 0], []), (UNIT, UNIT)
+    repeated = Fraction(exact_sum_by_words(Rule(6, 2, 3), half + half[:2], []), UNIT ** 5)
+    yield repeated == Fraction(1, 2), False
+    for rule, survivals, weights in random_systems(1, 70, 8):
+        failing = rounded_down_failure(rule, survivals, weights)
+        yield UNIT - failing, low_and_high(rule, survivals, weights)[1]
+
+
+def rounded_down_failure(rule, survivals, weights):
+    """The chance of failing, rounded down at every step, by words."""
+    n = len(survivals)
+    values = [UNIT * fails(rule, n, state, weights) for state in range(2 ** n)]
+    for p in survivals:
+        values = [(p * values[at] + (UNIT - p) * values[at + 1]) // UNIT for at in range(0, len(values), 2)]
+    return values[0]
+
+
+def published_figures():
+    """Table 1 of document 002 prints the chance of failing for a failure chance p."""
+    # document 01, 'What is rated': a survival number is never handed over where a failure number is read
+    for low, high, n, printed in sources.TABLE_1:
+        rule = Rule(3, low, high)
+        for tenths, figure in zip(sources.TABLE_1_TENTHS, printed):
+            works = Fraction(exact_sum(rule, [10 - tenths] * n, [], 10), 10 ** n)
+            yield f"{float(1 - works):.6f}", figure
+            survival = round(Fraction(10 - tenths, 10) * UNIT)
+            for end in figures(rule, [survival] * n, []):
+                yield f"{1 - end / UNIT:.6f}", figure
+
+
+def source_equations():
+    """Equations 1 to 3 of document 002 and 1 and 8 of document 000 against the sum over words."""
+    for rule, survivals, weights in random_systems(2, 140, 8):
+        chances = [Fraction(p, UNIT) for p in survivals]
+        works = Fraction(exact_sum_by_words(rule, survivals, weights), UNIT ** len(survivals))
+        if rule.kind == 1:
+            yield 1 - sources.at_least_failed(rule.first, chances), works
+        elif rule.kind == 3:
+            yield 1 - sources.between_failed(rule.first, rule.second, chances), works
+        elif rule.kind == 4:
+            yield 1 - sources.run_failed(rule.first, chances), works
+        elif rule.kind == 6:
+            yield sources.line_window_works(rule.second, chances), works
+        elif rule.kind == 7 and len(survivals) >= 2 * rule.second - 1:
+            yield sources.ring_window_as_printed(rule.second, chances), works
+
+
+def pascal():
+    # document 01, 'The seven verdicts': "a fixed table of Pascal rows 0 to 64, 2,145 entries"
+    yield sum(len(pascal_row(n)) for n in range(65)), 2145
+    for n in range(65):
+        yield sum(pascal_row(n)), 2 ** n
+        yield pascal_row(n), [factorial(n) // factorial(j) // factorial(n - j) for j in range(n + 1)]
+    for n in range(11):
+        found = [0] * (n + 1)
+        for state in range(2 ** n):
+            found[bin(state).count("1")] += 1
+        yield pascal_row(n), found
+
+
+def told_by_text(rule, text, weights):
+    """The verdict read off the state written as text, component 1 first, '1' for failed."""
+    kind, first, second = rule
+    places = [place for place, mark in enumerate(text) if mark == "1"]
+    if kind == 1:
+        return len(places) >= first
+    if kind == 2:
+        return sum(weights[place] for place in places) >= first
+    if kind == 3:
+        return first <= len(places) <= second
+    if kind in (4, 5):
+        return "1" * first in (text if kind == 4 else text + text)
+    gaps = [right - left for left, right in zip(places, places[1:])]
+    if kind == 7 and len(places) > 1:
+        gaps.append(places[0] + len(text) - places[-1])
+    return any(gap < second for gap in gaps)
+
+
+def told_by_memory(rule, n, state, weights):
+    """The verdict by reading the components from n down to 1 through the memory table."""
+    row, memory = ROWS[rule.kind], ROWS[rule.kind].start
+    for place in reversed(range(n)):
+        if memory == DEAD:
+            return True
+        if state >> place & 1:
+            memory = row.failed(rule, memory, weights[place])
+        else:
+            memory = row.working(rule, memory)
+    return memory == DEAD or not row.end(rule, memory)
+
+
+def verdicts_three_ways():
+    for rule, n, weights in small_systems(7):
+        for state in range(2 ** n):
+            failed = fails(rule, n, state, weights)
+            yield told_by_memory(rule, n, state, weights), failed
+            yield told_by_text(rule, f"{state:0{n}b}"[::-1], weights), failed
+
+
+def long_verdicts_three_ways():
+    rng = random.Random(12)
+    for rule, survivals, weights in random_systems(13, 700, 64):
+        n = len(survivals)
+        state = rng.getrandbits(n)
+        for _ in range(rng.randrange(5)):
+            state &= rng.getrandbits(n)
+        failed = fails(rule, n, state, weights)
+        yield told_by_memory(rule, n, state, weights), failed
+        yield told_by_text(rule, f"{state:0{n}b}"[::-1], weights), failed
+
+
+def counts_three_ways():
+    for rule, n, weights in small_systems(8):
+        counts = counts_by_words(rule, n, weights)
+        yield counts_by_choice(rule, n, weights), counts
+        yield counts_by_reading(rule, n, weights), counts
+    rng = random.Random(3)
+    for kind in KINDS:
+        for n in (11, 29, 47, 64):
+            weights = random_weights(rng, n)
+            rule = random_rule(rng, kind, n, sum(weights))
+            yield counts_by_choice(rule, n, weights), counts_by_reading(rule, n, weights)
+
+
+def enclosure():
+    # document 01, 'The memory of a reading': "The third condition reads"
+    for unit in (UNIT, 10 ** 9, 10, 1):
+        for rule, survivals, weights in random_systems(4, 84, 10):
+            survivals = [p * unit // UNIT for p in survivals]
+            n = len(survivals)
+            low, high = low_and_high(rule, survivals, weights, unit)
+            total = exact_sum_by_words(rule, survivals, weights, unit)
+            yield low * unit ** (n - 1) <= total <= high * unit ** (n - 1), True
+            yield 0 <= high - low <= n - 1, True
+            yield 0 <= low and high <= unit, True
+
+
+def figures_two_ways():
+    rng = random.Random(5)
+    for rule, n, weights in small_systems(6):
+        survivals = random_survivals(rng, n)
+        yield low_and_high(rule, survivals, weights), low_and_high_by_words(rule, survivals, weights)
+    for rule, survivals, weights in random_systems(6, 70, 10):
+        yield low_and_high(rule, survivals, weights), low_and_high_by_words(rule, survivals, weights)
+        yield exact_sum(rule, survivals, weights), exact_sum_by_words(rule, survivals, weights)
+
+
+def rules_accepted():
+    # document 01, 'The seven verdicts', column "range", listed against the test of refusal 6
+    for n in (1, 2, 3, 5, 64):
+        weights = [2] + [1] * (n - 1)
+        numbers = (*range(8), 63, 64, 65, 66, 2 ** 32, 2 ** 64 - 1)
+        for kind in KINDS:
+            listed = {rule for rule in rules_in_range(kind, n, sum(weights))}
+            for first in numbers:
+                for second in numbers:
+                    rule = Rule(kind, first, second)
+                    yield bad_rule(rule, n, weights), rule not in listed
+
+
+def refusals_of_calls():
+    # document 01, 'Refusal numbers': "The lowest number that applies is given"
+    over = [UNIT, UNIT + 1, UNIT]
+    three = [1, 1, 1]
+    whole = (
+        (Rule(0, 9, 9), [UNIT + 1] * 65, [], 0, 1), (Rule(8, 1, 0), three, [], 7800, 1),
+        (Rule(1, 0, 0), [], [], 0, 2), (Rule(2, 0, 0), [UNIT + 1] * 65, [], 0, 2),
+        (Rule(2, 0, 0), over, [], 0, 4), (Rule(2, 0, 0), three, [121, 0], 0, 5),
+        (Rule(2, 1, 0), three, [60, 60, 1], 7800, 5), (Rule(2, 1, 0), three, [0, 0, 0], 7800, 6),
+        (Rule(2, 4, 1), three, three, 0, 6), (Rule(3, 2, 1), three, [], 0, 6),
+        (Rule(1, 1, 0), three, [], 7799, 7), (Rule(6, 3, 3), three, [], 7800, 6),
+    )
+    for rule, survivals, weights, room, number in whole:
+        yield figures(rule, survivals, weights, room), Refusal(number)
+    parts = (
+        (Rule(9, 0, 0), 0, 0, [], [], 0, 1), (Rule(2, 0, 0), 0, 0, [], [], 0, 2),
+        (Rule(2, 0, 0), 0, 2, over, [], 0, 3), (Rule(1, 1, 0), 3, 2, over, [], 0, 3),
+        (Rule(1, 1, 0), 1, 4, over, [], 0, 3), (Rule(1, 1, 0), 2 ** 63, 2 ** 64 - 1, three, [], 7800, 3),
+        (Rule(2, 0, 0), 2, 2, over, [], 0, 4), (Rule(2, 0, 0), 3, 3, over, [1], 0, 5),
+        (Rule(2, 1, 0), 1, 2, three, [60, 61, 1], 0, 5), (Rule(1, 2, 0), 3, 3, over, [], 0, 6),
+        (Rule(2, 2, 0), 2, 3, three, [9, 1, 0], 7800, 6), (Rule(6, 2, 3), 1, 2, three, [], 0, 6),
+        (Rule(1, 1, 0), 3, 3, over, [], 7799, 7),
+    )
+    for rule, a, b, survivals, weights, room, number in parts:
+        yield stretch(rule, a, b, survivals, weights, room), Refusal(number)
+
+
+def refusals_of_states_and_counts():
+    # document 01, 'Refusal numbers': "The verdict checks 1, 2, 5, 6, 9; the count table 1, 2, 5, 6, 7, 8"
+    states = (
+        (Rule(0, 0, 9), 0, 1, [], 1), (Rule(2 ** 63, 1, 0), 3, 8, [], 1), (Rule(2, 0, 9), 0, 1, [], 2),
+        (Rule(1, 1, 0), 2 ** 64 - 1, 0, [], 2), (Rule(2, 0, 0), 3, 8, [1, 1], 5),
+        (Rule(2, 0, 0), 2, 8, [120, 1], 5), (Rule(1, 4, 0), 3, 8, [], 6), (Rule(1, 1, 1), 3, 0, [], 6),
+        (Rule(1, 1, 0), 3, 8, [], 9), (Rule(3, 0, 3), 3, 2 ** 63, [], 9),
+    )
+    for rule, n, state, weights, number in states:
+        yield verdict(rule, n, state, weights), Refusal(number)
+    yield verdict(Rule(1, 4, 0), 64, 2 ** 63, []), WORKS
+    yield verdict(Rule(1, 1, 0), 3, 4, [121, 65535]), FAILS
+    tables = (
+        (Rule(0, 0, 0), 0, [], 0, 0, 1), (Rule(2, 0, 0), 65, [], 0, 0, 2), (Rule(2, 0, 0), 3, [], 0, 0, 5),
+        (Rule(4, 0, 0), 3, [], 0, 0, 6), (Rule(4, 1, 0), 3, [], 7799, 0, 7),
+        (Rule(4, 1, 0), 3, [], 7800, 3, 8),
+    )
+    for rule, n, weights, room, slots, number in tables:
+        yield count_table(rule, n, weights, room, slots), Refusal(number)
+    yield count_table(Rule(4, 1, 0), 3, [], 7800, 4), [1, 0, 0, 0]
+
+
+def stretches_read_inside_only():
+    # document 01, 'Stretches': what stands outside changes no answer
+    rng = random.Random(7)
+    for rule, survivals, weights in random_systems(8, 140, 8):
+        before, after = rng.randint(0, 5), rng.randint(0, 5)
+        longer = [2 ** 32 - 1] * before + survivals + [2 ** 32 - 1] * after
+        heavier = [65535] * before + weights + [65535] * after
+        a, b = before + 1, before + len(survivals)
+        yield stretch(rule, a, b, longer, heavier), low_and_high_by_words(rule, survivals, weights)
+
+
+def deck_files():
+    # document 01, 'Deck file and printing'
+    rng = random.Random(9)
+    for _ in range(100):
+        deck = random_deck(rng)
+        data = deck_bytes(deck)
+        yield read_deck(data), deck
+        yield len(data), 20 + 6 * len(deck.survivals) + 10 * len(deck.systems)
+        for length in {0, 1, 19, 20, rng.randrange(len(data)), len(data) - 1}:
+            yield file_refusal(data[:length]), 10 if length < 20 else 13
+    for place, data in enumerate(random_files(10, 20 * len(DAMAGES))):
+        if place % 2 == 0:
+            yield file_refusal(data), None
+        else:
+            yield decklist_output(data), f"file refused {rate(data, 1) % 2 ** 32}\n"
+
+
+def printed_and_packed():
+    """What decklist prints is what the loading computer's call packs."""
+    seen = set()
+    for data in list(random_files(11, 60))[::2]:
+        for place, line in enumerate(decklist_output(data).splitlines()[1:], 1):
+            head, tail = divmod(rate(data, place), 2 ** 32)
+            refused = head == 2 ** 32 - 1
+            seen.add(tail if refused else 0)
+            text = f"refused {tail}" if refused else f"low {head} high {tail}"
+            yield line, f"system {place} {text}"
+    yield seen, {0, 1, 3, 4, 5, 6}
+
+
+def header_damage():
+    # document 01, 'Refusal numbers': "A file is checked 10, 11, 2, 12, 13", the earlier wins
+    order = ((0, 2, 11), (2, 1, 11), (4, 0, 2), (4, 65, 2), (6, 0, 12), (6, 33, 12), (8, 21, 13),
+             (9, 1, 13), (12, 33, 13), (13, 1, 13), (16, 39, 13), (19, 1, 13))
+    for at, number, refused in order:
+        data = bytearray(EXAMPLE_FILE)
+        data[at] = number
+        yield file_refusal(bytes(data)), refused
+        yield rate(bytes(data), 0), 2 ** 64 - 2 ** 32 + refused
+        for later, other, weaker in order:
+            if later > at:
+                both = bytearray(data)
+                both[later] = other
+                yield file_refusal(bytes(both)), refused
+    yield file_refusal(EXAMPLE_FILE + b"\0"), 13
+    yield file_refusal(EXAMPLE_FILE[:-1]), 13
+    yield file_refusal(b"\2" * 19), 10
+
+
+def lent_tables():
+    # document 01, 'Refusal numbers': "After an accepted call the first 7,800 cells"
+    yield words.rubbish(0, 1)[0], [1442695040888963407]
+    yield words.rubbish(1, 1)[0], [7806831264735756412]
+    step = (7806831264735756412 * 6364136223846793005 + 1442695040888963407) % 2 ** 64
+    yield words.rubbish(1, 1, 1)[1], [step]
+    yield words.checksum([5, 7, 2 ** 64 - 1]), 16
+    yield words.pack([1, 2 ** 63]), bytes.fromhex("0100000000000000" + "0000000000000080")
+    cells = list(range(1, TABLE_CELLS + 3))
+    yield working_table_after(cells, (0, 1)), [0] * TABLE_CELLS + [TABLE_CELLS + 1, TABLE_CELLS + 2]
+    yield working_table_after(cells, Refusal(7)), cells
+    yield count_slots_after([7, 8, 9, 10], [1, 2, 0]), [1, 2, 0, 10]
+    yield count_slots_after([7, 8], Refusal(8)), [7, 8]
+
+
+GROUPS = (
+    counted_examples, judged_and_rated_examples, run_only_examples, example_file, traps,
+    published_figures, source_equations, pascal, verdicts_three_ways, long_verdicts_three_ways,
+    counts_three_ways, enclosure, figures_two_ways, rules_accepted, refusals_of_calls,
+    refusals_of_states_and_counts, stretches_read_inside_only, deck_files, printed_and_packed, header_damage, lent_tables,
+)
+
+
+def run_group(group):
+    """Number of checks and of failures in the group; the first failures are shown."""
+    checks = failures = 0
+    for found, wanted in group():
+        checks += 1
+        if found != wanted:
+            failures += 1
+            if failures <= 3:
+                print(f"  {group.__name__}: check {checks} gives {found}, not {wanted}")
+    print(f"{group.__name__.replace('_', ' ')}: {checks} checks")
+    # A group that checked nothing has failed.
+    return checks, failures if checks else 1
+
+
+def main():
+    results = [run_group(group) for group in GROUPS]
+    checks, failures = (sum(column) for column in zip(*results))
+    print(f"selfcheck: {checks} checks, {failures} failed")
+    return 1 if failures else 0
+
+
+if __name__ == "__main__":
+    sys.exit(main())

@@ -1,0 +1,73 @@
+"""Equations and printed figures of documents 002 and 000, to hold the verdicts against."""
+
+from fractions import Fraction
+from math import prod
+
+# document 002, table 1: l, h, n and the figures printed for 0.5 to 0.9; its first row is not printed
+TABLE_1_TENTHS = (5, 6, 7, 8, 9)
+TABLE_1 = (
+    (5, 9, 12, ("0.786865", "0.859247", "0.737695", "0.441073", "0.110867")),
+    (10, 12, 15, ("0.147186", "0.376102", "0.594794", "0.540925", "0.181811")),
+)
+
+
+def at_least_failed(k, chances):
+    """Chance of failing, k out of n."""
+    # document 002, equation 1
+    if k > len(chances):
+        return Fraction(0)
+    if k <= 0:
+        return Fraction(1)
+    p, rest = chances[-1], chances[:-1]
+    return (1 - p) * at_least_failed(k - 1, rest) + p * at_least_failed(k, rest)
+
+
+def between_failed(low, high, chances):
+    """Chance of failing, l to h out of n."""
+    # document 002, equation 2
+    if low > len(chances) or high < 0:
+        return Fraction(0)
+    if low <= 0 and high >= len(chances):
+        return Fraction(1)
+    p, rest = chances[-1], chances[:-1]
+    return (1 - p) * between_failed(low - 1, high - 1, rest) + p * between_failed(low, high, rest)
+
+
+def run_failed(k, chances, needed=None):
+    """Chance of failing, k in a row on the line."""
+    # document 002, equation 3, whose upper index starts at k
+    needed = k if needed is None else needed
+    if needed > len(chances):
+        return Fraction(0)
+    if needed <= 0:
+        return Fraction(1)
+    p, rest = chances[-1], chances[:-1]
+    return (1 - p) * run_failed(k, rest, needed - 1) + p * run_failed(k, rest)
+
+
+def line_window_works(r, chances):
+    """Chance of working, no two failed in r in a row on the line."""
+    # document 000, equation 1, with its boundary condition
+    n = len(chances)
+    if n <= 1:
+        return Fraction(1)
+    p, near = chances[-1], chances[max(n - r, 0):n - 1]
+    far = chances[:max(n - r, 0)]
+    return p * line_window_works(r, chances[:-1]) + (1 - p) * prod(near) * line_window_works(r, far)
+
+
+def ring_window_as_printed(r, chances):
+    """Document 000's chance for the ring; it holds only where n is at least 2r - 1."""
+    # document 000, equation 8, components numbered from 1 and chance 1 at 0 and below
+    n = len(chances)
+
+    def product(start, stop):
+        return prod(chances[j - 1] for j in range(start, stop + 1) if j >= 1)
+
+    total = product(n - r + 2, n) * line_window_works(r, chances[:n - r + 1])
+    for i in range(1, r):
+        middle = product(1, i) * product(n - 2 * r + i + 2, n - r + i)
+        failed = 1 - chances[n - r + i]
+        rest = chances[i:max(n - 2 * r + i + 1, i)]
+        total += middle * failed * product(n - r + i + 2, n) * line_window_works(r, rest)
+    return total
