@@ -19,7 +19,8 @@ MODULES = {"verdict": verdict_cases, "figures": figures_cases, "counts": counts_
 
 def missing_answers(wanted, lines):
     """The answers that no line begins with; a case file without them would check too little."""
-    return sorted(answer for answer in wanted if not any(f"{line} ".startswith(f"{answer} ") for line in lines))
+    return sorted(answer for answer in wanted
+                  if not any(f"{line} ".startswith(f"{answer} ") for line in lines))
 
 
 def write_cases(module, input_path, output_path):

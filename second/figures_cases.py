@@ -162,7 +162,8 @@ def room_cases(rng):
 def wrong_stretch_cases(rng):
     # document 01, 'Refusal numbers', row 3
     for n in (1, 2, 5, 9):
-        ends = [(0, n), (0, 0), (1, 0), (n, n - 1), (1, n + 1), (n + 1, n + 1), (n + 1, n), (1, n), (n, n)]
+        ends = [(1, n), (n, n), (0, n), (0, 0), (1, 0), (n, n - 1)]
+        ends += [(1, n + 1), (n + 1, n + 1), (n + 1, n)]
         ends += [(1, number) for number in HUGE] + [(number, number) for number in HUGE]
         ends += [(2 ** 64 - 1, 1), (2 ** 64 - 1, 0), (0, 2 ** 64 - 1)]
         for a, b in ends:
@@ -205,7 +206,8 @@ def spoil(rng, case, damage):
         over[rng.randrange(n)] = rng.choice(OVER_UNIT)
         return case._replace(survivals=over)
     if damage == 5:
-        return case._replace(rule=Rule(2, 1, 0), weights=rng.choice(([], [121], [121] * n, [1] * (n + 1))))
+        wrong = rng.choice(([], [121], [121] * n, [1] * (n + 1)))
+        return case._replace(rule=Rule(2, 1, 0), weights=wrong)
     if damage == 6:
         field, number = rng.choice(("first", "second")), rng.choice((0, n + 1, 65, 121) + HUGE)
         return case._replace(rule=rule._replace(**{field: number}))

@@ -189,7 +189,7 @@ def read(rule, n, weights, end_value, step):
 
 
 def rounded_step(survival, after_working, after_failed, unit):
-    # document 01, 'The memory of a reading': "rounded down each time for low, rounded up each time for high"
+    # document 01, 'The memory of a reading': "rounded down each time for low, rounded up"
     failure = unit - survival
     low = survival * after_working[0] + failure * after_failed[0]
     high = survival * after_working[1] + failure * after_failed[1]
@@ -292,14 +292,14 @@ def ring_runs_count(n, failed, k):
 
 
 def line_apart_count(n, failed, r):
-    # document 01, 'The seven verdicts', row 6: failed ones stand r apart, so r - 1 working follow all but the last
+    # document 01, 'The seven verdicts', row 6: r - 1 working ones follow each failed one but the last
     if failed == 0:
         return 1
     return states_with(max(n - (failed - 1) * (r - 1), 0), failed)
 
 
 def ring_apart_count(n, failed, r):
-    # document 01, 'The seven verdicts', row 7: with one failed place fixed the rest fill the gaps round the ring
+    # document 01, 'The seven verdicts', row 7: each state is turned to start at each failed one in turn
     if failed < 2:
         return n if failed else 1
     spare = n - failed * r
@@ -469,7 +469,7 @@ def working_table_after(cells, answer):
 
 
 def count_slots_after(slots, answer):
-    # document 01, 'Refusal numbers': "the count table's first n + 1 cells are written and the rest untouched"
+    # document 01, 'Refusal numbers': "the count table's first n + 1 cells are written"
     if isinstance(answer, Refusal):
         return slots
     return answer + slots[len(answer):]
@@ -556,7 +556,7 @@ def decklist_output(data):
 
 
 def packed(answer):
-    # document 01, 'Deck file and printing': "low times 2^32 plus high; for a refusal, (2^32 - 1) times 2^32"
+    # document 01, 'Deck file and printing': "low times 2^32 plus high; for a refusal, (2^32 - 1)"
     top, bottom = (2 ** 32 - 1, answer.number) if isinstance(answer, Refusal) else answer
     return top * 2 ** 32 + bottom
 

@@ -67,10 +67,10 @@ def counted_examples():
 
 def judged_and_rated_examples():
     # document 01, 'Proved examples', G to K
-    yield verdict(Rule(6, 2, 3), 7, 9, []), WORKS
-    yield verdict(Rule(6, 2, 3), 7, 5, []), FAILS
-    yield verdict(Rule(6, 2, 3), 7, 33, []), WORKS
-    yield verdict(Rule(7, 2, 3), 7, 33, []), FAILS
+    yield verdict(Rule(6, 2, 3), 7, 9, []), "works"
+    yield verdict(Rule(6, 2, 3), 7, 5, []), "fails"
+    yield verdict(Rule(6, 2, 3), 7, 33, []), "works"
+    yield verdict(Rule(7, 2, 3), 7, 33, []), "fails"
     yield figures(Rule(1, 1, 0), [1, 1], []), (0, 1)
     yield figures(Rule(1, 2, 0), [1, 1], []), (1, 2)
     yield figures(Rule(1, 1, 0), [UNIT], []), (UNIT, UNIT)
@@ -91,10 +91,13 @@ def run_only_examples():
             yield verdict(Rule(kind, 2, n + 1), n, 0, []), Refusal(6)
             yield count_table(Rule(kind, 2, n + 1), n, []), Refusal(6)
             yield figures(Rule(kind, 2, n + 1), [UNIT] * n, []), Refusal(6)
-    for weights, refused in (([100, 20], False), ([100, 21], True)):
-        for answer in (verdict(Rule(2, 120, 0), 2, 3, weights), count_table(Rule(2, 120, 0), 2, weights),
-                       figures(Rule(2, 120, 0), [0, 0], weights)):
-            yield answer == Refusal(5), refused
+    rule = Rule(2, 120, 0)
+    yield verdict(rule, 2, 3, [100, 20]), FAILS
+    yield count_table(rule, 2, [100, 20]), [1, 2, 0]
+    yield figures(rule, [0, 0], [100, 20]), (0, 0)
+    yield verdict(rule, 2, 3, [100, 21]), Refusal(5)
+    yield count_table(rule, 2, [100, 21]), Refusal(5)
+    yield figures(rule, [0, 0], [100, 21]), Refusal(5)
 
 
 def example_file():
@@ -104,7 +107,8 @@ def example_file():
     yield rate(EXAMPLE_FILE, 2), 671088640 * 2 ** 32 + 671088640
     for system, number in ((3, 6), (0, 14), (4, 14), (2 ** 64 - 1, 14)):
         yield rate(EXAMPLE_FILE, system), 2 ** 64 - 2 ** 32 + number
-    half = Deck([UNIT // 2] * 3, [0] * 3, [System(Rule(k, f, 0), 1, 3) for k, f in ((1, 2), (4, 2), (4, 4))])
+    systems = [System(Rule(kind, first, 0), 1, 3) for kind, first in ((1, 2), (4, 2), (4, 4))]
+    half = Deck([UNIT // 2] * 3, [0] * 3, systems)
     yield deck_bytes(half), EXAMPLE_FILE
     yield read_deck(EXAMPLE_FILE), half
 
@@ -128,7 +132,8 @@ def rounded_down_failure(rule, survivals, weights):
     n = len(survivals)
     values = [UNIT * fails(rule, n, state, weights) for state in range(2 ** n)]
     for p in survivals:
-        values = [(p * values[at] + (UNIT - p) * values[at + 1]) // UNIT for at in range(0, len(values), 2)]
+        values = [(p * values[at] + (UNIT - p) * values[at + 1]) // UNIT
+                  for at in range(0, len(values), 2)]
     return values[0]
 
 
@@ -268,7 +273,7 @@ def rules_accepted():
         weights = [2] + [1] * (n - 1)
         numbers = (*range(8), 63, 64, 65, 66, 2 ** 32, 2 ** 64 - 1)
         for kind in KINDS:
-            listed = {rule for rule in rules_in_range(kind, n, sum(weights))}
+            listed = set(rules_in_range(kind, n, sum(weights)))
             for first in numbers:
                 for second in numbers:
                     rule = Rule(kind, first, second)
@@ -283,7 +288,8 @@ def refusals_of_calls():
         (Rule(0, 9, 9), [UNIT + 1] * 65, [], 0, 1), (Rule(8, 1, 0), three, [], 7800, 1),
         (Rule(1, 0, 0), [], [], 0, 2), (Rule(2, 0, 0), [UNIT + 1] * 65, [], 0, 2),
         (Rule(2, 0, 0), over, [], 0, 4), (Rule(2, 0, 0), three, [121, 0], 0, 5),
-        (Rule(2, 1, 0), three, [60, 60, 1], 7800, 5), (Rule(2, 1, 0), three, [0, 0, 0], 7800, 6),
+        (Rule(2, 1, 0), three, three + [1], 7800, 5), (Rule(2, 1, 0), three, [60, 60, 1], 7800, 5),
+        (Rule(2, 1, 0), three, [0, 0, 0], 7800, 6),
         (Rule(2, 4, 1), three, three, 0, 6), (Rule(3, 2, 1), three, [], 0, 6),
         (Rule(1, 1, 0), three, [], 7799, 7), (Rule(6, 3, 3), three, [], 7800, 6),
     )
@@ -292,7 +298,8 @@ def refusals_of_calls():
     parts = (
         (Rule(9, 0, 0), 0, 0, [], [], 0, 1), (Rule(2, 0, 0), 0, 0, [], [], 0, 2),
         (Rule(2, 0, 0), 0, 2, over, [], 0, 3), (Rule(1, 1, 0), 3, 2, over, [], 0, 3),
-        (Rule(1, 1, 0), 1, 4, over, [], 0, 3), (Rule(1, 1, 0), 2 ** 63, 2 ** 64 - 1, three, [], 7800, 3),
+        (Rule(1, 1, 0), 1, 4, over, [], 0, 3),
+        (Rule(1, 1, 0), 2 ** 63, 2 ** 64 - 1, three, [], 7800, 3),
         (Rule(2, 0, 0), 2, 2, over, [], 0, 4), (Rule(2, 0, 0), 3, 3, over, [1], 0, 5),
         (Rule(2, 1, 0), 1, 2, three, [60, 61, 1], 0, 5), (Rule(1, 2, 0), 3, 3, over, [], 0, 6),
         (Rule(2, 2, 0), 2, 3, three, [9, 1, 0], 7800, 6), (Rule(6, 2, 3), 1, 2, three, [], 0, 6),
@@ -315,7 +322,8 @@ def refusals_of_states_and_counts():
     yield verdict(Rule(1, 4, 0), 64, 2 ** 63, []), WORKS
     yield verdict(Rule(1, 1, 0), 3, 4, [121, 65535]), FAILS
     tables = (
-        (Rule(0, 0, 0), 0, [], 0, 0, 1), (Rule(2, 0, 0), 65, [], 0, 0, 2), (Rule(2, 0, 0), 3, [], 0, 0, 5),
+        (Rule(0, 0, 0), 0, [], 0, 0, 1), (Rule(2, 0, 0), 65, [], 0, 0, 2),
+        (Rule(2, 0, 0), 3, [], 0, 0, 5), (Rule(2, 0, 0), 3, [1] * 4, 7800, 4, 5),
         (Rule(4, 0, 0), 3, [], 0, 0, 6), (Rule(4, 1, 0), 3, [], 7799, 0, 7),
         (Rule(4, 1, 0), 3, [], 7800, 3, 8),
     )
@@ -374,7 +382,7 @@ def header_damage():
         data[at] = number
         yield file_refusal(bytes(data)), refused
         yield rate(bytes(data), 0), 2 ** 64 - 2 ** 32 + refused
-        for later, other, weaker in order:
+        for later, other, _ in order:
             if later > at:
                 both = bytearray(data)
                 both[later] = other
@@ -403,7 +411,8 @@ GROUPS = (
     counted_examples, judged_and_rated_examples, run_only_examples, example_file, traps,
     published_figures, source_equations, pascal, verdicts_three_ways, long_verdicts_three_ways,
     counts_three_ways, enclosure, figures_two_ways, rules_accepted, refusals_of_calls,
-    refusals_of_states_and_counts, stretches_read_inside_only, deck_files, printed_and_packed, header_damage, lent_tables,
+    refusals_of_states_and_counts, stretches_read_inside_only, deck_files, printed_and_packed,
+    header_damage, lent_tables,
 )
 
 

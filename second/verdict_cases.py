@@ -144,7 +144,8 @@ def spoil(rng, case, damage):
     if damage == 2:
         return case._replace(n=rng.choice((0, 65, 66, 128) + HUGE))
     if damage == 5:
-        return case._replace(rule=Rule(2, 1, 0), weights=rng.choice(([], [121], weights + [1, 1], [61] * n)))
+        wrong = rng.choice(([], [121], weights + [1, 1], [61] * n))
+        return case._replace(rule=Rule(2, 1, 0), weights=wrong)
     if damage == 6:
         field, number = rng.choice(("first", "second")), rng.choice((0, n + 1, 65, 121) + HUGE)
         return case._replace(rule=rule._replace(**{field: number}))

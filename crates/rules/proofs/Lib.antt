@@ -5,7 +5,12 @@ pub mod Bits
 pub mod Split
 pub mod Rounding
 pub mod Enclosure
+pub mod Reading
 pub mod Simulation
 pub mod Windows
-pub mod Reading
 pub mod InARow
+pub mod Apart
+pub mod Adding
+pub mod Seven
+pub mod Conditions
+pub mod Accepted

@@ -12,6 +12,11 @@ pub by-test : {A : Type 0} (P : A → Type 0) (b : Bool) (x y : A) → (b ≡ tr
 by-test P true x y g h = g refl
 by-test P false x y g h = h refl
 
+pub by-both : {A B : Type 0} (P : A → B → Type 0) (b : Bool) (x y : A) (x' y' : B) → (b ≡ true → P x x') → (b ≡ false → P y y')
+    → P (cond b x y) (cond b x' y')
+by-both P true x y x' y' g h = g refl
+by-both P false x y x' y' g h = h refl
+
 module _ {A : Type 0} (R : Row A) (w : ℕ) where
   -- a memory is as good as P says if it is so by the next component's state
   pub step : (i : ℕ) (m : Memory A) (P : Type 0)

@@ -7,6 +7,7 @@ use native.Mathlib.Omega.{arith}
 use Rattle.rules.specs.State.{down}
 use Rattle.rules.specs.Memory.{Machine, run}
 use Rattle.rules.specs.Figure.{value}
+use Rattle.rules.proofs.Reading.{by-both}
 
 -- R i m m': with i components left, m and m' stand for each other
 pub record Alike {M N : Type 0} (K : Machine M) (L : Machine N) (R : ℕ → M → N → Type 0) : Type 0 where
@@ -14,15 +15,11 @@ pub record Alike {M N : Type 0} (K : Machine M) (L : Machine N) (R : ℕ → M �
   pub fails : (i : ℕ) (m : M) (m' : N) → R (suc i) m m' → R i (K .failed (suc i) m) (L .failed (suc i) m')
   pub last : (m : M) (m' : N) → R 0 m m' → K .ends m ≡ L .ends m'
 
-by-test : {M N : Type 0} (R : M → N → Type 0) (b : Bool) (x y : M) (x' y' : N) → R x x' → R y y' → R (cond b x y) (cond b x' y')
-by-test R true x y x' y' f g = f
-by-test R false x y x' y' f g = g
-
 module _ {M N : Type 0} {K : Machine M} {L : Machine N} {R : ℕ → M → N → Type 0} (A : Alike K L R) where
   pub same-run : (i : ℕ) (m : M) (m' : N) (w : ℕ) → R i m m' → run K i m w ≡ run L i m' w
   unfolding run
   same-run zero m m' w r = A .last m m' r
-  same-run (suc i) m m' w r = same-run i _ _ w (by-test (R i) (down i w) _ _ _ _ (A .fails i m m' r) (A .works i m m' r))
+  same-run (suc i) m m' w r = same-run i _ _ w (by-both (R i) (down i w) _ _ _ _ (λ e. A .fails i m m' r) (λ e. A .works i m m' r))
 
   pub same-value : (up : Bool) (u : ℕ) (P : ℕ → ℕ) (i : ℕ) (m : M) (m' : N) → R i m m' → value K up u P i m ≡ value L up u P i m'
   unfolding value

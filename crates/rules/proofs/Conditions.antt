@@ -1,0 +1,76 @@
+-- What is owed of the definitions, put together. Reading is the verdict: for every rule in range and every word below 2^n a reading through the
+-- kind's memory ends working exactly if the verdict says that the system works. Hence the third condition, for a list and for a stretch, and the
+-- counts as a reading gives them. Assumes nothing.
+use mathlib.Core.Path.{_≡_, refl, sym, _∙_}
+use mathlib.Core.Bool.{Bool, true, false, false≢true, _&&_}
+use mathlib.Core.List.{List}
+use Prim.Native.Nat.{ℕ, zero, suc, _+_, _^_, _≤_, _<_}
+use native.Mathlib.Omega.{arith}
+use lib.Dec.{leb, eqb, ltb}
+use lib.ListN.{length, getD, List·getD-eq-default}
+use native.Mathlib.Decide.{decLt}
+use borrow.Author.Tests.{leb-true, ltb-false, lt-ltb}
+use Rattle.rules.specs.declared.Rule.{Rule}
+use Rattle.rules.specs.Below.{within, some}
+use Rattle.rules.specs.State.{S, numberOf}
+use Rattle.rules.specs.Verdict.{fails, works}
+use Rattle.rules.specs.Count.{countIf, countOf}
+use Rattle.rules.specs.Memory.{run, readingOf, machine}
+use Rattle.rules.specs.Figure.{low, high, exact, Third}
+use Rattle.rules.specs.Stretch.{stretch}
+use Rattle.rules.specs.Refusal.{inRange, aboveUnit}
+use Rattle.rules.proofs.Seven.{seven, both, within-true, ruleOf, range-kind}
+use Rattle.rules.proofs.Windows.{some-none, not-lt}
+use Rattle.rules.proofs.Split.{exact-same, count-same}
+use Rattle.rules.proofs.Enclosure.{enclosed}
+use Rattle.rules.proofs.Adding.{kind1, kind2, kind3}
+use Rattle.rules.proofs.InARow.{kind4, kind5}
+use Rattle.rules.proofs.Apart.{kind6, kind7}
+
+module _ (n : ℕ) (weights : List ℕ) (w : ℕ) (small : w < 2 ^ n) (first second : ℕ) where
+  abbrev Right : ℕ → Type 0
+  Right kind =
+      inRange (ruleOf kind first second) n weights ≡ true
+      → run (machine (ruleOf kind first second) weights) n (machine (ruleOf kind first second) weights .start) w
+      ≡ works (ruleOf kind first second) n weights w
+
+  by-kind : (kind : ℕ) → 1 ≤ kind → kind ≤ 7 → Right kind
+  unfolding inRange readingOf fails
+  by-kind =
+      seven Right
+      (λ e. kind1 n first w (within-true 1 first n (both _ _ e .0) .0) small)
+      (λ e. kind2 n first weights w (within-true 1 first _ (both _ _ e .0) .0))
+      (λ e. kind3 n first second w small)
+      (λ e. let h = within-true 1 first n (both _ _ e .0) in kind4 n first w (h .0) (h .1))
+      (λ e. let h = within-true 1 first n (both _ _ e .0) in kind5 n first w (h .0) (h .1))
+      (λ e. let h = within-true 2 second n (both (eqb first 2) _ e .1) in kind6 n second w (h .0) (h .1))
+      (λ e. let h = within-true 2 second n (both (eqb first 2) _ e .1) in kind7 n second w (h .0) (h .1))
+
+pub reading-is-verdict : (rule : Rule) (n : ℕ) (weights : List ℕ) (w : ℕ) → inRange rule n weights ≡ true → w < 2 ^ n
+    → run (machine rule weights) n (machine rule weights .start) w ≡ works rule n weights w
+reading-is-verdict rule n weights w e small =
+    let k = range-kind rule n weights e in
+    by-kind n weights w small (rule .first) (rule .second) (rule .kind) (k .0) (k .1) e
+
+-- the counts, as a reading gives them
+pub count-by-reading : (rule : Rule) (n : ℕ) (weights : List ℕ) (j : ℕ) → inRange rule n weights ≡ true
+    → countOf rule n weights j ≡ countIf (run (machine rule weights) n (machine rule weights .start)) n j
+count-by-reading rule n weights j e = count-same _ _ n j (λ w l. sym (reading-is-verdict rule n weights w e l))
+
+-- no P read is above S
+pub below-unit : (survival : List ℕ) → aboveUnit survival ≡ false → (i : ℕ) → numberOf survival i ≤ S
+unfolding aboveUnit numberOf
+below-unit survival e zero = omega arith
+below-unit survival e (suc i) = go (decLt i (length survival))
+  where
+    go : Dec (i < length survival) → getD survival i 0 ≤ S
+    go (yes l) = not-lt _ _ (λ g. some-none (λ i. ltb S (getD survival i 0)) (length survival) .0 e i l (lt-ltb _ _ g))
+    go (no l) = rw (List·getD-eq-default survival 0 (not-lt _ _ l)) (omega arith)
+
+-- the third condition, of document 01's low, high and E. Of a stretch it is this, said of the stretch's own lists.
+pub third : (rule : Rule) (survival weights : List ℕ) → 1 ≤ length survival → aboveUnit survival ≡ false → inRange rule (length survival) weights ≡ true
+    → Third S (length survival) (low S rule survival weights) (high S rule survival weights) (exact S rule survival weights)
+third rule survival weights some units range =
+    let n = length survival in
+    let same = exact-same _ _ S (numberOf survival) n (λ w l. reading-is-verdict rule n weights w range l) in
+    rw (← same) (enclosed (machine rule weights) S (numberOf survival) (omega arith) n some (λ i l. below-unit survival units i) _)
