@@ -5,6 +5,7 @@ pub mod Bits
 pub mod Split
 pub mod Rounding
 pub mod Enclosure
+pub mod Monotone
 pub mod Reading
 pub mod Simulation
 pub mod Windows
