@@ -6,12 +6,12 @@ Words of a case: call, kind, first, second, a, b, room, seed, N, the survival nu
 import random
 from typing import NamedTuple
 
-from files import random_stretch
 from foambeetle import KINDS, MOST_WEIGHT, TABLE_CELLS, UNIT, Refusal, Rule, figures, stretch
 from foambeetle import working_table_after
 from samples import (
-    EDGE_SURVIVALS, HUGE, OVER_UNIT, all_rules, edge_rules, random_rule, random_survivals,
-    random_weights, rules_in_range, unread_weights, weights_for, weights_of_total, wrong_rules,
+    EDGE_SURVIVALS, HUGE, OVER_UNIT, all_rules, edge_rules, random_rule, random_stretch,
+    random_survivals, random_weights, rules_in_range, unread_weights, weights_for, weights_of_total,
+    wrong_rules,
 )
 from words import checksum, rubbish
 

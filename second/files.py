@@ -3,19 +3,10 @@
 import random
 
 from foambeetle import KINDS, Deck, Rule, System, deck_bytes
-from samples import OVER_UNIT, random_rule, random_survivals, random_weights
+from samples import OVER_UNIT, random_rule, random_stretch, random_survivals, random_weights
 
 # Place and size of each header field, document 01, 'Deck file and printing'
 HEADER_FIELDS = ((0, 2), (2, 2), (4, 2), (6, 2), (8, 4), (12, 4), (16, 4))
-
-
-def random_stretch(rng, n):
-    """A stretch inside the list: the whole, a single fan, or any other."""
-    manner = rng.randrange(4)
-    if manner == 0:
-        return 1, n
-    a = rng.randint(1, n)
-    return (a, a) if manner == 1 else (a, rng.randint(a, n))
 
 
 def sound_system(rng, n, weights):

@@ -54,6 +54,15 @@ def random_rule(rng, kind, n, total):
     return rng.choice(rules) if rules else None
 
 
+def random_stretch(rng, n):
+    """A stretch inside the list: the whole, a single fan, or any other."""
+    manner = rng.randrange(4)
+    if manner == 0:
+        return 1, n
+    a = rng.randint(1, n)
+    return (a, a) if manner == 1 else (a, rng.randint(a, n))
+
+
 def random_survivals(rng, n):
     """n survival numbers: sound fans, poor fans, edges of the range, or all alike."""
     manner = rng.choice(("any", "any", "sound", "poor", "edge", "mixed", "alike"))

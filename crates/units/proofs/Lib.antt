@@ -1,0 +1,2 @@
+-- What the step's proofs share.
+pub mod Laws

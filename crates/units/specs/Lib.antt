@@ -1,0 +1,2 @@
+-- What the rounded step is handed.
+pub mod Step

@@ -1,0 +1,29 @@
+// The unit S = 2^30, a component's two numbers, and the one rounded step that every figure is made of.
+ghost use mathlib.Core.Path.{_≡_};
+ghost use mathlib.Core.Bool.{true, false};
+ghost use Rattle.rules.specs.State.{S};
+ghost use Rattle.rules.specs.Figure.{rounded, mixed};
+ghost use Rattle.units.specs.Step.{Parts};
+
+pub const UNIT: u64 = 1073741824;
+
+// P and Q stay apart: a survival number is never handed over where a failure number is read.
+pub struct Survival(pub u64);
+
+pub struct Failure(pub u64);
+
+// p times the value where the component works, plus q times the value where it fails, over the unit, rounded down.
+pub fn round_down(p: Survival, q: Failure, works: u64, fails: u64) -> u64
+    requires { ⌜ Parts (p .0) (q .0) works fails ⌝ }
+    ensures { λ r. ⌜ r ≡ rounded false S (mixed S (p .0) works fails) ⌝ }
+{
+    (p.0 * works + q.0 * fails) / UNIT
+}
+
+// The same, rounded up.
+pub fn round_up(p: Survival, q: Failure, works: u64, fails: u64) -> u64
+    requires { ⌜ Parts (p .0) (q .0) works fails ⌝ }
+    ensures { λ r. ⌜ r ≡ rounded true S (mixed S (p .0) works fails) ⌝ }
+{
+    (p.0 * works + q.0 * fails + (UNIT - 1)) / UNIT
+}
