@@ -48,10 +48,14 @@ endOf rule m =
     (cond (leb (rule .kind) 5) (ltb (m .lead + m .at) (rule .first))
     (cond (eqb (m .at) 0) true (leb (limitOf rule - m .at) (m .lead))))))
 
--- a reading of one lead
-abbrev pub program : Rule → (weights : List ℕ) (lead : ℕ) → Machine Memory
-program rule weights lead = record {
-  start = to lead 0;
+-- the lead of a line: kind 4 reads as kind 5 past a lead of 0, kind 6 as kind 7 past r - 1 clean ones
+unfoldable pub leadOf : Rule → ℕ
+leadOf rule = cond (leb (rule .kind) 5) 0 (rule .second - 1)
+
+-- the program's memory as a machine
+abbrev pub program : Rule → (weights : List ℕ) → Machine Memory
+program rule weights = record {
+  start = to (leadOf rule) 0;
   worked = λ i. workedOf rule;
   failed = λ i. failedOf rule (numberOf weights i);
   ends = endOf rule;

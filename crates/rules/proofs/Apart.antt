@@ -16,7 +16,7 @@ use Rattle.rules.specs.Verdict.{someWindow}
 use Rattle.rules.specs.Memory.{run, Memory, live, dead, moved, ended, machineOf, Ring, lead, pair, failing6, working7, failing7, end7, row6, row7}
 use Rattle.rules.proofs.Windows.{opposite, last, held-fewer, no-window, not-lt, at, turned}
 use Rattle.rules.proofs.Reading.{step, gone}
-use Rattle.rules.proofs.Simulation.{Alike, same-run}
+use Rattle.rules.proofs.Simulation.{Alike, Same, alike-same}
 
 abbrev pub Apart : (f : ℕ → Bool) (r i : ℕ) → Type 0
 Apart f r i = (q : ℕ) → q < i → f q ≡ true → (p : ℕ) → p < q → f p ≡ true → p + r ≤ q
@@ -215,5 +215,9 @@ module _ (r : ℕ) (pos : 0 < r) where
       at-end (both {g = g} l) = sym (le-leb g (r - 1) (omega arith))
       at-end none = refl
 
+-- the line reads as the ring past its lead
+pub line-gap : (n r : ℕ) → 0 < r → Same (machineOf (row6 r)) (live 0) (machineOf (row7 r)) (live (pair (r - 1) 0)) n
+line-gap n r pos = alike-same (alike r pos) n _ _ (both {g = 0} pos)
+
 pub kind6 : (n r w : ℕ) → 2 ≤ r → r ≤ n → run (machineOf (row6 r)) n (live 0) w ≡ not (someWindow false n r 2 w)
-kind6 n r w low fits = same-run (alike r (omega arith)) n _ _ w (both {g = 0} (omega arith)) ∙ past-line n r w low fits
+kind6 n r w low fits = line-gap n r (omega arith) .runs w ∙ past-line n r w low fits

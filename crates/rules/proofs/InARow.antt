@@ -15,7 +15,7 @@ use Rattle.rules.specs.Verdict.{someWindow}
 use Rattle.rules.specs.Memory.{run, Memory, live, dead, moved, ended, machineOf, below, Ring, lead, pair, working5, failing5, end5, row4, row5}
 use Rattle.rules.proofs.Windows.{opposite, last, first, held-all, all-held, no-window, not-lt, at, turned}
 use Rattle.rules.proofs.Reading.{step, upto, by-test}
-use Rattle.rules.proofs.Simulation.{Alike, same-run}
+use Rattle.rules.proofs.Simulation.{Alike, Same, alike-same}
 
 -- t failed ones, then the places below i, then s failed ones: no k of them in a row have failed
 abbrev Past : (f : ℕ → Bool) (k i t s : ℕ) → Type 0
@@ -132,5 +132,9 @@ module _ (k : ℕ) (pos : 0 < k) where
       at-end (both {s = s} l) = sym (rw zero-add (lt-ltb s k l))
       at-end none = refl
 
+-- the line reads as the ring past its lead
+pub line-row : (n k : ℕ) → 0 < k → Same (machineOf (row4 k)) (live 0) (machineOf (row5 k)) (live (pair 0 0)) n
+line-row n k pos = alike-same (alike k pos) n _ _ (both pos)
+
 pub kind4 : (n k w : ℕ) → 0 < k → k ≤ n → run (machineOf (row4 k)) n (live 0) w ≡ not (someWindow false n k k w)
-kind4 n k w pos fits = same-run (alike k pos) n _ _ w (both pos) ∙ past-line n k w pos fits
+kind4 n k w pos fits = line-row n k pos .runs w ∙ past-line n k w pos fits
