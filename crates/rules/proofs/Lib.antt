@@ -2,6 +2,7 @@
 pub mod Examples
 pub mod Sums
 pub mod Bits
+pub mod Words
 pub mod Split
 pub mod Rounding
 pub mod Enclosure

@@ -1,19 +1,17 @@
 -- A reading looks at nothing above the components it reads; so the exact sum, and the number of working words with j ones, split at the top
 -- component into what follows where it works and what follows where it fails, for any memory. Assumes nothing.
-use mathlib.Core.Path.{_≡_, refl, ap}
-use mathlib.Core.Bool.{Bool, true, false, cond, _&&_, and-false}
+use mathlib.Core.Path.{_≡_, refl, ap, _∙_}
+use mathlib.Core.Bool.{Bool, true, false, cond}
 use Prim.Native.Nat.{ℕ, zero, suc, _+_, _*_, _^_, _<_}
 use native.Mathlib.Omega.{arith}
-use native.Mathlib.Nat.{one-mul}
-use lib.Dec.{eqb, eqb·suc-zero, eqb·suc-suc}
-use lib.Count.{ones}
-use Rattle.rules.specs.Below.{sumBelow, held}
+use Rattle.rules.specs.Below.{sumBelow}
 use Rattle.rules.specs.State.{failure, down}
 use Rattle.rules.specs.Count.{countIf}
 use Rattle.rules.specs.Memory.{Machine, run}
 use Rattle.rules.specs.Figure.{product, exactIf}
-use Rattle.rules.proofs.Sums.{sum-split, sum-same, held-sum, held-same}
-use Rattle.rules.proofs.Bits.{down-low, down-high, shift, bit-above, ones-high}
+use Rattle.rules.proofs.Sums.{sum-split, sum-same, held-same}
+use Rattle.rules.proofs.Bits.{down-low, down-high, shift, bit-above}
+use Rattle.rules.proofs.Words as words
 
 pub run-above : {M : Type 0} (K : Machine M) (i a : ℕ) (m : M) (w : ℕ) → run K i m (a * 2 ^ i + w) ≡ run K i m w
 unfolding run
@@ -50,22 +48,6 @@ pub count-same : (p q : ℕ → Bool) (n j : ℕ) → ((w : ℕ) → w < 2 ^ n �
 unfolding countIf
 count-same p q n j h = held-same _ _ (2 ^ n) (λ w l. rw (h w l))
 
--- the words of one more bit with j ones: p says which work where the new bit is clear, q where it is set
-module _ (p q r : ℕ → Bool) (i : ℕ) (low : (w : ℕ) → w < 2 ^ i → r w ≡ p w) (high : (w : ℕ) → w < 2 ^ i → r (1 * 2 ^ i + w) ≡ q w) where
-  pub top-zero : countIf r (suc i) 0 ≡ countIf p i 0
-  unfolding countIf
-  top-zero = rw (held-sum (λ w. r w && eqb (ones w) 0) (2 ^ suc i), held-sum (λ w. p w && eqb (ones w) 0) (2 ^ i))
-      (omega (arith, sum-split i 1 0 (λ w. cond (r w && eqb (ones w) 0) 1 0) (λ w. cond (p w && eqb (ones w) 0) 1 0) (λ w. 0)
-      (λ w h. rw (low w h, one-mul))
-      (λ w h. rw (ones-high i w h, eqb·suc-zero, and-false))))
-
-  pub top-suc : (j : ℕ) → countIf r (suc i) (suc j) ≡ countIf p i (suc j) + countIf q i j
-  unfolding countIf
-  top-suc j = rw (held-sum (λ w. r w && eqb (ones w) (suc j)) (2 ^ suc i), held-sum (λ w. p w && eqb (ones w) (suc j)) (2 ^ i), held-sum (λ w. q w && eqb (ones w) j) (2 ^ i))
-      (omega (arith, sum-split i 1 1 (λ w. cond (r w && eqb (ones w) (suc j)) 1 0) (λ w. cond (p w && eqb (ones w) (suc j)) 1 0) (λ w. cond (q w && eqb (ones w) j) 1 0)
-      (λ w h. rw (low w h, one-mul))
-      (λ w h. rw (high w h, ones-high i w h, eqb·suc-suc, one-mul))))
-
 module _ {M : Type 0} (K : Machine M) (i : ℕ) (m : M) where
   run-low : (w : ℕ) → w < 2 ^ i → run K (suc i) m w ≡ run K i (K .worked (suc i) m) w
   unfolding run
@@ -76,8 +58,11 @@ module _ {M : Type 0} (K : Machine M) (i : ℕ) (m : M) where
   run-high w h = rw (down-high i w h, run-above K i 1 _ w)
 
   pub count-zero : countIf (run K (suc i) m) (suc i) 0 ≡ countIf (run K i (K .worked (suc i) m)) i 0
-  count-zero = top-zero _ _ (run K (suc i) m) i run-low run-high
+  count-zero = words.count-zero (run K (suc i) m) i ∙ count-same _ _ i 0 run-low
 
   pub count-suc : (j : ℕ)
       → countIf (run K (suc i) m) (suc i) (suc j) ≡ countIf (run K i (K .worked (suc i) m)) i (suc j) + countIf (run K i (K .failed (suc i) m)) i j
-  count-suc j = top-suc _ _ (run K (suc i) m) i run-low run-high j
+  count-suc j =
+      words.count-suc (run K (suc i) m) i j
+      ∙ ap (λ x. x + countIf (λ w. run K (suc i) m (1 * 2 ^ i + w)) i j) (count-same _ _ i (suc j) run-low)
+      ∙ ap (λ x. countIf (run K i (K .worked (suc i) m)) i (suc j) + x) (count-same _ _ i j run-high)

@@ -1,0 +1,2 @@
+-- What an entry of Pascal's table counts.
+pub mod Ways

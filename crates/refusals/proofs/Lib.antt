@@ -1,0 +1,2 @@
+-- What a call's refusal says of its rule.
+pub mod Laws

@@ -1,0 +1,58 @@
+-- `refusals::range_out` meets its contract: each arm is the row of its kinds, and a kind of no arm has no row. Assumes nothing.
+use mathlib.Core.Path.{sym, _∙_}
+use mathlib.Core.Logic.{inl, inr, ⊎-elim}
+use native.Mathlib.Omega.{arith}
+use borrow.Author.Needs.{needs}
+use Rattle.refusals.specs.Shared.{rangeOut}
+use Rattle.refusals.proofs.Laws.{range-one, range-two, range-none}
+use Rattle.refusals.proofs.range_out.Statement.{statement}
+use Rattle.refusals.proofs.range_out.Tie as tie
+
+one-out-requires : tie.Need-one-out-requires
+one-out-requires c κs = search needs
+
+outside-requires : tie.Need-outside-requires
+outside-requires c κs = search needs
+
+two-out-requires : tie.Need-two-out-requires
+two-out-requires c κs = search needs
+
+one-out-requires-2 : tie.Need-one-out-requires-2
+one-out-requires-2 c κs = search needs
+
+returns : tie.Need-returns
+unfolding rangeOut
+returns c = rw (c .before .match .keys2) (c .one-out .ensures)
+
+returns-2 : tie.Need-returns-2
+unfolding rangeOut
+returns-2 c = rw (c .before .match .keys3) (c .outside .ensures)
+
+returns-3 : tie.Need-returns-3
+returns-3 c = c .two-out .ensures ∙ sym (range-two _ _ _ (omega arith) (omega arith))
+
+returns-4 : tie.Need-returns-4
+returns-4 c = sym (range-none _ _ _ (inl (omega arith)))
+
+returns-5 : tie.Need-returns-5
+returns-5 c = sym (range-none _ _ _ (inr (omega arith)))
+
+returns-6 : tie.Need-returns-6
+returns-6 c =
+    c .one-out2 .ensures
+    ∙ sym (range-one _ _ _ (⊎-elim (λ w. inl (w .keys1)) (λ w. inr (omega arith, omega arith)) (c .before .match .came)))
+
+pub range-out-spec : {M : Type 1} → statement M
+range-out-spec =
+    tie.close
+    (tie.spec
+    one-out-requires
+    outside-requires
+    two-out-requires
+    one-out-requires-2
+    returns
+    returns-2
+    returns-3
+    returns-4
+    returns-5
+    returns-6)

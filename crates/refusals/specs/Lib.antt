@@ -1,0 +1,3 @@
+-- What the shared refusals are called in contracts, and what an accepted rule is known by.
+pub mod Shared
+pub mod Accepted

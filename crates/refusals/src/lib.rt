@@ -1,0 +1,119 @@
+// The refusals that several calls share: 1, 2, 5 and 6 of document 01's table.
+ghost use mathlib.Core.Bool.{not};
+ghost use mathlib.Core.Path.{_≡_};
+ghost use Prim.Native.Nat.{_≤_};
+ghost use lib.ListN.{length};
+ghost use Rattle.rules.specs.Below.{total, within};
+ghost use Rattle.rules.specs.Refusal.{badKind, badSize, rangeOne, rangeTwo};
+ghost use Rattle.refusals.specs.Shared.{rangeOut, ratedRefusal, ruleRefusal};
+use rules::Rule;
+
+// The ends belong to the range.
+fn outside(low: u64, x: u64, high: u64) -> bool
+    ensures { λ r. ⌜ r ≡ not (within low x high) ⌝ }
+{
+    if x < low {
+        return true;
+    }
+    high < x
+}
+
+// Refusal 1.
+pub fn kind_out(rule: Rule) -> bool
+    ensures { λ r. ⌜ r ≡ badKind rule ⌝ }
+{
+    let kind = rule.kind;
+    outside(1, kind, 7)
+}
+
+// Refusal 2.
+pub fn size_out(n: u64) -> bool
+    ensures { λ r. ⌜ r ≡ badSize n ⌝ }
+{
+    outside(1, n, 64)
+}
+
+// The total weight: at most 64 weights of 16 bits.
+pub fn total_of(weights: &[u16]) -> u64
+    requires { ⌜ length (now weights) ≤ 64 ⌝ }
+    ensures { λ r. ⌜ r ≡ total (now (weights .entry)) ⌝ }
+{
+    let mut sum: u64 = 0;
+    let mut i: usize = 0;
+    while i < weights.len() {
+        sum += weights[i] as u64;
+        i += 1;
+    }
+    sum
+}
+
+// Kinds 1, 2, 4 and 5: first from 1 to `most`, second 0.
+fn one_out(k: u64, most: u64, second: u64) -> bool
+    ensures { λ r. ⌜ r ≡ not (rangeOne k most second) ⌝ }
+{
+    if outside(1, k, most) {
+        return true;
+    }
+    second != 0
+}
+
+// Kinds 6 and 7: first 2, second from 2 to n.
+fn two_out(first: u64, r: u64, n: u64) -> bool
+    ensures { λ a. ⌜ a ≡ not (rangeTwo first r n) ⌝ }
+{
+    if first != 2 {
+        return true;
+    }
+    outside(2, r, n)
+}
+
+// Refusal 6, over the total weight of the components rated; only kind 2 asks for it.
+pub fn range_out(rule: Rule, n: u64, total: u64) -> bool
+    ensures { λ r. ⌜ r ≡ rangeOut rule n total ⌝ }
+{
+    let kind = rule.kind;
+    match kind {
+        1 | 4 | 5 => one_out(rule.first, n, rule.second),
+        2 => one_out(rule.first, total, rule.second),
+        3 => outside(rule.first, rule.second, n),
+        6 | 7 => two_out(rule.first, rule.second, n),
+        _ => true,
+    }
+}
+
+// Refusals 5 and 6 of a list of `whole` components with `listed` weights, of which n are rated, with the weights `rated`.
+pub fn rated_refusal(rule: Rule, whole: u64, listed: u64, n: u64, rated: &[u16]) -> u64
+    requires { ⌜ (whole ≤ 64) × (length (now rated) ≤ listed) ⌝ }
+    ensures { λ r. ⌜ r ≡ ratedRefusal rule whole listed n (total (now (rated .entry))) ⌝ }
+{
+    if rule.kind != 2 {
+        if range_out(rule, n, 0) {
+            return 6;
+        }
+        return 0;
+    }
+    if listed != whole {
+        return 5;
+    }
+    let total = total_of(rated);
+    if 120 < total {
+        return 5;
+    }
+    if range_out(rule, n, total) {
+        return 6;
+    }
+    0
+}
+
+// Refusals 1, 2, 5 and 6, the lowest that applies; 0 for none.
+pub fn rule_refusal(rule: Rule, n: u64, weights: &[u16]) -> u64
+    ensures { λ r. ⌜ r ≡ ruleRefusal rule n (now (weights .entry)) ⌝ }
+{
+    if kind_out(rule) {
+        return 1;
+    }
+    if size_out(n) {
+        return 2;
+    }
+    rated_refusal(rule, n, weights.len() as u64, n, weights)
+}
