@@ -1,0 +1,2 @@
+-- What the engine's proofs share.
+pub mod Cells

@@ -1,0 +1,2 @@
+-- What the engine's contracts cite: the rows of the lent table.
+pub mod Rows
