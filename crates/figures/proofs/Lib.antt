@@ -1,2 +1,4 @@
 -- What the engine's proofs share.
 pub mod Cells
+pub mod Reach
+pub mod Turning

@@ -1,2 +1,3 @@
 -- What the engine's contracts cite: the rows of the lent table.
 pub mod Rows
+pub mod Level

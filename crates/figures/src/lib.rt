@@ -10,6 +10,7 @@ ghost use lib.ListN.{length, getD};
 ghost use Rattle.rules.specs.State.{S};
 ghost use Rattle.memory.specs.Step.{workedAt, failedAt, limitOf};
 ghost use Rattle.figures.specs.Rows.{Fit, Celled, Written, endsOf, stepAt, Steady, Stepped, Ready};
+ghost use Rattle.figures.specs.Level.{widthOf, Level, Buried, Swept};
 
 
 use memory::Memory;
@@ -120,4 +121,70 @@ fn row(p: Survival, q: Failure, width: usize, table: &mut [u64], from: usize)
         table[1200 + to + m] = ends.high;
         m += 1;
     }
+}
+
+// The dead memory's two cells on one side.
+fn bury(limit: usize, to: usize, table: &mut [u64])
+    requires { ⌜ (limit ≤ 120) × (to ≤ 600) × (7800 ≤ length (now table)) ⌝ }
+    ensures { λ r. ⌜ Buried limit to (now (table .entry)) (now (table .exit)) ⌝ }
+{
+    table[to + limit] = 0;
+    table[1200 + to + limit] = 0;
+}
+
+// Kind 2's failed components go by their own weight: its row is written anew for each.
+fn weigh(rule: Rule, survival: &[u32], weights: &[u16], s: Sweep, table: &mut [u64])
+    requires { ⌜ (s .left < length (now survival)) × Level rule (now survival) (now weights) s (now table) ⌝ }
+    ensures { λ r. ⌜ Celled (failedAt rule (getD (now (weights .entry)) (s .left) 0)) (limitOf rule) 3000 (now (table .entry)) (now (table .exit)) ⌝ }
+{
+    if rule.kind == 2 {
+        let left = s.left;
+        write_failed(rule, weights[left] as u64, table);
+    }
+}
+
+// How many memories are worked with so many components left.
+fn width(rule: Rule, far: usize, left: usize) -> usize
+    requires { ⌜ limitOf rule ≤ 120 ⌝ }
+    ensures { λ r. ⌜ r ≡ widthOf rule far left ⌝ }
+{
+    let limit = memory::limit(rule) as usize;
+    if far <= left {
+        return 0;
+    }
+    if far - left < limit {
+        return far - left;
+    }
+    limit
+}
+
+// One component more.
+fn turn(rule: Rule, survival: &[u32], weights: &[u16], s: Sweep, table: &mut [u64]) -> Sweep
+    requires { ⌜ (s .left < length (now survival)) × Level rule (now survival) (now weights) s (now table) ⌝ }
+    ensures { λ r. ⌜ Swept rule (now (survival .entry)) (now (weights .entry)) s (suc (s .left)) (now (table .entry)) (now (table .exit)) r ⌝ }
+{
+    weigh(rule, survival, weights, s, table);
+    let left = s.left;
+    let p = survival[left] as u64;
+    let from = s.from;
+    row(Survival(p), Failure(UNIT - p), width(rule, s.far, left + 1), table, from);
+    bury(memory::limit(rule) as usize, 600 - from, table);
+    Sweep {
+        lead: s.lead,
+        far: s.far,
+        left: left + 1,
+        from: 600 - from,
+    }
+}
+
+// On to `upto` components left.
+fn sweep_to(rule: Rule, survival: &[u32], weights: &[u16], s: Sweep, upto: usize, table: &mut [u64]) -> Sweep
+    requires { ⌜ (s .left ≤ upto) × (upto ≤ length (now survival)) × Level rule (now survival) (now weights) s (now table) ⌝ }
+    ensures { λ r. ⌜ Swept rule (now (survival .entry)) (now (weights .entry)) s upto (now (table .entry)) (now (table .exit)) r ⌝ }
+{
+    let mut now = s;
+    while now.left < upto {
+        now = turn(rule, survival, weights, now, table);
+    }
+    now
 }

@@ -24,8 +24,8 @@ loop-holds c = (omega arith, search needs, c .before .pre, written-none)
 
 cell-requires : tie.Need-cell-requires Inv-loop μ-loop
 cell-requires c κs =
-    let v = c .before .loop .inv in
-    steady-same (v .2 .side) (v .2 .steady _ (c .loop-test .taken)) (v .3)
+    let v = c .before .before .loop .inv in
+    steady-same (v .2 .side) (v .2 .steady _ (c .before .loop-test .taken)) (v .3)
 
 add-table : tie.Need-add-table Inv-loop μ-loop
 add-table c = search needs
