@@ -6,17 +6,21 @@ use mathlib.Core.Bool.{Bool, true, false, cond}
 use mathlib.Core.Logic.{_⊎_, inl, inr, ⊎-elim}
 use mathlib.Core.List.{List}
 use native.Mathlib.Omega.{arith}
-use native.Mathlib.Decide.{ℕ-discrete}
+use lib.Dec.{leb}
+use borrow.Author.Tests.{leb-false, ne-eqb}
 use lib.ListN.{length, getD}
 use Rattle.rules.specs.declared.Rule.{Rule}
 use Rattle.rules.specs.State.{S, numberOf, failure}
 use Rattle.rules.specs.Refusal.{cells}
 use Rattle.rules.specs.Figure.{mixed, rounded, value}
 use Rattle.rules.proofs.Enclosure.{value-le}
-use Rattle.memory.specs.Step.{limitOf, workedAt, failedAt, program, to}
+use Rattle.rules.proofs.Reading.{by-test}
+use Rattle.memory.specs.Step.{limitOf, workedAt, failedAt, leadOf, program, to}
+use Rattle.figures.specs.declared.Ends.{Ends}
 use Rattle.figures.specs.declared.Sweep.{Sweep}
 use Rattle.figures.specs.Rows.{Row, Kept, Celled, Written, Within, Steady, Ready, stepAt, endsOf, Side, Off}
 use Rattle.figures.specs.Level.{valueAt, widthOf, Rated, Bound, Stepping, Level, Buried, Swept}
+use Rattle.figures.specs.Open.{Both}
 use Rattle.figures.proofs.Cells.{kept-trans, side-near, off-steps, off-low, off-high}
 use Rattle.figures.proofs.Reach.{value-dead, end-dead, worked-in, failed-in, failed-other}
 
@@ -179,3 +183,18 @@ level-start {rule} lead far rated stepping room bound w = record {
   low-dead = w .low .is (limitOf rule) (omega arith) ∙ rw (end-dead rule lead);
   high-dead = w .high .is (limitOf rule) (omega arith) ∙ rw (end-dead rule lead);
 }
+
+-- what the rows say of a memory that can be reached
+pub read-at : {rule : Rule} {survival weights : List ℕ} {s : Sweep} {t : List ℕ} (y : Level rule survival weights s t) (lead i k : ℕ) → s .lead ≡ lead → s .left ≡ i
+    → k < widthOf rule (s .far) (s .left) → {r : Ends} → (r .low ≡ getD t (s .from + k) 0) × (r .high ≡ getD t (1200 + s .from + k) 0)
+    → Both (λ up. valueAt up rule survival weights lead i k) r
+read-at y lead i k e d l read = record {
+  low = read .0 ∙ low-at y k (inr l) ∙ rw (e, d);
+  high = read .1 ∙ high-at y k (inr l) ∙ rw (e, d);
+}
+
+pub lead-small : (rule : Rule) → limitOf rule ≤ 120 → leadOf rule < 1000
+unfolding leadOf limitOf
+lead-small rule l =
+    by-test (λ x. x < 1000) (leb (rule .kind) 5) 0 (rule .second - 1) (λ e. omega arith)
+    (λ e. let k : 5 < rule .kind = leb-false _ _ e in omega (arith, rw (ne-eqb (rule .kind) 3 (λ q. omega arith), e) at l))

@@ -64,3 +64,20 @@ pub record Swept (rule : Rule) (survival weights : List ℕ) (s : Sweep) (upto :
   pub lead : r .lead ≡ s .lead
   pub far : r .far ≡ s .far
   pub kept : Kept t₀ t
+
+-- what a sweep begins with
+pub record Startable (rule : Rule) (survival weights : List ℕ) (lead far : ℕ) (t : List ℕ) : Type 0 where
+  pub rated : Rated rule survival weights
+  pub stepping : Stepping rule t
+  pub room : cells ≤ length t
+  pub bound : Bound rule survival (record { lead = lead; far = far; left = 0; from = 0 })
+
+pub record Started (rule : Rule) (survival weights : List ℕ) (lead far : ℕ) (t₀ t : List ℕ) (r : Sweep) : Type 0 where
+  pub is : r ≡ record { lead = lead; far = far; left = 0; from = 0 }
+  pub level : Level rule survival weights r t
+  pub kept : Kept t₀ t
+
+-- what the engine is handed
+pub record Asked (rule : Rule) (survival weights t : List ℕ) : Type 0 where
+  pub rated : Rated rule survival weights
+  pub room : cells ≤ length t

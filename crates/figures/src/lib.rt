@@ -5,12 +5,15 @@
 // knows nothing of kinds.
 ghost use mathlib.Core.Path.{_≡_};
 ghost use mathlib.Core.Bool.{true, false, cond};
-ghost use Prim.Native.Nat.{ℕ, suc, _+_, _-_, _≤_, _<_};
+ghost use Prim.Native.Nat.{suc, _+_, _-_, _≤_, _<_, min};
 ghost use lib.ListN.{length, getD};
 ghost use Rattle.rules.specs.State.{S};
-ghost use Rattle.memory.specs.Step.{workedAt, failedAt, limitOf};
-ghost use Rattle.figures.specs.Rows.{Fit, Celled, Written, endsOf, stepAt, Steady, Stepped, Ready};
-ghost use Rattle.figures.specs.Level.{widthOf, Level, Buried, Swept};
+ghost use Rattle.rules.specs.Figure.{rounded, mixed};
+ghost use Rattle.units.specs.Step.{Parts};
+ghost use Rattle.memory.specs.Step.{workedAt, failedAt, limitOf, leadOf};
+ghost use Rattle.figures.specs.Rows.{Kept, Fit, Celled, Written, endsOf, stepAt, Steady, Stepped, Ready};
+ghost use Rattle.figures.specs.Level.{valueAt, widthOf, Stepping, Level, Buried, Swept, Startable, Started, Asked};
+ghost use Rattle.figures.specs.Open.{Both, Ringed, enterOf, openAt, Bringable, Brought, Widenable, Widened, leftOf, firstOpen};
 
 
 use memory::Memory;
@@ -187,4 +190,164 @@ fn sweep_to(rule: Rule, survival: &[u32], weights: &[u16], s: Sweep, upto: usize
         now = turn(rule, survival, weights, now, table);
     }
     now
+}
+
+// Where each memory goes, for every component but kind 2's failed ones.
+fn prepare(rule: Rule, table: &mut [u64])
+    requires { ⌜ Fit rule (now table) ⌝ }
+    ensures { λ r. ⌜ Stepping rule (now (table .exit)) × Kept (now (table .entry)) (now (table .exit)) ⌝ }
+{
+    write_worked(rule, table);
+    write_failed(rule, 1, table);
+}
+
+// The sweep of a lead, with no components left yet.
+fn begin(rule: Rule, survival: &[u32], weights: &[u16], lead: u64, far: usize, table: &mut [u64]) -> Sweep
+    requires { ⌜ Startable rule (now survival) (now weights) lead far (now table) ⌝ }
+    ensures { λ r. ⌜ Started rule (now (survival .entry)) (now (weights .entry)) lead far (now (table .entry)) (now (table .exit)) r ⌝ }
+{
+    start(rule, lead, table);
+    Sweep {
+        lead,
+        far,
+        left: 0,
+        from: 0,
+    }
+}
+
+// Both ends of the memory `at` in the rows at `from`.
+fn ends_at(table: &[u64], from: usize, at: usize) -> Ends
+    requires { ⌜ (from ≤ 600) × (at < 600) × (7800 ≤ length (now table)) ⌝ }
+    ensures { λ r. ⌜ (r .low ≡ getD (now (table .entry)) (from + at) 0) × (r .high ≡ getD (now (table .entry)) (1200 + from + at) 0) ⌝ }
+{
+    Ends {
+        low: table[from + at],
+        high: table[1200 + from + at],
+    }
+}
+
+// The lead of a line.
+fn line_lead(rule: Rule) -> u64
+    requires { ⌜ 0 < limitOf rule ⌝ }
+    ensures { λ r. ⌜ r ≡ leadOf rule ⌝ }
+{
+    if rule.kind <= 5 {
+        return 0;
+    }
+    memory::limit(rule) - 1
+}
+
+// The bound of a line's sweep.
+fn line_far(rule: Rule, n: usize) -> usize
+    requires { ⌜ (n ≤ 64) × (limitOf rule ≤ 120) ⌝ }
+    ensures { λ r. ⌜ (n < r) × (r ≤ 1000) × (rule .kind ≡ 2 → limitOf rule + n ≤ r) ⌝ }
+{
+    if rule.kind == 2 {
+        return n + 1 + memory::limit(rule) as usize;
+    }
+    n + 1
+}
+
+// A line: one sweep over all components.
+fn line(rule: Rule, survival: &[u32], weights: &[u16], table: &mut [u64]) -> Ends
+    requires { ⌜ Asked rule (now survival) (now weights) (now table) ⌝ }
+    ensures { λ r. ⌜ Both (λ up. valueAt up rule (now (survival .entry)) (now (weights .entry)) (leadOf rule) (length (now (survival .entry))) 0) r × Kept (now (table .entry)) (now (table .exit)) ⌝ }
+{
+    let n = survival.len();
+    prepare(rule, table);
+    let s = begin(rule, survival, weights, line_lead(rule), line_far(rule, n), table);
+    let swept = sweep_to(rule, survival, weights, s, n, table);
+    ends_at(table, swept.from, 0)
+}
+
+// The rows of a lead, brought to `left` components left: gone on with where they stand, or begun anew.
+fn bring(rule: Rule, survival: &[u32], weights: &[u16], s: Sweep, lead: u64, left: usize, table: &mut [u64]) -> Sweep
+    requires { ⌜ Bringable rule (now survival) (now weights) s lead left (now table) ⌝ }
+    ensures { λ r. ⌜ Brought rule (now (survival .entry)) (now (weights .entry)) lead left (now (table .entry)) (now (table .exit)) r ⌝ }
+{
+    if s.lead == lead {
+        return sweep_to(rule, survival, weights, s, left, table);
+    }
+    let far = survival.len() + 1 - lead as usize;
+    let anew = begin(rule, survival, weights, lead, far, table);
+    sweep_to(rule, survival, weights, anew, left, table)
+}
+
+// One rounded step of both ends.
+fn step(p: Survival, q: Failure, works: Ends, fails: Ends) -> Ends
+    requires { ⌜ Parts (p .0) (q .0) (works .low) (fails .low) × Parts (p .0) (q .0) (works .high) (fails .high) ⌝ }
+    ensures { λ r. ⌜ (r .low ≡ rounded false S (mixed S (p .0) (works .low) (fails .low))) × (r .high ≡ rounded true S (mixed S (p .0) (works .high) (fails .high))) ⌝ }
+{
+    Ends {
+        low: units::round_down(p, q, works.low, fails.low),
+        high: units::round_up(p, q, works.high, fails.high),
+    }
+}
+
+// Where the rows of a lead are entered.
+fn enter(rule: Rule) -> usize
+    ensures { λ r. ⌜ r ≡ enterOf rule ⌝ }
+{
+    if rule.kind == 5 { 0 } else { 1 }
+}
+
+// The open memory with one component more: under kind 5 it stays open where the component fails, under kind 7 where it works.
+fn widen(rule: Rule, survival: &[u32], i: usize, open: Ends, entered: Ends) -> Ends
+    requires { ⌜ Widenable rule (now survival) i open entered ⌝ }
+    ensures { λ r. ⌜ Widened rule (now (survival .entry)) i open entered r ⌝ }
+{
+    let p = survival[i] as u64;
+    if rule.kind == 5 {
+        return step(Survival(p), Failure(UNIT - p), entered, open);
+    }
+    step(Survival(p), Failure(UNIT - p), open, entered)
+}
+
+// How many components are left when the open memory is first known: under kind 5 it is dead there, under kind 7 it works.
+fn open_left(rule: Rule, n: usize) -> usize
+    requires { ⌜ (limitOf rule ≤ n) × (limitOf rule ≤ 120) ⌝ }
+    ensures { λ r. ⌜ r ≡ leftOf rule n ⌝ }
+{
+    if rule.kind == 5 {
+        return n - memory::limit(rule) as usize;
+    }
+    0
+}
+
+fn open_ends(rule: Rule) -> Ends
+    ensures { λ r. ⌜ (r .low ≡ firstOpen rule) × (r .high ≡ firstOpen rule) ⌝ }
+{
+    if rule.kind == 5 {
+        return Ends { low: 0, high: 0 };
+    }
+    Ends {
+        low: UNIT,
+        high: UNIT,
+    }
+}
+
+fn lesser(a: usize, b: usize) -> usize
+    ensures { λ r. ⌜ r ≡ min a b ⌝ }
+{
+    if a <= b { a } else { b }
+}
+
+// A ring: the open memory from its first known value up to all n, one lead at a time.
+fn ring(rule: Rule, survival: &[u32], weights: &[u16], table: &mut [u64]) -> Ends
+    requires { ⌜ Asked rule (now survival) (now weights) (now table) × Ringed rule (now survival) ⌝ }
+    ensures { λ r. ⌜ Both (λ up. openAt up rule (now (survival .entry)) (length (now (survival .entry)))) r × Kept (now (table .entry)) (now (table .exit)) ⌝ }
+{
+    let n = survival.len();
+    let most = memory::limit(rule) as usize - 1;
+    prepare(rule, table);
+    let mut s = begin(rule, survival, weights, most as u64, n + 1 - most, table);
+    let mut i = open_left(rule, n);
+    let mut open = open_ends(rule);
+    while i < n {
+        s = bring(rule, survival, weights, s, lesser(n - i - 1, most) as u64, i, table);
+        let entered = ends_at(table, s.from, enter(rule));
+        open = widen(rule, survival, i, open, entered);
+        i += 1;
+    }
+    open
 }
