@@ -2,3 +2,4 @@
 pub mod Cells
 pub mod Reach
 pub mod Turning
+pub mod Opening

@@ -28,7 +28,7 @@ pub end-dead : (rule : Rule) (lead : ℕ) → endOf rule (to lead (limitOf rule)
 unfolding endOf
 end-dead rule lead = rw (le-leb (limitOf rule) (limitOf rule) (omega arith))
 
-nothing : (up : Bool) (p : ℕ) → rounded up S (mixed S p 0 0) ≡ 0
+pub nothing : (up : Bool) (p : ℕ) → rounded up S (mixed S p 0 0) ≡ 0
 nothing up p = let e : mixed S p 0 0 ≡ 0 * S = omega arith in rw e (whole up S 0 (omega arith))
 
 pub value-dead : (up : Bool) (rule : Rule) (survival weights : List ℕ) (lead i : ℕ) → valueAt up rule survival weights lead i (limitOf rule) ≡ 0

@@ -32,7 +32,7 @@ row-same same r = record { is = λ k l. same k l ∙ r .is k l }
 pub row-as : {f g : ℕ → ℕ} {t : List ℕ} {off n : ℕ} → ((k : ℕ) → k < n → f k ≡ g k) → Row f t off n → Row g t off n
 row-as same r = record { is = λ k l. r .is k l ∙ same k l }
 
-numbers-le : (survival : List ℕ) → ((k : ℕ) → getD survival k 0 ≤ S) → (i : ℕ) → numberOf survival i ≤ S
+pub numbers-le : (survival : List ℕ) → ((k : ℕ) → getD survival k 0 ≤ S) → (i : ℕ) → numberOf survival i ≤ S
 unfolding numberOf
 numbers-le survival h zero = omega arith
 numbers-le survival h (suc i) = h i

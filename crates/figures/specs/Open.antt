@@ -61,20 +61,20 @@ pub record Bringable (rule : Rule) (survival weights : List ℕ) (s : Sweep) (fr
   pub line : rule .kind ≡ 2 → ⊥
 
 -- the open memory with one component more
-unfoldable pub widened : (up : Bool) → Rule → (p open entered : ℕ) → ℕ
-widened up rule p open entered = rounded up S (cond (eqb (rule .kind) 5) (mixed S p entered open) (mixed S p open entered))
+unfoldable pub widened : (up : Bool) → Rule → (p opened entered : ℕ) → ℕ
+widened up rule p opened entered = rounded up S (cond (eqb (rule .kind) 5) (mixed S p entered opened) (mixed S p opened entered))
 
-pub record Widenable (rule : Rule) (survival : List ℕ) (i : ℕ) (open entered : Ends) : Type 0 where
+pub record Widenable (rule : Rule) (survival : List ℕ) (i : ℕ) (opened entered : Ends) : Type 0 where
   pub some : i < length survival
   pub unit : getD survival i 0 ≤ S
-  pub open-low : open .low ≤ S
-  pub open-high : open .high ≤ S
+  pub opened-low : opened .low ≤ S
+  pub opened-high : opened .high ≤ S
   pub entered-low : entered .low ≤ S
   pub entered-high : entered .high ≤ S
 
-pub record Widened (rule : Rule) (survival : List ℕ) (i : ℕ) (open entered r : Ends) : Type 0 where
-  pub low : r .low ≡ widened false rule (getD survival i 0) (open .low) (entered .low)
-  pub high : r .high ≡ widened true rule (getD survival i 0) (open .high) (entered .high)
+pub record Widened (rule : Rule) (survival : List ℕ) (i : ℕ) (opened entered r : Ends) : Type 0 where
+  pub low : r .low ≡ widened false rule (getD survival i 0) (opened .low) (entered .low)
+  pub high : r .high ≡ widened true rule (getD survival i 0) (opened .high) (entered .high)
 
 -- how many are left where the open memory is first known, and its value there
 unfoldable pub leftOf : Rule → (n : ℕ) → ℕ
@@ -82,3 +82,16 @@ leftOf rule n = cond (eqb (rule .kind) 5) (n - limitOf rule) 0
 
 unfoldable pub firstOpen : Rule → ℕ
 firstOpen rule = cond (eqb (rule .kind) 5) 0 S
+
+-- the ring's loop: the rows of some lead, and the open memory's value with i components left
+pub record Opened (rule : Rule) (survival weights : List ℕ) (n last : ℕ) (t₀ t : List ℕ) (s : Sweep) (i : ℕ) (opened : Ends) : Type 0 where
+  pub level : Level rule survival weights s t
+  pub ringed : Ringed rule survival
+  pub far : s .far + s .lead ≡ length survival + 1
+  pub left : s .left ≤ i
+  pub from : leftOf rule n ≤ i
+  pub upto : i ≤ n
+  pub size : n ≡ length survival
+  pub most : last + 1 ≡ limitOf rule
+  pub ends : Both (λ up. openAt up rule survival i) opened
+  pub kept : Kept t₀ t

@@ -292,15 +292,15 @@ fn enter(rule: Rule) -> usize
 }
 
 // The open memory with one component more: under kind 5 it stays open where the component fails, under kind 7 where it works.
-fn widen(rule: Rule, survival: &[u32], i: usize, open: Ends, entered: Ends) -> Ends
-    requires { ⌜ Widenable rule (now survival) i open entered ⌝ }
-    ensures { λ r. ⌜ Widened rule (now (survival .entry)) i open entered r ⌝ }
+fn widen(rule: Rule, survival: &[u32], i: usize, opened: Ends, entered: Ends) -> Ends
+    requires { ⌜ Widenable rule (now survival) i opened entered ⌝ }
+    ensures { λ r. ⌜ Widened rule (now (survival .entry)) i opened entered r ⌝ }
 {
     let p = survival[i] as u64;
     if rule.kind == 5 {
-        return step(Survival(p), Failure(UNIT - p), entered, open);
+        return step(Survival(p), Failure(UNIT - p), entered, opened);
     }
-    step(Survival(p), Failure(UNIT - p), open, entered)
+    step(Survival(p), Failure(UNIT - p), opened, entered)
 }
 
 // How many components are left when the open memory is first known: under kind 5 it is dead there, under kind 7 it works.
@@ -342,12 +342,12 @@ fn ring(rule: Rule, survival: &[u32], weights: &[u16], table: &mut [u64]) -> End
     prepare(rule, table);
     let mut s = begin(rule, survival, weights, most as u64, n + 1 - most, table);
     let mut i = open_left(rule, n);
-    let mut open = open_ends(rule);
+    let mut opened = open_ends(rule);
     while i < n {
         s = bring(rule, survival, weights, s, lesser(n - i - 1, most) as u64, i, table);
         let entered = ends_at(table, s.from, enter(rule));
-        open = widen(rule, survival, i, open, entered);
+        opened = widen(rule, survival, i, opened, entered);
         i += 1;
     }
-    open
+    opened
 }
