@@ -3,3 +3,4 @@ pub mod Cells
 pub mod Reach
 pub mod Turning
 pub mod Opening
+pub mod Whole

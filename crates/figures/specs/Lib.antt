@@ -2,3 +2,4 @@
 pub mod Rows
 pub mod Level
 pub mod Open
+pub mod Outcome

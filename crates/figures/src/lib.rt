@@ -8,16 +8,19 @@ ghost use mathlib.Core.Bool.{true, false, cond};
 ghost use Prim.Native.Nat.{suc, _+_, _-_, _≤_, _<_, min};
 ghost use lib.ListN.{length, getD};
 ghost use Rattle.rules.specs.State.{S};
-ghost use Rattle.rules.specs.Figure.{rounded, mixed};
+ghost use Rattle.rules.specs.Figure.{rounded, mixed, figure};
+ghost use Rattle.rules.specs.Refusal.{badStretch, aboveUnit, stretchRefusal};
+ghost use Rattle.rules.specs.Answer.{cleared, range};
 ghost use Rattle.units.specs.Step.{Parts};
 ghost use Rattle.memory.specs.Step.{workedAt, failedAt, limitOf, leadOf};
 ghost use Rattle.figures.specs.Rows.{Kept, Fit, Celled, Written, endsOf, stepAt, Steady, Stepped, Ready};
 ghost use Rattle.figures.specs.Level.{valueAt, widthOf, Stepping, Level, Buried, Swept, Startable, Started, Asked};
 ghost use Rattle.figures.specs.Open.{Both, Ringed, enterOf, openAt, Bringable, Brought, Widenable, Widened, leftOf, firstOpen};
 
+ghost use Rattle.figures.specs.Outcome.{Sound, ratedOf, Stretched, Listed};
 
 use memory::Memory;
-use rules::Rule;
+use rules::{Rating, Rule};
 use units::{Failure, Survival, UNIT};
 
 // The two ends of a figure.
@@ -350,4 +353,137 @@ fn ring(rule: Rule, survival: &[u32], weights: &[u16], table: &mut [u64]) -> End
         i += 1;
     }
     opened
+}
+
+// Low and high of a sound list, worked in the table.
+fn rate(rule: Rule, survival: &[u32], weights: &[u16], table: &mut [u64]) -> Ends
+    requires { ⌜ Sound rule (now survival) (now weights) (now table) ⌝ }
+    ensures { λ r. ⌜ Both (λ up. figure up S rule (now (survival .entry)) (now (weights .entry))) r × Kept (now (table .entry)) (now (table .exit)) ⌝ }
+{
+    if rule.kind == 5 {
+        return ring(rule, survival, weights, table);
+    }
+    if rule.kind == 7 {
+        return ring(rule, survival, weights, table);
+    }
+    line(rule, survival, weights, table)
+}
+
+// The first 7,800 cells are 0 again.
+fn clear(table: &mut [u64])
+    requires { ⌜ 7800 ≤ length (now table) ⌝ }
+    ensures { λ r. ⌜ now (table .exit) ≡ cleared (now (table .entry)) ⌝ }
+{
+    let mut i: usize = 0;
+    while i < 7800 {
+        table[i] = 0;
+        i += 1;
+    }
+}
+
+// The answer of a sound list.
+fn answer(rule: Rule, survival: &[u32], weights: &[u16], table: &mut [u64]) -> Rating
+    requires { ⌜ Sound rule (now survival) (now weights) (now table) ⌝ }
+    ensures { λ r. ⌜ (r ≡ range rule (now (survival .entry)) (now (weights .entry))) × (now (table .exit) ≡ cleared (now (table .entry))) ⌝ }
+{
+    let ends = rate(rule, survival, weights, table);
+    clear(table);
+    Rating::Range {
+        low: ends.low,
+        high: ends.high,
+    }
+}
+
+// Refusal 3.
+fn stretch_out(a: u64, b: u64, n: u64) -> bool
+    ensures { λ r. ⌜ r ≡ badStretch a b n ⌝ }
+{
+    if a == 0 {
+        return true;
+    }
+    if b < a {
+        return true;
+    }
+    n < b
+}
+
+// Refusal 4.
+fn above_unit(survival: &[u32]) -> bool
+    ensures { λ r. ⌜ r ≡ aboveUnit (now (survival .entry)) ⌝ }
+{
+    let mut i: usize = 0;
+    while i < survival.len() {
+        if UNIT < survival[i] as u64 {
+            return true;
+        }
+        i += 1;
+    }
+    false
+}
+
+// The weights of the components rated, which only kind 2 has.
+fn rated_weights(rule: Rule, n: usize, weights: &[u16], a: u64, b: u64) -> &[u16]
+    requires { ⌜ badStretch a b n ≡ false ⌝ }
+    ensures { λ r. ⌜ now r ≡ ratedOf rule n (now (weights .entry)) a b ⌝ }
+{
+    if rule.kind != 2 {
+        return &weights[0..0];
+    }
+    if weights.len() != n {
+        return &weights[0..0];
+    }
+    let from = a as usize - 1;
+    let upto = b as usize;
+    &weights[from..upto]
+}
+
+// Refusals 1 to 7, the lowest that applies; 0 for none.
+fn refusal(rule: Rule, a: u64, b: u64, survival: &[u32], weights: &[u16], table: &[u64]) -> u64
+    ensures { λ r. ⌜ r ≡ stretchRefusal rule a b (now (survival .entry)) (now (weights .entry)) (now (table .entry)) ⌝ }
+{
+    if refusals::kind_out(rule) {
+        return 1;
+    }
+    let n = survival.len();
+    if refusals::size_out(n as u64) {
+        return 2;
+    }
+    if stretch_out(a, b, n as u64) {
+        return 3;
+    }
+    let from = a as usize - 1;
+    let upto = b as usize;
+    if above_unit(&survival[from..upto]) {
+        return 4;
+    }
+    let rated = rated_weights(rule, n, weights, a, b);
+    let own = refusals::rated_refusal(rule, n as u64, weights.len() as u64, (upto - from) as u64, rated);
+    if own != 0 {
+        return own;
+    }
+    if table.len() < 7800 {
+        return 7;
+    }
+    0
+}
+
+// The figures of a stretch, from component a to component b, worked on that part of the lent lists where it stands.
+pub fn stretch(rule: Rule, a: u64, b: u64, survival: &[u32], weights: &[u16], table: &mut [u64]) -> Rating
+    ensures { λ r. ⌜ Stretched rule a b (now (survival .entry)) (now (weights .entry)) (now (table .entry)) (now (table .exit)) r ⌝ }
+{
+    let refused = refusal(rule, a, b, survival, weights, table);
+    if refused != 0 {
+        return Rating::Refused(refused);
+    }
+    let from = a as usize - 1;
+    let upto = b as usize;
+    let rated = rated_weights(rule, survival.len(), weights, a, b);
+    answer(rule, &survival[from..upto], rated, table)
+}
+
+// The figures of a whole list: its stretch from 1 to n.
+pub fn figures(rule: Rule, survival: &[u32], weights: &[u16], table: &mut [u64]) -> Rating
+    ensures { λ r. ⌜ Listed rule (now (survival .entry)) (now (weights .entry)) (now (table .entry)) (now (table .exit)) r ⌝ }
+{
+    stretch(rule, 1, survival.len() as u64, survival, weights, table)
 }

@@ -50,6 +50,13 @@ some-none p (suc k) = (
   λ h. or-none (some p k) (p k) .1 (some-none p k .1 (λ a l. h a (omega arith)), h k (omega arith)),
 )
 
+pub some-found : (p : ℕ → Bool) (k a : ℕ) → a < k → p a ≡ true → some p k ≡ true
+some-found p k a l e = go (some p k) refl
+  where
+    go : (b : Bool) → some p k ≡ b → some p k ≡ true
+    go true h = h
+    go false h = absurd (some-none p k .0 h a l e)
+
 -- fewer than c + 1 are held: at each that is held there are fewer than c before it
 pub held-fewer : (p : ℕ → Bool) (c k : ℕ) → (held p k < suc c) ↔ ((e : ℕ) → e < k → p e ≡ true → held p e < c)
 unfolding held

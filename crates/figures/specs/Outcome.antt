@@ -1,0 +1,34 @@
+-- What the two calls leave: the answer, and the working table.
+use Prim.Native.Nat.{ℕ, _≤_}
+use mathlib.Core.Path.{_≡_}
+use mathlib.Core.Bool.{true, cond}
+use mathlib.Core.List.{List, []}
+use lib.Dec.{eqb}
+use lib.ListN.{length}
+use Rattle.rules.specs.declared.Rule.{Rule}
+use Rattle.rules.specs.declared.Rating.{Rating}
+use Rattle.rules.specs.Stretch.{stretch}
+use Rattle.rules.specs.Refusal.{cells, inRange, figuresRefusal, stretchRefusal}
+use Rattle.rules.specs.Answer.{tableAfter, figuresOf, stretchOf}
+use Rattle.figures.specs.Level.{Rated}
+
+-- a list that is rated, and a rule in range for it
+pub record Sound (rule : Rule) (survival weights t : List ℕ) : Type 0 where
+  pub rated : Rated rule survival weights
+  pub some : 1 ≤ length survival
+  pub range : inRange rule (length survival) weights ≡ true
+  pub room : cells ≤ length t
+
+-- the weights of the components rated: kind 2's, where it has as many as there are components, and no others
+unfoldable pub ratedOf : Rule → (n : ℕ) (weights : List ℕ) (a b : ℕ) → List ℕ
+ratedOf rule n weights a b = cond (eqb (rule .kind) 2) (cond (eqb (length weights) n) (stretch a b weights) []) []
+
+-- the outcome of the figures of a whole list
+pub record Listed (rule : Rule) (survival weights t₀ t : List ℕ) (r : Rating) : Type 0 where
+  pub answer : r ≡ figuresOf rule survival weights t₀
+  pub table : t ≡ tableAfter (figuresRefusal rule survival weights t₀) t₀
+
+-- the outcome of the figures of a stretch
+pub record Stretched (rule : Rule) (a b : ℕ) (survival weights t₀ t : List ℕ) (r : Rating) : Type 0 where
+  pub answer : r ≡ stretchOf rule a b survival weights t₀
+  pub table : t ≡ tableAfter (stretchRefusal rule a b survival weights t₀) t₀
