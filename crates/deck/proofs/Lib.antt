@@ -1,0 +1,7 @@
+-- The theorems about the deck file, from the ground up.
+pub mod Lists
+pub mod Numbers
+pub mod Systems
+pub mod Sound
+pub mod File
+pub mod Kept

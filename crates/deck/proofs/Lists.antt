@@ -1,0 +1,106 @@
+-- Lists made place by place, and lists padded to a length: how long they are, what stands where, and that storing the next entry in a padded
+-- list pads a list of one entry more; and lists whose numbers are all below a limit. Assumes nothing.
+use mathlib.Core.Path.{_≡_, refl, sym, ap, _∙_}
+use mathlib.Core.List.{List, [], _∷_, _++_}
+use Prim.Native.Nat.{ℕ, zero, suc, _+_, _-_, _≤_, _<_}
+use native.Mathlib.Nat.{sub-zero}
+use native.Mathlib.Decide.{decLt}
+use native.Mathlib.Numerals.{add-one}
+use native.Mathlib.Omega.{arith}
+use lib.ListN.{length, getD, take, set, replicate, length-append, List·getD-append, List·getD-eq-default}
+use lib.Seq.{ext-getD, getD-at, set-at, take-at, append-snoc}
+use Rattle.rules.specs.Below.{listBelow}
+use Rattle.deck.specs.Read.{padded}
+use Rattle.deck.specs.Bounds.{Under}
+
+module _ {A : Type 0} where
+  pub below-length : (n : ℕ) (f : ℕ → A) → length (listBelow n f) ≡ n
+  unfolding listBelow
+  below-length zero f = refl
+  below-length (suc n) f = length-append (listBelow n f) (f n ∷ []) ∙ omega (arith, below-length n f)
+
+  pub below-get : (n : ℕ) (f : ℕ → A) (d : A) (i : ℕ) → i < n → getD (listBelow n f) i d ≡ f i
+  unfolding listBelow
+  below-get zero f d i h = absurd (omega arith)
+  below-get (suc n) f d i h =
+      elim (decLt i n) [
+        | yes l ↦ List·getD-append (listBelow n f) (f n ∷ []) d i (rw (below-length n f) l) ∙ below-get n f d i l
+        | no g ↦ let e : i ≡ n = omega arith in rw e (getD-at (listBelow n f) (f n) [] d n (below-length n f))
+      ]
+
+  pub below-is : (xs : List A) (d : A) (n : ℕ) (f : ℕ → A) → length xs ≡ n → ((i : ℕ) → i < n → f i ≡ getD xs i d) → listBelow n f ≡ xs
+  below-is xs d n f e h =
+      ext-getD d (listBelow n f) xs (below-length n f ∙ sym e)
+      (λ i l. let s : i < n = rw (below-length n f) at l in below-get n f d i s ∙ h i s)
+
+  padded-none : (k : ℕ) (filler : A) (f : ℕ → A) → replicate k filler ≡ padded k filler (listBelow 0 f)
+  unfolding padded listBelow
+  padded-none k filler f = rw sub-zero
+
+  padded-more : (k : ℕ) (filler : A) (f : ℕ → A) (i : ℕ) → i < k
+      → set (padded k filler (listBelow i f)) i (f i) ≡ padded k filler (listBelow (i + 1) f)
+  unfolding padded listBelow
+  padded-more k filler f i h =
+      let xs = listBelow i f in
+      let left : k - length xs ≡ suc (k - suc i) = omega (arith, below-length i f) in
+      ap (λ n. set (xs ++ replicate n filler) i (f i)) left
+      ∙ set-at xs filler (replicate (k - suc i) filler) (f i) i (below-length i f)
+      ∙ sym (append-snoc xs (f i) (replicate (k - suc i) filler))
+      ∙ ap (λ n. xs ++ (f i ∷ []) ++ replicate (k - n) filler) (sym (below-length (suc i) f))
+      ∙ ap (λ n. padded k filler (listBelow n f)) (sym (add-one i))
+
+  pub padded-take : (k : ℕ) (filler : A) (n : ℕ) (f : ℕ → A) → take n (padded k filler (listBelow n f)) ≡ listBelow n f
+  unfolding padded
+  padded-take k filler n f = take-at (listBelow n f) (replicate (k - length (listBelow n f)) filler) n (below-length n f)
+
+  pub padded-get : (k : ℕ) (filler d : A) (n : ℕ) (f : ℕ → A) (i : ℕ) → i < n → getD (padded k filler (listBelow n f)) i d ≡ f i
+  unfolding padded
+  padded-get k filler d n f i h =
+      List·getD-append (listBelow n f) (replicate (k - length (listBelow n f)) filler) d i (rw (below-length n f) h) ∙ below-get n f d i h
+
+-- an array that a loop fills with n entries of f, after i of them: what the loop begins with, what a store makes of it, and what it ends with
+pub record Filled {A : Type 0} (k : ℕ) (filler : A) (f : ℕ → A) (n : ℕ) (xs : List A) (i : ℕ) : Type 0 where
+  pub passed : i ≤ n
+  pub holds : xs ≡ padded k filler (listBelow i f)
+
+module _ {A : Type 0} {k : ℕ} {filler : A} {f : ℕ → A} {n : ℕ} where
+  pub filled-none : {x : A} → x ≡ filler → Filled k filler f n (replicate k x) 0
+  filled-none e = record { passed = omega arith; holds = rw e (padded-none k filler f) }
+
+  pub filled-more : {xs : List A} {i : ℕ} {v : A} → Filled k filler f n xs i → i < n → n ≤ k → v ≡ f i → Filled k filler f n (set xs i v) (i + 1)
+  filled-more {i} filled h fits e = record { passed = omega arith; holds = rw (filled .holds, e) (padded-more k filler f i (omega arith)) }
+
+  pub filled-all : {xs : List A} {i : ℕ} → Filled k filler f n xs i → n ≤ i → xs ≡ padded k filler (listBelow n f)
+  filled-all {i} filled h =
+      let e : i ≡ n = omega (arith, filled .passed) in
+      filled .holds ∙ ap (λ j. padded k filler (listBelow j f)) e
+
+module _ {limit : ℕ} where
+  pub under-none : 0 < limit → Under limit []
+  under-none h = record { each = λ i. h }
+
+  pub under-cons : {x : ℕ} {xs : List ℕ} → x < limit → Under limit xs → Under limit (x ∷ xs)
+  under-cons {x} {xs} h hs = record { each = go }
+    where
+      go : (i : ℕ) → getD (x ∷ xs) i 0 < limit
+      go zero = h
+      go (suc i) = hs .each i
+
+  pub under-rest : {x : ℕ} {xs : List ℕ} → Under limit (x ∷ xs) → Under limit xs
+  under-rest hs = record { each = λ i. hs .each (suc i) }
+
+  pub under-append : {xs ys : List ℕ} → Under limit xs → Under limit ys → Under limit (xs ++ ys)
+  under-append {xs = []} hs gs = gs
+  under-append {xs = x ∷ xs} hs gs = under-cons (hs .each 0) (under-append (under-rest hs) gs)
+
+  pub under-below : (n : ℕ) (f : ℕ → ℕ) → ((i : ℕ) → f i < limit) → Under limit (listBelow n f)
+  under-below n f h = record {
+    each =
+        λ i.
+        elim (decLt i n) [
+          | yes l ↦ rw (below-get n f 0 i l) (h i)
+          | no g ↦
+              let past : length (listBelow n f) ≤ i = omega (arith, below-length n f) in
+              rw (List·getD-eq-default (listBelow n f) 0 past) (omega (arith, h 0))
+        ];
+  }

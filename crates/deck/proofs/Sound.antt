@@ -1,0 +1,68 @@
+-- A file that is not refused: every check held, one by one, and a file of which every check holds is not refused. Assumes nothing.
+use mathlib.Core.Path.{_≡_}
+use mathlib.Core.List.{List}
+use Prim.Native.Nat.{ℕ, _≤_}
+use lib.ListN.{length}
+use borrow.Author.Tests.{ltb-false, eqb-true, not-false, le-ltb, le-leb, eq-eqb}
+use Rattle.rules.specs.Refusal.{firstOf}
+use Rattle.rules.specs.File.{numberAt, fansIn, systemsIn, survivalOffset, weightsOffset, systemsOffset, fileLength, fileRefusal}
+use Rattle.rules.proofs.Seven.{both, within-true}
+use Rattle.rules.proofs.Accepted.{none-first}
+
+pub record Sound (bytes : List ℕ) : Type 0 where
+  pub long : 20 ≤ length bytes
+  pub version : numberAt 2 bytes 0 ≡ 1
+  pub nought : numberAt 2 bytes 2 ≡ 0
+  pub some-fan : 1 ≤ fansIn bytes
+  pub most-fans : fansIn bytes ≤ 64
+  pub some-system : 1 ≤ systemsIn bytes
+  pub most-systems : systemsIn bytes ≤ 32
+  pub survival-place : numberAt 4 bytes 8 ≡ survivalOffset
+  pub weights-place : numberAt 4 bytes 12 ≡ weightsOffset (fansIn bytes)
+  pub systems-place : numberAt 4 bytes 16 ≡ systemsOffset (fansIn bytes)
+  pub whole : length bytes ≡ fileLength (fansIn bytes) (systemsIn bytes)
+
+pub sound : (bytes : List ℕ) → fileRefusal bytes ≡ 0 → Sound bytes
+unfolding fileRefusal
+sound bytes e =
+    let short = none-first 9 _ _ e in
+    let version = none-first 10 _ _ (short .1) in
+    let size = none-first 1 _ _ (version .1) in
+    let count = none-first 11 _ _ (size .1) in
+    let layout = none-first 12 _ _ (count .1) in
+    let zeros = both _ _ (not-false _ (version .0)) in
+    let fans = within-true 1 (fansIn bytes) 64 (not-false _ (size .0)) in
+    let systems = within-true 1 (systemsIn bytes) 32 (not-false _ (count .0)) in
+    let whole = both _ _ (not-false _ (layout .0)) in
+    let third = both _ _ (whole .0) in
+    let offsets = both _ _ (third .0) in
+    record {
+      long = ltb-false _ _ (short .0);
+      version = eqb-true _ _ (zeros .0);
+      nought = eqb-true _ _ (zeros .1);
+      some-fan = fans .0;
+      most-fans = fans .1;
+      some-system = systems .0;
+      most-systems = systems .1;
+      survival-place = eqb-true _ _ (offsets .0);
+      weights-place = eqb-true _ _ (offsets .1);
+      systems-place = eqb-true _ _ (third .1);
+      whole = eqb-true _ _ (whole .1);
+    }
+
+pub not-refused : (bytes : List ℕ) → Sound bytes → fileRefusal bytes ≡ 0
+unfolding fileRefusal firstOf
+not-refused bytes s =
+    simp (
+      le-ltb (length bytes) 20 (s .long),
+      eq-eqb _ _ (s .version),
+      eq-eqb _ _ (s .nought),
+      le-leb _ _ (s .some-fan),
+      le-leb _ _ (s .most-fans),
+      le-leb _ _ (s .some-system),
+      le-leb _ _ (s .most-systems),
+      eq-eqb _ _ (s .survival-place),
+      eq-eqb _ _ (s .weights-place),
+      eq-eqb _ _ (s .systems-place),
+      eq-eqb _ _ (s .whole),
+    )

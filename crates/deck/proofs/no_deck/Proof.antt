@@ -1,0 +1,19 @@
+-- `deck::no_deck` meets its contract. Assumes nothing.
+use mathlib.Core.Path.{ap}
+use lib.ListN.{replicate}
+use borrow.Author.Needs.{needs}
+use Rattle.rules.specs.declared.System.{System}
+use Rattle.deck.proofs.no_deck.Statement.{statement}
+use Rattle.deck.proofs.no_deck.Tie as tie
+
+no-system-requires : tie.Need-no-system-requires
+no-system-requires c κs = search needs
+
+returns : tie.Need-returns
+returns c =
+    ap
+    (λ (s : System). record { fans = 0; systems = 0; survival = replicate 64 0; weights = replicate 64 0; rated = replicate 32 s })
+    (c .no-system .ensures)
+
+pub no-deck-spec : {M : Type 1} → statement M
+no-deck-spec = tie.close (tie.spec no-system-requires returns)

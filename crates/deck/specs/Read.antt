@@ -1,0 +1,51 @@
+-- What a reader hands on: a file's refusal, and its deck in arrays of fixed length.
+use mathlib.Core.List.{List, _++_}
+use Prim.Native.Nat.{ℕ, _-_}
+use lib.ListN.{length, replicate}
+use Rattle.rules.specs.declared.System.{System}
+use Rattle.rules.specs.Answer.{unless}
+use Rattle.rules.specs.File as file
+use Rattle.rules.specs.File.{fansIn, systemsIn, deckIn, fileRefusal}
+use Rattle.deck.specs.declared.Deck.{Deck}
+use Rattle.deck.specs.declared.Read.{Read}
+
+-- a list followed by so many fillers that it has k entries
+unfoldable pub padded : {A : Type 0} → (k : ℕ) (filler : A) → List A → List A
+padded k filler xs = xs ++ replicate (k - length xs) filler
+
+-- the system of zeros alone, and the deck of zeros alone, which stands beside a refusal
+abbrev pub noSystem : System
+noSystem = record { rule = record { kind = 0; first = 0; second = 0 }; a = 0; b = 0 }
+
+abbrev pub noDeck : Deck
+noDeck = record {
+  fans = 0;
+  systems = 0;
+  survival = replicate 64 0;
+  weights = replicate 64 0;
+  rated = replicate 32 noSystem;
+}
+
+-- a deck in arrays
+abbrev pub arraysOf : file.Deck → Deck
+arraysOf d = record {
+  fans = length (d .survival);
+  systems = length (d .systems);
+  survival = padded 64 0 (d .survival);
+  weights = padded 64 0 (d .weights);
+  rated = padded 32 noSystem (d .systems);
+}
+
+-- the deck that a file holds, in arrays: its n and m are those of the file
+unfoldable pub keptDeck : List ℕ → Deck
+keptDeck bytes = record {
+  fans = fansIn bytes;
+  systems = systemsIn bytes;
+  survival = padded 64 0 (deckIn bytes .survival);
+  weights = padded 64 0 (deckIn bytes .weights);
+  rated = padded 32 noSystem (deckIn bytes .systems);
+}
+
+-- the reader's answer
+unfoldable pub readOf : List ℕ → Read
+readOf bytes = record { refusal = fileRefusal bytes; deck = unless (fileRefusal bytes) (λ r. noDeck) (keptDeck bytes) }

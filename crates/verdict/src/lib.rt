@@ -1,0 +1,134 @@
+// Document 01, "The seven verdicts": the verdict on one state.
+ghost use mathlib.Core.Path.{_≡_};
+ghost use Prim.Native.Nat.{_+_, _-_, _/_, _%_, _^_, _<_, _≤_};
+ghost use lib.Count.{ones};
+ghost use lib.ListN.{length};
+ghost use Rattle.rules.specs.State.{heldIn};
+ghost use Rattle.rules.specs.Verdict.{someWindow, fails};
+ghost use Rattle.rules.specs.Refusal.{highOne};
+ghost use Rattle.rules.specs.Answer.{verdictOf};
+ghost use Rattle.refusals.specs.Accepted.{Accepted};
+ghost use Rattle.verdict.specs.First.{firstWindow, weightDown};
+use rules::Rule;
+use rules::Verdict;
+
+// The number failed.
+fn ones_of(w: u64) -> u64
+    ensures { λ r. ⌜ r ≡ ones w ⌝ }
+{
+    u64::count_ones(w) as u64
+}
+
+// As many ones as asked, from bit 0 up. All 64 are within: the full word is shifted down, not 1 up.
+fn low_ones(width: u64) -> u64
+    requires { ⌜ (1 ≤ width) × (width ≤ 64) ⌝ }
+    ensures { λ r. ⌜ r ≡ 2 ^ width - 1 ⌝ }
+{
+    0xffff_ffff_ffff_ffff >> (64 - width)
+}
+
+// The ones of w in the `width` bits from bit a up.
+fn ones_in(w: u64, a: u64, width: u64) -> u64
+    requires { ⌜ (a < 64) × (1 ≤ width) × (width ≤ 64) ⌝ }
+    ensures { λ r. ⌜ r ≡ ones (w / 2 ^ a % 2 ^ width) ⌝ }
+{
+    let mask = low_ones(width);
+    ones_of((w >> a) & mask)
+}
+
+// The ones of a window: those up to n, and where it runs past n those from 1 on. The word twice over would not fit 64 bits.
+fn held_from(n: u64, a: u64, w: u64, width: u64) -> u64
+    requires { ⌜ (a < n) × (1 ≤ width) × (width ≤ n) × (n ≤ 64) × (w < 2 ^ n) ⌝ }
+    ensures { λ r. ⌜ r ≡ heldIn n a w width ⌝ }
+{
+    let high = ones_in(w, a, width);
+    let end = a + width;
+    if end <= n {
+        return high;
+    }
+    high + ones_in(w, 0, end - n)
+}
+
+// The lowest of the starts at which a window holds `need` ones or more; the number of starts where none does.
+fn first_window(n: u64, width: u64, need: u64, w: u64, starts: u64) -> u64
+    requires { ⌜ (1 ≤ width) × (width ≤ n) × (n ≤ 64) × (w < 2 ^ n) × (starts ≤ n) ⌝ }
+    ensures { λ r. ⌜ r ≡ firstWindow n width need w starts ⌝ }
+{
+    let mut a: u64 = 0;
+    while a < starts {
+        if need <= held_from(n, a, w, width) {
+            return a;
+        }
+        a += 1;
+    }
+    starts
+}
+
+// Kinds 4 to 7: on the ring a window starts anywhere, on the line so that it ends by n.
+fn some_window(ring: bool, n: u64, width: u64, need: u64, w: u64) -> bool
+    requires { ⌜ (1 ≤ width) × (width ≤ n) × (n ≤ 64) × (w < 2 ^ n) ⌝ }
+    ensures { λ r. ⌜ r ≡ someWindow ring n width need w ⌝ }
+{
+    if ring {
+        return first_window(n, width, need, w, n) < n;
+    }
+    let starts = n + 1 - width;
+    first_window(n, width, need, w, starts) < starts
+}
+
+// Kind 2: the weights of the failed components, each component a window of one.
+fn weighed(n: u64, weights: &[u16], w: u64) -> u64
+    requires { ⌜ (length (now weights) ≡ n) × (n ≤ 64) ⌝ }
+    ensures { λ r. ⌜ r ≡ weightDown n (now (weights .entry)) w ⌝ }
+{
+    let mut sum: u64 = 0;
+    let mut i: usize = 0;
+    while i < weights.len() {
+        sum += ones_in(w, i as u64, 1) * weights[i] as u64;
+        i += 1;
+    }
+    sum
+}
+
+// Refusal 9: above bit n - 1 nothing may stand.
+fn high_one(n: u64, w: u64) -> bool
+    requires { ⌜ (1 ≤ n) × (n ≤ 64) ⌝ }
+    ensures { λ r. ⌜ r ≡ highOne n w ⌝ }
+{
+    1 < w >> (n - 1)
+}
+
+// The rows of the table, for a rule that was accepted.
+fn fails_on(rule: Rule, n: u64, weights: &[u16], w: u64) -> bool
+    requires { ⌜ (Accepted rule n (now weights)) × (w < 2 ^ n) ⌝ }
+    ensures { λ r. ⌜ r ≡ fails rule n (now (weights .entry)) w ⌝ }
+{
+    let kind = rule.kind;
+    let failed = ones_of(w);
+    match kind {
+        1 => rule.first <= failed,
+        2 => rule.first <= weighed(n, weights, w),
+        3 => rule.first <= failed && failed <= rule.second,
+        4 => some_window(false, n, rule.first, rule.first, w),
+        5 => some_window(true, n, rule.first, rule.first, w),
+        6 => some_window(false, n, rule.second, 2, w),
+        _ => some_window(true, n, rule.second, 2, w),
+    }
+}
+
+// The verdict on one state: refusals 1, 2, 5, 6 and 9, then the rule.
+pub fn verdict_on(rule: Rule, n: u64, weights: &[u16], state: u64) -> Verdict
+    ensures { λ r. ⌜ r ≡ verdictOf rule n (now (weights .entry)) state ⌝ }
+{
+    let refusal = refusals::rule_refusal(rule, n, weights);
+    if refusal != 0 {
+        return Verdict::Refused(refusal);
+    }
+    if high_one(n, state) {
+        return Verdict::Refused(9);
+    }
+    if fails_on(rule, n, weights, state) {
+        return Verdict::Fails;
+    }
+    Verdict::Works
+}
