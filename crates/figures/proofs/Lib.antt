@@ -4,3 +4,4 @@ pub mod Reach
 pub mod Turning
 pub mod Opening
 pub mod Whole
+pub mod Refused

@@ -166,6 +166,13 @@ other-reading (suc (suc (suc kind))) first second ws vs h = refl
 abbrev figureBy : (survival : List ℕ) (up : Bool) → Reading → ℕ
 figureBy survival up R = value (machineOf (R .row)) up S (numberOf survival) (length survival) (live (R .row .start))
 
+pub unread-range : (rule : Rule) (n : ℕ) (ws vs : List ℕ) → (rule .kind ≡ 2 → ⊥) → inRange rule n ws ≡ inRange rule n vs
+unread-range rule = other-range (rule .kind) (rule .first) (rule .second)
+
+pub unread-answer : (rule : Rule) (survival ws vs : List ℕ) → (rule .kind ≡ 2 → ⊥) → range rule survival ws ≡ range rule survival vs
+unread-answer rule survival ws vs k =
+    ap (λ R. Range (figureBy survival false R) (figureBy survival true R)) (other-reading (rule .kind) (rule .first) (rule .second) ws vs k)
+
 -- so two lists of weights that differ only where kind 2 would refuse give the same range
 module _ (rule : Rule) (n : ℕ) (ws vs : List ℕ) (same : length ws ≡ n → vs ≡ ws) where
   weights-same : badWeights rule n ws ws ≡ badWeights rule n ws vs
@@ -189,14 +196,11 @@ module _ (rule : Rule) (n : ℕ) (ws vs : List ℕ) (same : length ws ≡ n → 
 
   range-same : (m : ℕ) → badWeights rule n ws ws ≡ false → inRange rule m ws ≡ inRange rule m vs
   range-same m e =
-      ⊎-elim (λ s. rw s) (λ k. other-range (rule .kind) (rule .first) (rule .second) m ws vs k) (read-same e)
+      ⊎-elim (λ s. rw s) (λ k. unread-range rule m ws vs k) (read-same e)
 
   answer-same : (survival : List ℕ) → badWeights rule n ws ws ≡ false → range rule survival ws ≡ range rule survival vs
   answer-same survival e =
-      ⊎-elim (λ s. rw s)
-      (λ k. ap (λ R. Range (figureBy survival false R) (figureBy survival true R))
-      (other-reading (rule .kind) (rule .first) (rule .second) ws vs k))
-      (read-same e)
+      ⊎-elim (λ s. rw s) (λ k. unread-answer rule survival ws vs k) (read-same e)
 
 -- a whole list and its stretch from 1 to n have the same refusal and the same answer
 module _ (rule : Rule) (survival weights table : List ℕ) where

@@ -1,10 +1,10 @@
+-- `answer` rates, then clears: the cells past 7,800 are kept by the one and the other. Assumes nothing.
 use borrow.Author.Needs.{needs}
+use mathlib.Core.Path.{_≡_, ap, _∙_}
+use mathlib.Core.List.{_++_}
+use lib.ListN.{replicate}
 use Rattle.figures.proofs.answer.Statement.{statement}
 use Rattle.figures.proofs.answer.Tie as tie
-use Rattle.figures.proofs.answer.Reads as reads
-use Rattle.figures.proofs.answer.Lts as lts
-use Rattle.figures.proofs.clear.Reads as clear-reads
-use Rattle.figures.proofs.rate.Reads as rate-reads
 
 rate-requires : tie.Need-rate-requires
 rate-requires c κs = search needs
@@ -16,7 +16,9 @@ same-length : tie.Need-same-length
 same-length c = search needs
 
 returns : tie.Need-returns
-returns c = ?
+returns c =
+    let e = c .before .before .before .before .before .before .rate .ensures in
+    (rw (e .0 .low, e .0 .high), c .before .before .clear .ensures ∙ ap (λ rest. replicate 7800 0 ++ rest) (e .1 .rest))
 
 pub answer-spec : {M : Type 1} → statement M
 answer-spec = tie.close (tie.spec rate-requires clear-requires same-length returns)

@@ -1,71 +1,86 @@
+-- `refusal` tries the conditions of `stretchRefusal` in their order. Assumes nothing.
 use borrow.Author.Needs.{needs}
+use mathlib.Core.Path.{_≡_, sym, ap, _∙_}
+use mathlib.Core.Bool.{cond}
+use native.Mathlib.Omega.{arith}
+use lib.ListN.{length}
+use borrow.Author.Tests.{lt-ltb, le-ltb, not-false}
+use Rattle.rules.proofs.Seven.{within-true}
+use Rattle.rules.specs.Refusal.{aboveUnit, stretchRefusal}
+use Rattle.rules.proofs.Accepted.{in-stretch, first-of, first-after}
+use Rattle.refusals.proofs.Laws.{after-none, after-some}
+use Rattle.figures.proofs.Refused.{part-is, rated-short, rest-is}
 use Rattle.figures.proofs.refusal.Statement.{statement}
 use Rattle.figures.proofs.refusal.Tie as tie
-use Rattle.figures.proofs.refusal.Reads as reads
-use Rattle.figures.proofs.refusal.Lts as lts
-use Rattle.figures.proofs.above_unit.Reads as above-unit-reads
-use Rattle.figures.proofs.rated_weights.Reads as rated-weights-reads
-use Rattle.figures.proofs.stretch_out.Reads as stretch-out-reads
-use Rattle.refusals.proofs.kind_out.Reads as kind-out-reads
-use Rattle.refusals.proofs.rated_refusal.Reads as rated-refusal-reads
-use Rattle.refusals.proofs.size_out.Reads as size-out-reads
 
 kind-out-requires : tie.Need-kind-out-requires
 kind-out-requires c κs = search needs
 
 returns : tie.Need-returns
-returns c = ?
+unfolding stretchRefusal
+returns c = sym (first-of 1 _ _ (sym (c .before .kind-out .ensures) ∙ c .if1 .taken))
 
 size-out-requires : tie.Need-size-out-requires
 size-out-requires c κs = search needs
 
 returns-2 : tie.Need-returns-2
-returns-2 c = ?
+unfolding stretchRefusal
+returns-2 c = sym (first-after 1 _ _ (sym (c .before .before .before .kind-out .ensures) ∙ c .before .before .if1 .left) ∙ first-of 2 _ _ (sym (c .before .size-out .ensures) ∙ c .if2 .taken))
 
 stretch-out-requires : tie.Need-stretch-out-requires
 stretch-out-requires c κs = search needs
 
 returns-3 : tie.Need-returns-3
-returns-3 c = ?
+unfolding stretchRefusal
+returns-3 c = sym (first-after 1 _ _ (sym (c .before .before .before .before .before .kind-out .ensures) ∙ c .before .before .before .before .if1 .left) ∙ first-after 2 _ _ (sym (c .before .before .before .size-out .ensures) ∙ c .before .before .if2 .left) ∙ first-of 3 _ _ (sym (c .before .stretch-out .ensures) ∙ c .if3 .taken))
 
 sub-from : tie.Need-sub-from
-sub-from c = ?
+sub-from c = omega (arith, in-stretch (c .before .before .before .before .before .before .before .before .before .args .a) (c .before .before .before .before .before .before .before .before .before .args .b) (length (c .before .before .before .before .before .before .before .before .before .args .survival .now)) (sym (c .before .stretch-out .ensures) ∙ c .if3 .left))
 
 mul-above-unit : tie.Need-mul-above-unit
-mul-above-unit c = ?
+mul-above-unit c = omega (arith, in-stretch (c .before .before .before .before .before .before .before .before .before .args .a) (c .before .before .before .before .before .before .before .before .before .args .b) (length (c .before .before .before .before .before .before .before .before .before .args .survival .now)) (sym (c .before .stretch-out .ensures) ∙ c .if3 .left))
 
 sub-above-unit : tie.Need-sub-above-unit
-sub-above-unit c = ?
+sub-above-unit c = omega (arith, in-stretch (c .before .before .before .before .before .before .before .before .before .args .a) (c .before .before .before .before .before .before .before .before .before .args .b) (length (c .before .before .before .before .before .before .before .before .before .args .survival .now)) (sym (c .before .stretch-out .ensures) ∙ c .if3 .left))
 
 part-above-unit-start : tie.Need-part-above-unit-start
-part-above-unit-start c = ?
+part-above-unit-start c = omega (arith, in-stretch (c .before .before .before .before .before .before .before .before .before .args .a) (c .before .before .before .before .before .before .before .before .before .args .b) (length (c .before .before .before .before .before .before .before .before .before .args .survival .now)) (sym (c .before .stretch-out .ensures) ∙ c .if3 .left))
 
 part-above-unit-end : tie.Need-part-above-unit-end
-part-above-unit-end c = ?
+part-above-unit-end c = omega (arith, in-stretch (c .before .before .before .before .before .before .before .before .before .args .a) (c .before .before .before .before .before .before .before .before .before .args .b) (length (c .before .before .before .before .before .before .before .before .before .args .survival .now)) (sym (c .before .stretch-out .ensures) ∙ c .if3 .left))
 
 above-unit-requires : tie.Need-above-unit-requires
 above-unit-requires c κs = search needs
 
 returns-4 : tie.Need-returns-4
-returns-4 c = ?
+unfolding stretchRefusal
+returns-4 c = sym (first-after 1 _ _ (sym (c .before .before .before .before .before .before .before .before .kind-out .ensures) ∙ c .before .before .before .before .before .before .before .if1 .left) ∙ first-after 2 _ _ (sym (c .before .before .before .before .before .before .size-out .ensures) ∙ c .before .before .before .before .before .if2 .left) ∙ first-after 3 _ _ (sym (c .before .before .before .before .stretch-out .ensures) ∙ c .before .before .before .if3 .left) ∙ first-of 4 _ _ (sym (c .before .above-unit .ensures ∙ ap aboveUnit (part-is (c .before .before .before .before .before .before .before .before .before .before .before .before .args .a) (c .before .before .before .before .before .before .before .before .before .before .before .before .args .b) _ _ (sym (c .before .before .before .before .stretch-out .ensures) ∙ c .before .before .before .if3 .left))) ∙ c .if4 .taken))
 
 rated-weights-requires : tie.Need-rated-weights-requires
-rated-weights-requires c κs = ?
+rated-weights-requires c κs = sym (c .before .before .before .before .stretch-out .ensures) ∙ c .before .before .before .if3 .left
 
 sub-rated-refusal : tie.Need-sub-rated-refusal
-sub-rated-refusal c = ?
+sub-rated-refusal c = omega (arith, in-stretch (c .before .before .before .before .before .before .before .before .before .before .before .before .before .args .a) (c .before .before .before .before .before .before .before .before .before .before .before .before .before .args .b) (length (c .before .before .before .before .before .before .before .before .before .before .before .before .before .args .survival .now)) (sym (c .before .before .before .before .before .stretch-out .ensures) ∙ c .before .before .before .before .if3 .left))
 
 rated-refusal-requires : tie.Need-rated-refusal-requires
-rated-refusal-requires c κs = ?
+rated-refusal-requires c κs =
+    let small = within-true 1 (length (c .before .before .before .before .before .before .before .before .before .before .before .before .before .args .survival .now)) 64 (not-false _ (sym (c .before .before .before .before .before .before .before .size-out .ensures) ∙ c .before .before .before .before .before .before .if2 .left)) in
+    (small .1, rw (c .rated-weights .ensures) (rated-short (c .before .before .before .before .before .before .before .before .before .before .before .before .before .args .rule) _ (c .before .before .before .before .before .before .before .before .before .before .before .before .before .args .weights .now) (c .before .before .before .before .before .before .before .before .before .before .before .before .before .args .a) (c .before .before .before .before .before .before .before .before .before .before .before .before .before .args .b)))
 
 returns-5 : tie.Need-returns-5
-returns-5 c = ?
+returns-5 c =
+    let rest = rest-is (c .before .before .before .before .before .before .before .before .before .before .before .before .before .before .before .args .rule) (c .before .before .before .before .before .before .before .before .before .before .before .before .before .before .before .args .a) (c .before .before .before .before .before .before .before .before .before .before .before .before .before .before .before .args .b) (c .before .before .before .before .before .before .before .before .before .before .before .before .before .before .before .args .survival .now) (c .before .before .before .before .before .before .before .before .before .before .before .before .before .before .before .args .weights .now) (c .before .before .before .before .before .before .before .before .before .before .before .before .before .before .before .args .table .now) (sym (c .before .before .before .before .before .before .before .before .before .before .before .kind-out .ensures) ∙ c .before .before .before .before .before .before .before .before .before .before .if1 .left) (sym (c .before .before .before .before .before .before .before .before .before .size-out .ensures) ∙ c .before .before .before .before .before .before .before .before .if2 .left) (sym (c .before .before .before .before .before .before .before .stretch-out .ensures) ∙ c .before .before .before .before .before .before .if3 .left) (sym (c .before .before .before .before .above-unit .ensures ∙ ap aboveUnit (part-is (c .before .before .before .before .before .before .before .before .before .before .before .before .before .before .before .args .a) (c .before .before .before .before .before .before .before .before .before .before .before .before .before .before .before .args .b) _ _ (sym (c .before .before .before .before .before .before .before .stretch-out .ensures) ∙ c .before .before .before .before .before .before .if3 .left))) ∙ c .before .before .before .if4 .left) (c .before .rated-refusal .ensures) (c .before .before .rated-weights .ensures) in
+    sym (rest ∙ after-some _ _ (c .if5 .taken))
 
 returns-6 : tie.Need-returns-6
-returns-6 c = ?
+returns-6 c =
+    let rest = rest-is (c .before .before .before .before .before .before .before .before .before .before .before .before .before .before .before .before .args .rule) (c .before .before .before .before .before .before .before .before .before .before .before .before .before .before .before .before .args .a) (c .before .before .before .before .before .before .before .before .before .before .before .before .before .before .before .before .args .b) (c .before .before .before .before .before .before .before .before .before .before .before .before .before .before .before .before .args .survival .now) (c .before .before .before .before .before .before .before .before .before .before .before .before .before .before .before .before .args .weights .now) (c .before .before .before .before .before .before .before .before .before .before .before .before .before .before .before .before .args .table .now) (sym (c .before .before .before .before .before .before .before .before .before .before .before .before .kind-out .ensures) ∙ c .before .before .before .before .before .before .before .before .before .before .before .if1 .left) (sym (c .before .before .before .before .before .before .before .before .before .before .size-out .ensures) ∙ c .before .before .before .before .before .before .before .before .before .if2 .left) (sym (c .before .before .before .before .before .before .before .before .stretch-out .ensures) ∙ c .before .before .before .before .before .before .before .if3 .left) (sym (c .before .before .before .before .before .above-unit .ensures ∙ ap aboveUnit (part-is (c .before .before .before .before .before .before .before .before .before .before .before .before .before .before .before .before .args .a) (c .before .before .before .before .before .before .before .before .before .before .before .before .before .before .before .before .args .b) _ _ (sym (c .before .before .before .before .before .before .before .before .stretch-out .ensures) ∙ c .before .before .before .before .before .before .before .if3 .left))) ∙ c .before .before .before .before .if4 .left) (c .before .before .rated-refusal .ensures) (c .before .before .before .rated-weights .ensures) in
+    sym (rest ∙ after-none _ _ (c .before .if5 .left) ∙ ap (λ t. cond t 7 0) (lt-ltb _ _ (c .if6 .taken)))
 
 returns-7 : tie.Need-returns-7
-returns-7 c = ?
+returns-7 c =
+    let rest = rest-is (c .before .before .before .before .before .before .before .before .before .before .before .before .before .before .before .before .args .rule) (c .before .before .before .before .before .before .before .before .before .before .before .before .before .before .before .before .args .a) (c .before .before .before .before .before .before .before .before .before .before .before .before .before .before .before .before .args .b) (c .before .before .before .before .before .before .before .before .before .before .before .before .before .before .before .before .args .survival .now) (c .before .before .before .before .before .before .before .before .before .before .before .before .before .before .before .before .args .weights .now) (c .before .before .before .before .before .before .before .before .before .before .before .before .before .before .before .before .args .table .now) (sym (c .before .before .before .before .before .before .before .before .before .before .before .before .kind-out .ensures) ∙ c .before .before .before .before .before .before .before .before .before .before .before .if1 .left) (sym (c .before .before .before .before .before .before .before .before .before .before .size-out .ensures) ∙ c .before .before .before .before .before .before .before .before .before .if2 .left) (sym (c .before .before .before .before .before .before .before .before .stretch-out .ensures) ∙ c .before .before .before .before .before .before .before .if3 .left) (sym (c .before .before .before .before .before .above-unit .ensures ∙ ap aboveUnit (part-is (c .before .before .before .before .before .before .before .before .before .before .before .before .before .before .before .before .args .a) (c .before .before .before .before .before .before .before .before .before .before .before .before .before .before .before .before .args .b) _ _ (sym (c .before .before .before .before .before .before .before .before .stretch-out .ensures) ∙ c .before .before .before .before .before .before .before .if3 .left))) ∙ c .before .before .before .before .if4 .left) (c .before .before .rated-refusal .ensures) (c .before .before .before .rated-weights .ensures) in
+    sym (rest ∙ after-none _ _ (c .before .if5 .left) ∙ ap (λ t. cond t 7 0) (le-ltb _ _ (c .if6 .left)))
 
 pub refusal-spec : {M : Type 1} → statement M
 refusal-spec =

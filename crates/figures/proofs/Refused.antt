@@ -1,0 +1,152 @@
+-- The refusal of a stretch, as the code works it out: 1 to 4, then 5 and 6 over the weights that are rated, then 7; and what its absence says of the
+-- part that is rated. Weights that kind 2 does not read change nothing. Assumes nothing.
+use Prim.Native.Nat.{ℕ, suc, _+_, _-_, _≤_, _<_}
+use mathlib.Core.Path.{_≡_, refl, sym, ap, _∙_}
+use mathlib.Core.Bool.{Bool, true, false, cond, not, _&&_, _||_, true≢false}
+use mathlib.Core.Logic.{_⊎_, inl, inr, ⊎-elim}
+use mathlib.Core.List.{List, [], _∷_}
+use native.Mathlib.Omega.{arith}
+use lib.Dec.{eqb, ltb}
+use lib.ListN.{length, getD, take, drop, length-take, length-drop}
+use borrow.Author.Tests.{eqb-true, eqb-false, eq-eqb, ne-eqb, ltb-false, not-false}
+use Rattle.rules.specs.declared.Rule.{Rule}
+use Rattle.rules.specs.State.{S, numberOf}
+use Rattle.rules.specs.Below.{total}
+use Rattle.rules.specs.Stretch.{stretch}
+use Rattle.rules.specs.Refusal.{cells, firstOf, badKind, badSize, badStretch, aboveUnit, badWeights, inRange, shortTable, stretchRefusal}
+use Rattle.rules.specs.Answer.{range}
+use Rattle.rules.proofs.Seven.{within-true}
+use Rattle.rules.proofs.Reading.{by-test}
+use Rattle.rules.proofs.Conditions.{below-unit}
+use Rattle.rules.proofs.Accepted as accepted
+use Rattle.rules.proofs.Accepted.{first-same, first-after, in-stretch, stretch-length, stretch-sound, unread-range, unread-answer}
+use Rattle.refusals.specs.Shared.{weightsOut, rangeOut, ratedRefusal, after}
+use Rattle.refusals.proofs.Laws.{range-total, range-other, weights-sound}
+use Rattle.memory.specs.Step.{limitOf}
+use Rattle.figures.specs.Level.{Rated}
+use Rattle.figures.specs.Outcome.{ratedOf, Sound}
+use Rattle.figures.proofs.Whole.{limited}
+
+-- the part as the code takes it
+pub part-is : (a b n : ℕ) (xs : List ℕ) → badStretch a b n ≡ false → take (b - (a - 1)) (drop (a - 1) xs) ≡ stretch a b xs
+unfolding stretch
+part-is a b n xs e =
+    let h = in-stretch a b n e in
+    let d : b - (a - 1) ≡ suc b - a = omega arith in
+    rw d
+
+module _ (rule : Rule) (n : ℕ) (ws : List ℕ) (a b : ℕ) where
+  -- either they are the stretch's weights, or kind 2 has too few or too many, or the kind reads none
+  rated-by : ((ratedOf rule n ws a b ≡ stretch a b ws) × (length ws ≡ n)) ⊎ (((rule .kind ≡ 2) × (eqb (length ws) n ≡ false)) ⊎ (rule .kind ≡ 2 → ⊥))
+  unfolding ratedOf
+  rated-by = go (eqb (rule .kind) 2) refl (eqb (length ws) n) refl
+    where
+      go : (k : Bool) → eqb (rule .kind) 2 ≡ k → (t : Bool) → eqb (length ws) n ≡ t
+          → ((cond (eqb (rule .kind) 2) (cond (eqb (length ws) n) (stretch a b ws) []) [] ≡ stretch a b ws) × (length ws ≡ n)) ⊎ (((rule .kind ≡ 2) × (eqb (length ws) n ≡ false)) ⊎ (rule .kind ≡ 2 → ⊥))
+      go true e true d = inl (rw (e, d), eqb-true _ _ d)
+      go true e false d = inr (inl (eqb-true _ _ e, d))
+      go false e t d = inr (inr (eqb-false _ _ e))
+
+  five-same : weightsOut rule n (length ws) (total (ratedOf rule n ws a b)) ≡ badWeights rule n ws (stretch a b ws)
+  unfolding badWeights
+  five-same =
+      ⊎-elim (λ s. rw (s .0)) (λ o. ⊎-elim (λ k. rw (eq-eqb (rule .kind) 2 (k .0), k .1)) (λ k. rw (ne-eqb (rule .kind) 2 k)) o) rated-by
+
+  six-same : (m : ℕ) → badWeights rule n ws (stretch a b ws) ≡ false → rangeOut rule m (total (ratedOf rule n ws a b)) ≡ not (inRange rule m (stretch a b ws))
+  unfolding badWeights
+  six-same m e =
+      ⊎-elim
+      (λ s. rw (s .0) (sym (range-total rule m (stretch a b ws))))
+      (λ o. ⊎-elim
+      (λ k. absurd (true≢false (rw (eq-eqb _ _ (k .0), k .1) at e)))
+      (λ k. range-other rule m _ (total (stretch a b ws)) k ∙ sym (range-total rule m (stretch a b ws))) o)
+      rated-by
+
+  pub own-is : (m : ℕ) → ratedRefusal rule n (length ws) m (total (ratedOf rule n ws a b)) ≡ firstOf ((5, badWeights rule n ws (stretch a b ws)) ∷ (6, not (inRange rule m (stretch a b ws))) ∷ [])
+  unfolding ratedRefusal
+  own-is m = first-same 5 _ _ _ _ five-same (λ e. first-same 6 _ _ _ _ (six-same m (sym five-same ∙ e)) (λ r. refl))
+
+  pub rated-short : length (ratedOf rule n ws a b) ≤ length ws
+  unfolding ratedOf stretch
+  rated-short =
+      by-test (λ xs. length xs ≤ length ws) (eqb (rule .kind) 2) (cond (eqb (length ws) n) (stretch a b ws) []) []
+      (λ _. by-test (λ xs. length xs ≤ length ws) (eqb (length ws) n) (stretch a b ws) [] (λ _. simp (length-take, length-drop) (omega arith)) (λ _. omega arith))
+      (λ _. omega arith)
+
+  rated-read : badWeights rule n ws (stretch a b ws) ≡ false → ((ratedOf rule n ws a b ≡ stretch a b ws) × (length ws ≡ n)) ⊎ (rule .kind ≡ 2 → ⊥)
+  unfolding badWeights
+  rated-read e = ⊎-elim inl (λ o. ⊎-elim (λ k. absurd (true≢false (rw (eq-eqb _ _ (k .0), k .1) at e))) inr o) rated-by
+
+seven-after : (b c d : Bool) → firstOf ((5, b) ∷ (6, c) ∷ (7, d) ∷ []) ≡ after (firstOf ((5, b) ∷ (6, c) ∷ [])) (cond d 7 0)
+unfolding firstOf after
+seven-after true c d = refl
+seven-after false true d = refl
+seven-after false false d = refl
+
+module _ (rule : Rule) (a b : ℕ) (survival weights table : List ℕ) where
+  -- 5, 6 and 7 once 1 to 4 are past
+  pub rest-is : badKind rule ≡ false → badSize (length survival) ≡ false → badStretch a b (length survival) ≡ false → aboveUnit (stretch a b survival) ≡ false
+      → {own : ℕ} {rated : List ℕ} → own ≡ ratedRefusal rule (length survival) (length weights) (b - (a - 1)) (total rated) → rated ≡ ratedOf rule (length survival) weights a b
+      → stretchRefusal rule a b survival weights table ≡ after own (cond (shortTable table) 7 0)
+  unfolding stretchRefusal
+  rest-is one two three four e d =
+      let h = in-stretch a b (length survival) three in
+      let m : length (stretch a b survival) ≡ b - (a - 1) = stretch-length a b survival three ∙ omega arith in
+      first-after 1 _ _ one ∙ first-after 2 _ _ two ∙ first-after 3 _ _ three ∙ first-after 4 _ _ four
+      ∙ seven-after _ _ _
+      ∙ ap (λ r. after r (cond (shortTable table) 7 0))
+      (sym (e ∙ ap (λ xs. ratedRefusal rule (length survival) (length weights) (b - (a - 1)) (total xs)) d ∙ own-is rule (length survival) weights a b (b - (a - 1))
+      ∙ ap (λ x. firstOf ((5, badWeights rule (length survival) weights (stretch a b weights)) ∷ (6, not (inRange rule x (stretch a b weights))) ∷ [])) (sym m)))
+
+  -- no refusal: the part is sound, and its answer is the stretch's
+  module _ (none : stretchRefusal rule a b survival weights table ≡ 0) where
+    abbrev n : ℕ
+    n = length survival
+
+    abbrev rated : List ℕ
+    rated = ratedOf rule n weights a b
+
+    abbrev part : List ℕ
+    part = stretch a b survival
+
+    sound : (badStretch a b n ≡ false) × accepted.Sound rule n part weights (stretch a b weights) table
+    sound = stretch-sound rule a b survival weights table none
+
+    pub inside : badStretch a b n ≡ false
+    inside = sound .0
+
+    size : length part ≡ suc b - a
+    size = stretch-length a b survival inside
+
+    weights-long : length weights ≡ n → length (stretch a b weights) ≡ suc b - a
+    weights-long e = stretch-length a b weights (rw e inside)
+
+    in-range : inRange rule (length part) rated ≡ true
+    in-range = ⊎-elim (λ s. rw (s .0) (sound .1 .ranged)) (λ k. unread-range rule (length part) rated (stretch a b weights) k ∙ sound .1 .ranged)
+        (rated-read rule n weights a b (sound .1 .weighed))
+
+    light : rule .kind ≡ 2 → total rated ≤ 120
+    light two = weights-sound rule n (length weights) (total rated) (five-same rule n weights a b ∙ sound .1 .weighed) two .1
+
+    pub part-sound : Sound rule part rated table
+    unfolding numberOf
+    part-sound =
+        let h = in-stretch a b n inside in
+        let w = within-true 1 n 64 (not-false _ (sound .1 .size)) in
+        let short : length part ≤ 64 = omega (arith, size) in
+        let limit = limited rule (length part) rated short light in-range in
+        record {
+          rated = record {
+            limit = limit .1;
+            some = limit .0;
+            size = short;
+            units = λ k. below-unit part (sound .1 .units) (suc k);
+            weighed = λ two. ⊎-elim (λ s. ap length (s .0) ∙ weights-long (s .1) ∙ sym size) (λ k. absurd (k two)) (rated-read rule n weights a b (sound .1 .weighed));
+          };
+          some = omega (arith, size);
+          range = in-range;
+          room = ltb-false _ _ (sound .1 .room);
+        }
+
+    pub part-answer : range rule part rated ≡ range rule part (stretch a b weights)
+    part-answer = ⊎-elim (λ s. rw (s .0)) (λ k. unread-answer rule part rated (stretch a b weights) k) (rated-read rule n weights a b (sound .1 .weighed))
