@@ -1,7 +1,2 @@
--- What the engine's proofs share.
-pub mod Cells
-pub mod Reach
-pub mod Turning
-pub mod Opening
-pub mod Whole
+-- What the two calls' proofs share.
 pub mod Refused

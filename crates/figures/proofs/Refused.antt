@@ -23,9 +23,9 @@ use Rattle.rules.proofs.Accepted.{first-same, first-after, in-stretch, stretch-
 use Rattle.refusals.specs.Shared.{weightsOut, rangeOut, ratedRefusal, after}
 use Rattle.refusals.proofs.Laws.{range-total, range-other, weights-sound}
 use Rattle.memory.specs.Step.{limitOf}
-use Rattle.figures.specs.Level.{Rated}
-use Rattle.figures.specs.Outcome.{ratedOf, Sound}
-use Rattle.figures.proofs.Whole.{limited}
+use Rattle.engine.specs.Level.{Rated, Sound}
+use Rattle.engine.proofs.Whole.{limited}
+use Rattle.figures.specs.Outcome.{ratedOf}
 
 -- the part as the code takes it
 pub part-is : (a b n : ℕ) (xs : List ℕ) → badStretch a b n ≡ false → take (b - (a - 1)) (drop (a - 1) xs) ≡ stretch a b xs

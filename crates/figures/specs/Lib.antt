@@ -1,5 +1,2 @@
--- What the engine's contracts cite: the rows of the lent table.
-pub mod Rows
-pub mod Level
-pub mod Open
+-- What the two calls answer and leave.
 pub mod Outcome

@@ -1,23 +1,15 @@
 -- What the two calls leave: the answer, and the working table.
-use Prim.Native.Nat.{ℕ, _≤_}
+use Prim.Native.Nat.{ℕ}
 use mathlib.Core.Path.{_≡_}
-use mathlib.Core.Bool.{true, cond}
+use mathlib.Core.Bool.{cond}
 use mathlib.Core.List.{List, []}
 use lib.Dec.{eqb}
 use lib.ListN.{length}
 use Rattle.rules.specs.declared.Rule.{Rule}
 use Rattle.rules.specs.declared.Rating.{Rating}
 use Rattle.rules.specs.Stretch.{stretch}
-use Rattle.rules.specs.Refusal.{cells, inRange, figuresRefusal, stretchRefusal}
+use Rattle.rules.specs.Refusal.{figuresRefusal, stretchRefusal}
 use Rattle.rules.specs.Answer.{tableAfter, figuresOf, stretchOf}
-use Rattle.figures.specs.Level.{Rated}
-
--- a list that is rated, and a rule in range for it
-pub record Sound (rule : Rule) (survival weights t : List ℕ) : Type 0 where
-  pub rated : Rated rule survival weights
-  pub some : 1 ≤ length survival
-  pub range : inRange rule (length survival) weights ≡ true
-  pub room : cells ≤ length t
 
 -- the weights of the components rated: kind 2's, where it has as many as there are components, and no others
 unfoldable pub ratedOf : Rule → (n : ℕ) (weights : List ℕ) (a b : ℕ) → List ℕ

@@ -1,0 +1,4 @@
+-- What the engine's contracts cite: the rows of the lent table.
+pub mod Rows
+pub mod Level
+pub mod Open
