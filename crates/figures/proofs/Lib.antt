@@ -1,2 +1,3 @@
 -- What the two calls' proofs share.
 pub mod Refused
+pub mod Outcome

@@ -110,6 +110,7 @@ fn refusal(rule: Rule, a: u64, b: u64, survival: &[u32], weights: &[u16], table:
 }
 
 // The figures of a stretch, from component a to component b, worked on that part of the lent lists where it stands.
+// Condition three of every range it answers: `stretch-third` of rules/proofs/Accepted.
 pub fn stretch(rule: Rule, a: u64, b: u64, survival: &[u32], weights: &[u16], table: &mut [u64]) -> Rating
     ensures { λ r. ⌜ Stretched rule a b (now (survival .entry)) (now (weights .entry)) (now (table .entry)) (now (table .exit)) r ⌝ }
 {
@@ -117,13 +118,13 @@ pub fn stretch(rule: Rule, a: u64, b: u64, survival: &[u32], weights: &[u16], ta
     if refused != 0 {
         return Rating::Refused(refused);
     }
-    let from = a as usize - 1;
+    let start = a as usize - 1;
     let upto = b as usize;
     let rated = rated_weights(rule, survival.len(), weights, a, b);
-    answer(rule, &survival[from..upto], rated, table)
+    answer(rule, &survival[start..upto], rated, table)
 }
 
-// The figures of a whole list: its stretch from 1 to n.
+// The figures of a whole list: its stretch from 1 to n. Condition three: `figures-third` of rules/proofs/Accepted.
 pub fn figures(rule: Rule, survival: &[u32], weights: &[u16], table: &mut [u64]) -> Rating
     ensures { λ r. ⌜ Listed rule (now (survival .entry)) (now (weights .entry)) (now (table .entry)) (now (table .exit)) r ⌝ }
 {

@@ -25,8 +25,8 @@ returns c =
       table = sym (unless-some _ _ _ (λ z. c .if1 .taken (c .before .refusal .ensures ∙ z)));
     }
 
-sub-from : tie.Need-sub-from
-sub-from c = omega (arith, in-stretch (c .before .before .before .before .before .before .args .a) (c .before .before .before .before .before .before .args .b) (length (c .before .before .before .before .before .before .args .survival .now)) (inside (c .before .before .before .before .before .before .args .rule) (c .before .before .before .before .before .before .args .a) (c .before .before .before .before .before .before .args .b) (c .before .before .before .before .before .before .args .survival .now) (c .before .before .before .before .before .before .args .weights .now) (c .before .before .before .before .before .before .args .table .now) (sym (c .before .refusal .ensures) ∙ c .if1 .left)))
+sub-start : tie.Need-sub-start
+sub-start c = omega (arith, in-stretch (c .before .before .before .before .before .before .args .a) (c .before .before .before .before .before .before .args .b) (length (c .before .before .before .before .before .before .args .survival .now)) (inside (c .before .before .before .before .before .before .args .rule) (c .before .before .before .before .before .before .args .a) (c .before .before .before .before .before .before .args .b) (c .before .before .before .before .before .before .args .survival .now) (c .before .before .before .before .before .before .args .weights .now) (c .before .before .before .before .before .before .args .table .now) (sym (c .before .refusal .ensures) ∙ c .if1 .left)))
 
 rated-weights-requires : tie.Need-rated-weights-requires
 rated-weights-requires c κs = inside (c .before .before .before .before .before .before .args .rule) (c .before .before .before .before .before .before .args .a) (c .before .before .before .before .before .before .args .b) (c .before .before .before .before .before .before .args .survival .now) (c .before .before .before .before .before .before .args .weights .now) (c .before .before .before .before .before .before .args .table .now) (sym (c .before .refusal .ensures) ∙ c .if1 .left)
@@ -68,7 +68,7 @@ stretch-spec =
     refusal-requires
     same-length
     returns
-    sub-from
+    sub-start
     rated-weights-requires
     mul-answer
     sub-answer
