@@ -115,6 +115,9 @@ module _ (rule : Rule) (a b : ℕ) (survival weights table : List ℕ) where
     pub inside : badStretch a b n ≡ false
     inside = sound .0
 
+    pub fits : (1 ≤ a) × (a ≤ b) × (b ≤ n)
+    fits = in-stretch a b n inside
+
     size : length part ≡ suc b - a
     size = stretch-length a b survival inside
 

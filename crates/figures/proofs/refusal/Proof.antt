@@ -5,8 +5,8 @@ use mathlib.Core.Bool.{cond}
 use native.Mathlib.Omega.{arith}
 use lib.ListN.{length}
 use borrow.Author.Tests.{lt-ltb, le-ltb, not-false}
-use Rattle.rules.proofs.Seven.{within-true}
 use Rattle.rules.specs.Refusal.{aboveUnit, stretchRefusal}
+use Rattle.rules.proofs.Seven.{within-true}
 use Rattle.rules.proofs.Accepted.{in-stretch, first-of, first-after}
 use Rattle.refusals.proofs.Laws.{after-none, after-some}
 use Rattle.figures.proofs.Refused.{part-is, rated-short, rest-is}
@@ -18,68 +18,124 @@ kind-out-requires c κs = search needs
 
 returns : tie.Need-returns
 unfolding stretchRefusal
-returns c = sym (first-of 1 _ _ (sym (c .before .kind-out .ensures) ∙ c .if1 .taken))
+returns c =
+    let one = sym (c .before .kind-out .ensures) ∙ c .if1 .taken in
+    sym (first-of 1 _ _ one)
 
 size-out-requires : tie.Need-size-out-requires
 size-out-requires c κs = search needs
 
 returns-2 : tie.Need-returns-2
 unfolding stretchRefusal
-returns-2 c = sym (first-after 1 _ _ (sym (c .before .before .before .kind-out .ensures) ∙ c .before .before .if1 .left) ∙ first-of 2 _ _ (sym (c .before .size-out .ensures) ∙ c .if2 .taken))
+returns-2 c =
+    let one = sym (c .before .before .before .kind-out .ensures) ∙ c .before .before .if1 .left in
+    let two = sym (c .before .size-out .ensures) ∙ c .if2 .taken in
+    sym (first-after 1 _ _ one ∙ first-of 2 _ _ two)
 
 stretch-out-requires : tie.Need-stretch-out-requires
 stretch-out-requires c κs = search needs
 
 returns-3 : tie.Need-returns-3
 unfolding stretchRefusal
-returns-3 c = sym (first-after 1 _ _ (sym (c .before .before .before .before .before .kind-out .ensures) ∙ c .before .before .before .before .if1 .left) ∙ first-after 2 _ _ (sym (c .before .before .before .size-out .ensures) ∙ c .before .before .if2 .left) ∙ first-of 3 _ _ (sym (c .before .stretch-out .ensures) ∙ c .if3 .taken))
+returns-3 c =
+    let one = sym (c .before .before .before .before .before .kind-out .ensures) ∙ c .before .before .before .before .if1 .left in
+    let two = sym (c .before .before .before .size-out .ensures) ∙ c .before .before .if2 .left in
+    let three = sym (c .before .stretch-out .ensures) ∙ c .if3 .taken in
+    sym (first-after 1 _ _ one ∙ first-after 2 _ _ two ∙ first-of 3 _ _ three)
 
 sub-from : tie.Need-sub-from
-sub-from c = omega (arith, in-stretch (c .before .before .before .before .before .before .before .before .before .args .a) (c .before .before .before .before .before .before .before .before .before .args .b) (length (c .before .before .before .before .before .before .before .before .before .args .survival .now)) (sym (c .before .stretch-out .ensures) ∙ c .if3 .left))
+sub-from c =
+    let x = c .before .before .before .before .before .before .before .before .before .args in
+    let three = sym (c .before .stretch-out .ensures) ∙ c .if3 .left in
+    omega (arith, in-stretch (x .a) (x .b) (length (x .survival .now)) three)
 
 mul-above-unit : tie.Need-mul-above-unit
-mul-above-unit c = omega (arith, in-stretch (c .before .before .before .before .before .before .before .before .before .args .a) (c .before .before .before .before .before .before .before .before .before .args .b) (length (c .before .before .before .before .before .before .before .before .before .args .survival .now)) (sym (c .before .stretch-out .ensures) ∙ c .if3 .left))
+mul-above-unit c =
+    let x = c .before .before .before .before .before .before .before .before .before .args in
+    let three = sym (c .before .stretch-out .ensures) ∙ c .if3 .left in
+    omega (arith, in-stretch (x .a) (x .b) (length (x .survival .now)) three)
 
 sub-above-unit : tie.Need-sub-above-unit
-sub-above-unit c = omega (arith, in-stretch (c .before .before .before .before .before .before .before .before .before .args .a) (c .before .before .before .before .before .before .before .before .before .args .b) (length (c .before .before .before .before .before .before .before .before .before .args .survival .now)) (sym (c .before .stretch-out .ensures) ∙ c .if3 .left))
+sub-above-unit c =
+    let x = c .before .before .before .before .before .before .before .before .before .args in
+    let three = sym (c .before .stretch-out .ensures) ∙ c .if3 .left in
+    omega (arith, in-stretch (x .a) (x .b) (length (x .survival .now)) three)
 
 part-above-unit-start : tie.Need-part-above-unit-start
-part-above-unit-start c = omega (arith, in-stretch (c .before .before .before .before .before .before .before .before .before .args .a) (c .before .before .before .before .before .before .before .before .before .args .b) (length (c .before .before .before .before .before .before .before .before .before .args .survival .now)) (sym (c .before .stretch-out .ensures) ∙ c .if3 .left))
+part-above-unit-start c =
+    let x = c .before .before .before .before .before .before .before .before .before .args in
+    let three = sym (c .before .stretch-out .ensures) ∙ c .if3 .left in
+    omega (arith, in-stretch (x .a) (x .b) (length (x .survival .now)) three)
 
 part-above-unit-end : tie.Need-part-above-unit-end
-part-above-unit-end c = omega (arith, in-stretch (c .before .before .before .before .before .before .before .before .before .args .a) (c .before .before .before .before .before .before .before .before .before .args .b) (length (c .before .before .before .before .before .before .before .before .before .args .survival .now)) (sym (c .before .stretch-out .ensures) ∙ c .if3 .left))
+part-above-unit-end c =
+    let x = c .before .before .before .before .before .before .before .before .before .args in
+    let three = sym (c .before .stretch-out .ensures) ∙ c .if3 .left in
+    omega (arith, in-stretch (x .a) (x .b) (length (x .survival .now)) three)
 
 above-unit-requires : tie.Need-above-unit-requires
 above-unit-requires c κs = search needs
 
 returns-4 : tie.Need-returns-4
 unfolding stretchRefusal
-returns-4 c = sym (first-after 1 _ _ (sym (c .before .before .before .before .before .before .before .before .kind-out .ensures) ∙ c .before .before .before .before .before .before .before .if1 .left) ∙ first-after 2 _ _ (sym (c .before .before .before .before .before .before .size-out .ensures) ∙ c .before .before .before .before .before .if2 .left) ∙ first-after 3 _ _ (sym (c .before .before .before .before .stretch-out .ensures) ∙ c .before .before .before .if3 .left) ∙ first-of 4 _ _ (sym (c .before .above-unit .ensures ∙ ap aboveUnit (part-is (c .before .before .before .before .before .before .before .before .before .before .before .before .args .a) (c .before .before .before .before .before .before .before .before .before .before .before .before .args .b) _ _ (sym (c .before .before .before .before .stretch-out .ensures) ∙ c .before .before .before .if3 .left))) ∙ c .if4 .taken))
+returns-4 c =
+    let x = c .before .before .before .before .before .before .before .before .before .before .before .before .args in
+    let one = sym (c .before .before .before .before .before .before .before .before .kind-out .ensures) ∙ c .before .before .before .before .before .before .before .if1 .left in
+    let two = sym (c .before .before .before .before .before .before .size-out .ensures) ∙ c .before .before .before .before .before .if2 .left in
+    let three = sym (c .before .before .before .before .stretch-out .ensures) ∙ c .before .before .before .if3 .left in
+    let four = sym (c .before .above-unit .ensures ∙ ap aboveUnit (part-is (x .a) (x .b) _ _ three)) ∙ c .if4 .taken in
+    sym (first-after 1 _ _ one ∙ first-after 2 _ _ two ∙ first-after 3 _ _ three ∙ first-of 4 _ _ four)
 
 rated-weights-requires : tie.Need-rated-weights-requires
 rated-weights-requires c κs = sym (c .before .before .before .before .stretch-out .ensures) ∙ c .before .before .before .if3 .left
 
 sub-rated-refusal : tie.Need-sub-rated-refusal
-sub-rated-refusal c = omega (arith, in-stretch (c .before .before .before .before .before .before .before .before .before .before .before .before .before .args .a) (c .before .before .before .before .before .before .before .before .before .before .before .before .before .args .b) (length (c .before .before .before .before .before .before .before .before .before .before .before .before .before .args .survival .now)) (sym (c .before .before .before .before .before .stretch-out .ensures) ∙ c .before .before .before .before .if3 .left))
+sub-rated-refusal c =
+    let x = c .before .before .before .before .before .before .before .before .before .before .before .before .before .args in
+    let three = sym (c .before .before .before .before .before .stretch-out .ensures) ∙ c .before .before .before .before .if3 .left in
+    omega (arith, in-stretch (x .a) (x .b) (length (x .survival .now)) three)
 
 rated-refusal-requires : tie.Need-rated-refusal-requires
 rated-refusal-requires c κs =
-    let small = within-true 1 (length (c .before .before .before .before .before .before .before .before .before .before .before .before .before .args .survival .now)) 64 (not-false _ (sym (c .before .before .before .before .before .before .before .size-out .ensures) ∙ c .before .before .before .before .before .before .if2 .left)) in
-    (small .1, rw (c .rated-weights .ensures) (rated-short (c .before .before .before .before .before .before .before .before .before .before .before .before .before .args .rule) _ (c .before .before .before .before .before .before .before .before .before .before .before .before .before .args .weights .now) (c .before .before .before .before .before .before .before .before .before .before .before .before .before .args .a) (c .before .before .before .before .before .before .before .before .before .before .before .before .before .args .b)))
+    let x = c .before .before .before .before .before .before .before .before .before .before .before .before .before .args in
+    let two = sym (c .before .before .before .before .before .before .before .size-out .ensures) ∙ c .before .before .before .before .before .before .if2 .left in
+    let small = within-true 1 (length (x .survival .now)) 64 (not-false _ two) in
+    (small .1, rw (c .rated-weights .ensures) (rated-short (x .rule) _ (x .weights .now) (x .a) (x .b)))
 
 returns-5 : tie.Need-returns-5
 returns-5 c =
-    let rest = rest-is (c .before .before .before .before .before .before .before .before .before .before .before .before .before .before .before .args .rule) (c .before .before .before .before .before .before .before .before .before .before .before .before .before .before .before .args .a) (c .before .before .before .before .before .before .before .before .before .before .before .before .before .before .before .args .b) (c .before .before .before .before .before .before .before .before .before .before .before .before .before .before .before .args .survival .now) (c .before .before .before .before .before .before .before .before .before .before .before .before .before .before .before .args .weights .now) (c .before .before .before .before .before .before .before .before .before .before .before .before .before .before .before .args .table .now) (sym (c .before .before .before .before .before .before .before .before .before .before .before .kind-out .ensures) ∙ c .before .before .before .before .before .before .before .before .before .before .if1 .left) (sym (c .before .before .before .before .before .before .before .before .before .size-out .ensures) ∙ c .before .before .before .before .before .before .before .before .if2 .left) (sym (c .before .before .before .before .before .before .before .stretch-out .ensures) ∙ c .before .before .before .before .before .before .if3 .left) (sym (c .before .before .before .before .above-unit .ensures ∙ ap aboveUnit (part-is (c .before .before .before .before .before .before .before .before .before .before .before .before .before .before .before .args .a) (c .before .before .before .before .before .before .before .before .before .before .before .before .before .before .before .args .b) _ _ (sym (c .before .before .before .before .before .before .before .stretch-out .ensures) ∙ c .before .before .before .before .before .before .if3 .left))) ∙ c .before .before .before .if4 .left) (c .before .rated-refusal .ensures) (c .before .before .rated-weights .ensures) in
+    let x = c .before .before .before .before .before .before .before .before .before .before .before .before .before .before .before .args in
+    let one = sym (c .before .before .before .before .before .before .before .before .before .before .before .kind-out .ensures) ∙ c .before .before .before .before .before .before .before .before .before .before .if1 .left in
+    let two = sym (c .before .before .before .before .before .before .before .before .before .size-out .ensures) ∙ c .before .before .before .before .before .before .before .before .if2 .left in
+    let three = sym (c .before .before .before .before .before .before .before .stretch-out .ensures) ∙ c .before .before .before .before .before .before .if3 .left in
+    let four = sym (c .before .before .before .before .above-unit .ensures ∙ ap aboveUnit (part-is (x .a) (x .b) _ _ three)) ∙ c .before .before .before .if4 .left in
+    let own = c .before .rated-refusal .ensures in
+    let rated = c .before .before .rated-weights .ensures in
+    let rest = rest-is (x .rule) (x .a) (x .b) (x .survival .now) (x .weights .now) (x .table .now) one two three four own rated in
     sym (rest ∙ after-some _ _ (c .if5 .taken))
 
 returns-6 : tie.Need-returns-6
 returns-6 c =
-    let rest = rest-is (c .before .before .before .before .before .before .before .before .before .before .before .before .before .before .before .before .args .rule) (c .before .before .before .before .before .before .before .before .before .before .before .before .before .before .before .before .args .a) (c .before .before .before .before .before .before .before .before .before .before .before .before .before .before .before .before .args .b) (c .before .before .before .before .before .before .before .before .before .before .before .before .before .before .before .before .args .survival .now) (c .before .before .before .before .before .before .before .before .before .before .before .before .before .before .before .before .args .weights .now) (c .before .before .before .before .before .before .before .before .before .before .before .before .before .before .before .before .args .table .now) (sym (c .before .before .before .before .before .before .before .before .before .before .before .before .kind-out .ensures) ∙ c .before .before .before .before .before .before .before .before .before .before .before .if1 .left) (sym (c .before .before .before .before .before .before .before .before .before .before .size-out .ensures) ∙ c .before .before .before .before .before .before .before .before .before .if2 .left) (sym (c .before .before .before .before .before .before .before .before .stretch-out .ensures) ∙ c .before .before .before .before .before .before .before .if3 .left) (sym (c .before .before .before .before .before .above-unit .ensures ∙ ap aboveUnit (part-is (c .before .before .before .before .before .before .before .before .before .before .before .before .before .before .before .before .args .a) (c .before .before .before .before .before .before .before .before .before .before .before .before .before .before .before .before .args .b) _ _ (sym (c .before .before .before .before .before .before .before .before .stretch-out .ensures) ∙ c .before .before .before .before .before .before .before .if3 .left))) ∙ c .before .before .before .before .if4 .left) (c .before .before .rated-refusal .ensures) (c .before .before .before .rated-weights .ensures) in
+    let x = c .before .before .before .before .before .before .before .before .before .before .before .before .before .before .before .before .args in
+    let one = sym (c .before .before .before .before .before .before .before .before .before .before .before .before .kind-out .ensures) ∙ c .before .before .before .before .before .before .before .before .before .before .before .if1 .left in
+    let two = sym (c .before .before .before .before .before .before .before .before .before .before .size-out .ensures) ∙ c .before .before .before .before .before .before .before .before .before .if2 .left in
+    let three = sym (c .before .before .before .before .before .before .before .before .stretch-out .ensures) ∙ c .before .before .before .before .before .before .before .if3 .left in
+    let four = sym (c .before .before .before .before .before .above-unit .ensures ∙ ap aboveUnit (part-is (x .a) (x .b) _ _ three)) ∙ c .before .before .before .before .if4 .left in
+    let own = c .before .before .rated-refusal .ensures in
+    let rated = c .before .before .before .rated-weights .ensures in
+    let rest = rest-is (x .rule) (x .a) (x .b) (x .survival .now) (x .weights .now) (x .table .now) one two three four own rated in
     sym (rest ∙ after-none _ _ (c .before .if5 .left) ∙ ap (λ t. cond t 7 0) (lt-ltb _ _ (c .if6 .taken)))
 
 returns-7 : tie.Need-returns-7
 returns-7 c =
-    let rest = rest-is (c .before .before .before .before .before .before .before .before .before .before .before .before .before .before .before .before .args .rule) (c .before .before .before .before .before .before .before .before .before .before .before .before .before .before .before .before .args .a) (c .before .before .before .before .before .before .before .before .before .before .before .before .before .before .before .before .args .b) (c .before .before .before .before .before .before .before .before .before .before .before .before .before .before .before .before .args .survival .now) (c .before .before .before .before .before .before .before .before .before .before .before .before .before .before .before .before .args .weights .now) (c .before .before .before .before .before .before .before .before .before .before .before .before .before .before .before .before .args .table .now) (sym (c .before .before .before .before .before .before .before .before .before .before .before .before .kind-out .ensures) ∙ c .before .before .before .before .before .before .before .before .before .before .before .if1 .left) (sym (c .before .before .before .before .before .before .before .before .before .before .size-out .ensures) ∙ c .before .before .before .before .before .before .before .before .before .if2 .left) (sym (c .before .before .before .before .before .before .before .before .stretch-out .ensures) ∙ c .before .before .before .before .before .before .before .if3 .left) (sym (c .before .before .before .before .before .above-unit .ensures ∙ ap aboveUnit (part-is (c .before .before .before .before .before .before .before .before .before .before .before .before .before .before .before .before .args .a) (c .before .before .before .before .before .before .before .before .before .before .before .before .before .before .before .before .args .b) _ _ (sym (c .before .before .before .before .before .before .before .before .stretch-out .ensures) ∙ c .before .before .before .before .before .before .before .if3 .left))) ∙ c .before .before .before .before .if4 .left) (c .before .before .rated-refusal .ensures) (c .before .before .before .rated-weights .ensures) in
+    let x = c .before .before .before .before .before .before .before .before .before .before .before .before .before .before .before .before .args in
+    let one = sym (c .before .before .before .before .before .before .before .before .before .before .before .before .kind-out .ensures) ∙ c .before .before .before .before .before .before .before .before .before .before .before .if1 .left in
+    let two = sym (c .before .before .before .before .before .before .before .before .before .before .size-out .ensures) ∙ c .before .before .before .before .before .before .before .before .before .if2 .left in
+    let three = sym (c .before .before .before .before .before .before .before .before .stretch-out .ensures) ∙ c .before .before .before .before .before .before .before .if3 .left in
+    let four = sym (c .before .before .before .before .before .above-unit .ensures ∙ ap aboveUnit (part-is (x .a) (x .b) _ _ three)) ∙ c .before .before .before .before .if4 .left in
+    let own = c .before .before .rated-refusal .ensures in
+    let rated = c .before .before .before .rated-weights .ensures in
+    let rest = rest-is (x .rule) (x .a) (x .b) (x .survival .now) (x .weights .now) (x .table .now) one two three four own rated in
     sym (rest ∙ after-none _ _ (c .before .if5 .left) ∙ ap (λ t. cond t 7 0) (le-ltb _ _ (c .if6 .left)))
 
 pub refusal-spec : {M : Type 1} → statement M
