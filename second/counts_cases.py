@@ -7,7 +7,7 @@ from foambeetle import (
     KINDS, MOST_WEIGHT, TABLE_CELLS, Refusal, Rule, count_slots_after, count_table, working_table_after,
 )
 from samples import (
-    HUGE, all_rules, edge_rules, random_rule, random_weights, unread_weights, weights_for,
+    all_rules, edge_rules, random_rule, random_weights, spoil_rule, unread_weights, weights_for,
     weights_of_total, wrong_rules,
 )
 from words import checksum, rubbish
@@ -101,20 +101,11 @@ def slot_cases(rng):
 
 def spoil(rng, case, damage):
     """The case with one thing made wrong."""
-    rule, n, weights = case.rule, case.n, case.weights
-    if damage == 1:
-        return case._replace(rule=rule._replace(kind=rng.choice((0, 8, 9, 255) + HUGE)))
-    if damage == 2:
-        return case._replace(n=rng.choice((0, 65, 79, 128) + HUGE))
-    if damage == 5:
-        wrong = rng.choice(([], [121], weights + [1, 1], [61] * n))
-        return case._replace(rule=Rule(2, 1, 0), weights=wrong)
-    if damage == 6:
-        field, number = rng.choice(("first", "second")), rng.choice((0, n + 1, 65, 121) + HUGE)
-        return case._replace(rule=rule._replace(**{field: number}))
     if damage == 7:
         return case._replace(room=rng.choice((0, 1, TABLE_CELLS - 1)))
-    return case._replace(slots=rng.randrange(min(n, MOST_SLOTS) + 1))
+    if damage == 8:
+        return case._replace(slots=rng.randrange(min(case.n, MOST_SLOTS) + 1))
+    return spoil_rule(rng, case, damage, (0, 65, 79, 128))
 
 
 def refused_cases(rng):

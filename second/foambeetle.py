@@ -369,29 +369,27 @@ def bad_rule(rule, n, rated_weights):
     return not (1 <= first <= most and second == 0)
 
 
-def verdict_refusal(rule, n, state, weights):
-    # document 01, 'Refusal numbers': "The verdict checks 1, 2, 5, 6, 9"
+def rule_refusal(rule, n, weights):
+    # document 01, 'Refusal numbers': 1, 2, 5, 6, with which the verdict and the count table begin
     if bad_kind(rule):
         return 1
     if bad_length(n):
         return 2
     if bad_weights(rule, n, weights, weights):
         return 5
-    if bad_rule(rule, n, weights):
-        return 6
-    return 9 if state >> n else None
+    return 6 if bad_rule(rule, n, weights) else None
+
+
+def verdict_refusal(rule, n, state, weights):
+    # document 01, 'Refusal numbers': "The verdict checks 1, 2, 5, 6, 9"
+    return rule_refusal(rule, n, weights) or (9 if state >> n else None)
 
 
 def count_refusal(rule, n, weights, room, slots):
     # document 01, 'Refusal numbers': "the count table 1, 2, 5, 6, 7, 8"
-    if bad_kind(rule):
-        return 1
-    if bad_length(n):
-        return 2
-    if bad_weights(rule, n, weights, weights):
-        return 5
-    if bad_rule(rule, n, weights):
-        return 6
+    first = rule_refusal(rule, n, weights)
+    if first:
+        return first
     if room < TABLE_CELLS:
         return 7
     return 8 if slots < n + 1 else None

@@ -100,3 +100,17 @@ def unread_weights(rng):
 
 def weights_for(rng, kind, n):
     return random_weights(rng, n) if kind == 2 else unread_weights(rng)
+
+
+def spoil_rule(rng, case, damage, sizes):
+    """The case with its kind (1), its n (2), its weights (5) or a number of its rule (6) made wrong."""
+    rule, n = case.rule, case.n
+    if damage == 1:
+        return case._replace(rule=rule._replace(kind=rng.choice((0, 8, 9, 255) + HUGE)))
+    if damage == 2:
+        return case._replace(n=rng.choice(sizes + HUGE))
+    if damage == 5:
+        wrong = rng.choice(([], [121], case.weights + [1, 1], [61] * n))
+        return case._replace(rule=Rule(2, 1, 0), weights=wrong)
+    field, number = rng.choice(("first", "second")), rng.choice((0, n + 1, 65, 121) + HUGE)
+    return case._replace(rule=rule._replace(**{field: number}))

@@ -5,7 +5,7 @@ from typing import NamedTuple
 
 from foambeetle import FAILS, KINDS, WORKS, Refusal, Rule, fails, verdict
 from samples import (
-    HUGE, random_rule, random_weights, rules_in_range, unread_weights, weights_of_total, wrong_rules,
+    random_rule, random_weights, rules_in_range, spoil_rule, unread_weights, weights_of_total, wrong_rules,
 )
 
 ANSWERS_WANTED = {WORKS, FAILS} | {f"refused {number}" for number in (1, 2, 5, 6, 9)}
@@ -138,18 +138,9 @@ def weight_cases(rng):
 
 def spoil(rng, case, damage):
     """The case with one thing made wrong."""
-    rule, n, state, weights = case
-    if damage == 1:
-        return case._replace(rule=rule._replace(kind=rng.choice((0, 8, 9, 255) + HUGE)))
-    if damage == 2:
-        return case._replace(n=rng.choice((0, 65, 66, 128) + HUGE))
-    if damage == 5:
-        wrong = rng.choice(([], [121], weights + [1, 1], [61] * n))
-        return case._replace(rule=Rule(2, 1, 0), weights=wrong)
-    if damage == 6:
-        field, number = rng.choice(("first", "second")), rng.choice((0, n + 1, 65, 121) + HUGE)
-        return case._replace(rule=rule._replace(**{field: number}))
-    return case._replace(state=state | 1 << min(n, 63) | 1 << 63)
+    if damage == 9:
+        return case._replace(state=case.state | 1 << min(case.n, 63) | 1 << 63)
+    return spoil_rule(rng, case, damage, (0, 65, 66, 128))
 
 
 def refused_cases(rng):
