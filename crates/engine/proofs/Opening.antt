@@ -118,7 +118,6 @@ front n i last = min (n - i - 1) last
 
 -- a turn of the ring's loop
 module _ {rule : Rule} {survival weights : List ℕ} {n last i : ℕ} {t₀ t : List ℕ} {s : Sweep} {opened : Ends} (v : Opened rule survival weights n last t₀ t s i opened) where
-
   pub bringable : i < n → Bringable rule survival weights s (front n i last) i t
   bringable some = record {
     level = v .level;

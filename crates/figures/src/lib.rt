@@ -7,8 +7,8 @@ ghost use Rattle.rules.specs.Refusal.{badStretch, aboveUnit, stretchRefusal};
 ghost use Rattle.rules.specs.Answer.{cleared, range};
 ghost use Rattle.engine.specs.Level.{Sound};
 ghost use Rattle.figures.specs.Outcome.{ratedOf, Stretched, Listed};
-
-use rules::{Rating, Rule};
+use rules::Rating;
+use rules::Rule;
 use units::UNIT;
 
 // The first 7,800 cells are 0 again.
@@ -99,7 +99,13 @@ fn refusal(rule: Rule, a: u64, b: u64, survival: &[u32], weights: &[u16], table:
         return 4;
     }
     let rated = rated_weights(rule, n, weights, a, b);
-    let own = refusals::rated_refusal(rule, n as u64, weights.len() as u64, (upto - from) as u64, rated);
+    let own = refusals::rated_refusal(
+        rule,
+        n as u64,
+        weights.len() as u64,
+        (upto - from) as u64,
+        rated,
+    );
     if own != 0 {
         return own;
     }
@@ -111,7 +117,14 @@ fn refusal(rule: Rule, a: u64, b: u64, survival: &[u32], weights: &[u16], table:
 
 // The figures of a stretch, from component a to component b, worked on that part of the lent lists where it stands.
 // Condition three of every range it answers: `stretch-third` of rules/proofs/Accepted.
-pub fn stretch(rule: Rule, a: u64, b: u64, survival: &[u32], weights: &[u16], table: &mut [u64]) -> Rating
+pub fn stretch(
+    rule: Rule,
+    a: u64,
+    b: u64,
+    survival: &[u32],
+    weights: &[u16],
+    table: &mut [u64],
+) -> Rating
     ensures { λ r. ⌜ Stretched rule a b (now (survival .entry)) (now (weights .entry)) (now (table .entry)) (now (table .exit)) r ⌝ }
 {
     let refused = refusal(rule, a, b, survival, weights, table);

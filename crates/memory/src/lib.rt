@@ -2,7 +2,6 @@
 ghost use mathlib.Core.Path.{_≡_};
 ghost use Prim.Native.Nat.{_<_, _≤_};
 ghost use Rattle.memory.specs.Step.{limitOf, heavierOf, workedOf, failedOf, endOf};
-
 use rules::Rule;
 
 // `at` counts from 0 to the rule's limit; the limit itself is dead.

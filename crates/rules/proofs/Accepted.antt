@@ -47,7 +47,6 @@ unfolding unless
 answered zero low high answer e = (refl, e)
 answered (suc r) low high answer e = let z : _≡_ {A = ℕ} 0 1 = cc in absurd (omega arith)
 
-
 pub first-same : (n : ℕ) (b c : Bool) (cs ds : List (ℕ × Bool)) → b ≡ c → (b ≡ false → firstOf cs ≡ firstOf ds) → firstOf ((n, b) ∷ cs) ≡ firstOf ((n, c) ∷ ds)
 unfolding firstOf
 first-same n true c cs ds e h = rw (← e)

@@ -84,7 +84,7 @@ module _ (f : ℕ → Bool) (r : ℕ) (pos : 0 < r) where
     λ h. record {
       apart = h .apart;
       around =
-        last _ i (λ q l a p m b. omega (arith, h .apart i (omega arith) e q l a)) (λ _ p m b. omega (arith, h .high p (omega arith) b));
+          last _ i (λ q l a p m b. omega (arith, h .apart i (omega arith) e q l a)) (λ _ p m b. omega (arith, h .high p (omega arith) b));
     },
     λ h. record {
       apart = h .apart;

@@ -40,19 +40,19 @@ rule kind first second = record { kind = kind; first = first; second = second }
 
 unfoldable pub table : List Example
 table =
-    counts (rule 6 2 3) 7 [] (1 ∷ 7 ∷ 10 ∷ 1 ∷ 0 ∷ 0 ∷ 0 ∷ 0 ∷ []) -- A
-    ∷ counts (rule 7 2 3) 7 [] (1 ∷ 7 ∷ 7 ∷ 0 ∷ 0 ∷ 0 ∷ 0 ∷ 0 ∷ []) -- B
-    ∷ counts (rule 4 2 0) 4 [] (1 ∷ 4 ∷ 3 ∷ 0 ∷ 0 ∷ []) -- C
-    ∷ counts (rule 5 2 0) 4 [] (1 ∷ 4 ∷ 2 ∷ 0 ∷ 0 ∷ []) -- D
-    ∷ counts (rule 3 1 2) 4 [] (1 ∷ 0 ∷ 0 ∷ 4 ∷ 1 ∷ []) -- E
-    ∷ counts (rule 2 2 0) 3 (2 ∷ 1 ∷ 1 ∷ []) (1 ∷ 2 ∷ 0 ∷ 0 ∷ []) -- F
-    ∷ verdict (rule 6 2 3) 7 9 Works -- G
+    counts (rule 6 2 3) 7 [] (1 ∷ 7 ∷ 10 ∷ 1 ∷ 0 ∷ 0 ∷ 0 ∷ 0 ∷ [])  -- A
+    ∷ counts (rule 7 2 3) 7 [] (1 ∷ 7 ∷ 7 ∷ 0 ∷ 0 ∷ 0 ∷ 0 ∷ 0 ∷ [])  -- B
+    ∷ counts (rule 4 2 0) 4 [] (1 ∷ 4 ∷ 3 ∷ 0 ∷ 0 ∷ [])  -- C
+    ∷ counts (rule 5 2 0) 4 [] (1 ∷ 4 ∷ 2 ∷ 0 ∷ 0 ∷ [])  -- D
+    ∷ counts (rule 3 1 2) 4 [] (1 ∷ 0 ∷ 0 ∷ 4 ∷ 1 ∷ [])  -- E
+    ∷ counts (rule 2 2 0) 3 (2 ∷ 1 ∷ 1 ∷ []) (1 ∷ 2 ∷ 0 ∷ 0 ∷ [])  -- F
+    ∷ verdict (rule 6 2 3) 7 9 Works  -- G
     ∷ verdict (rule 6 2 3) 7 5 Fails
-    ∷ verdict (rule 6 2 3) 7 33 Works -- H
+    ∷ verdict (rule 6 2 3) 7 33 Works  -- H
     ∷ verdict (rule 7 2 3) 7 33 Fails
-    ∷ figures (rule 1 1 0) (1 ∷ 1 ∷ []) (Range 0 1) -- I
-    ∷ figures (rule 1 2 0) (1 ∷ 1 ∷ []) (Range 1 2) -- J
-    ∷ figures (rule 1 1 0) (S ∷ []) (Range S S) -- K
+    ∷ figures (rule 1 1 0) (1 ∷ 1 ∷ []) (Range 0 1)  -- I
+    ∷ figures (rule 1 2 0) (1 ∷ 1 ∷ []) (Range 1 2)  -- J
+    ∷ figures (rule 1 1 0) (S ∷ []) (Range S S)  -- K
     ∷ []
 
 pub examples : All table

@@ -15,7 +15,6 @@ mul-result-2 c = omega (arith, right-le (c .before .before .pre))
 add-result : tie.Need-add-result
 add-result c = omega (arith, left-le (c .before .before .pre), right-le (c .before .before .pre))
 
-
 returns : tie.Need-returns
 unfolding rounded
 returns c = rw (c .before .before .pre .rest)
