@@ -62,7 +62,7 @@ fn widen(rule: Rule, survival: &[u32], i: usize, opened: Ends, entered: Ends) ->
     requires { ⌜ Widenable rule (now survival) i opened entered ⌝ }
     ensures { λ r. ⌜ Widened rule (now (survival .entry)) i opened entered r ⌝ }
 {
-    let p = survival[i] as u64;
+    let p = turns::chance(survival, i);
     if rule.kind == 5 {
         return step(Survival(p), Failure(UNIT - p), entered, opened);
     }

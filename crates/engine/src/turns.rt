@@ -48,6 +48,20 @@ fn width(rule: Rule, far: usize, left: usize) -> usize
     limit
 }
 
+fn wide(p: u32) -> u64
+    ensures { λ r. ⌜ r ≡ p ⌝ }
+{
+    p as u64
+}
+
+// The survival number of component i + 1.
+pub fn chance(survival: &[u32], i: usize) -> u64
+    requires { ⌜ i < length (now survival) ⌝ }
+    ensures { λ r. ⌜ r ≡ getD (now (survival .entry)) i 0 ⌝ }
+{
+    wide(survival[i])
+}
+
 // One component more.
 fn turn(rule: Rule, survival: &[u32], weights: &[u16], s: Sweep, table: &mut [u64]) -> Sweep
     requires { ⌜ (s .left < length (now survival)) × Level rule (now survival) (now weights) s (now table) ⌝ }
@@ -55,7 +69,7 @@ fn turn(rule: Rule, survival: &[u32], weights: &[u16], s: Sweep, table: &mut [u6
 {
     weigh(rule, survival, weights, s, table);
     let left = s.left;
-    let p = survival[left] as u64;
+    let p = chance(survival, left);
     let from = s.from;
     rows::row(
         Survival(p),

@@ -6,17 +6,11 @@ use Rattle.engine.specs.Open.{widened}
 use Rattle.engine.proofs.ring.widen.Statement.{statement}
 use Rattle.engine.proofs.ring.widen.Tie as tie
 
-mul-p : tie.Need-mul-p
-mul-p c = search needs
+chance-requires : tie.Need-chance-requires
+chance-requires c κs = search needs
 
-shared-slice-read-p : tie.Need-shared-slice-read-p
-shared-slice-read-p c = search needs
-
-cast-p : tie.Need-cast-p
-cast-p c = search needs
-
-sub-t12 : tie.Need-sub-t12
-sub-t12 c = search needs
+sub-t9 : tie.Need-sub-t9
+sub-t9 c = search needs
 
 step-requires : tie.Need-step-requires
 step-requires c κs = search needs
@@ -25,10 +19,11 @@ returns : tie.Need-returns
 unfolding widened
 returns c =
     let e = eq-eqb _ _ (c .before .if1 .taken) in
-    record { low = rw e (c .step .ensures .0); high = rw e (c .step .ensures .1) }
+    let s = rw (c .before .before .before .chance .ensures) at (c .step .ensures) in
+    record { low = rw e (s .0); high = rw e (s .1) }
 
-sub-t15 : tie.Need-sub-t15
-sub-t15 c = search needs
+sub-t12 : tie.Need-sub-t12
+sub-t12 c = search needs
 
 step-requires-2 : tie.Need-step-requires-2
 step-requires-2 c κs = search needs
@@ -37,18 +32,10 @@ returns-2 : tie.Need-returns-2
 unfolding widened
 returns-2 c =
     let e = ne-eqb _ _ (c .before .if1 .left) in
-    record { low = rw e (c .step2 .ensures .0); high = rw e (c .step2 .ensures .1) }
+    let s = rw (c .before .before .before .chance .ensures) at (c .step2 .ensures) in
+    record { low = rw e (s .0); high = rw e (s .1) }
 
 pub widen-spec : {M : Type 1} → statement M
 widen-spec =
     tie.close
-    (tie.spec
-    mul-p
-    shared-slice-read-p
-    cast-p
-    sub-t12
-    step-requires
-    returns
-    sub-t15
-    step-requires-2
-    returns-2)
+    (tie.spec chance-requires sub-t9 step-requires returns sub-t12 step-requires-2 returns-2)

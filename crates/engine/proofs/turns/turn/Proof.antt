@@ -1,10 +1,8 @@
 -- `turn` writes the weight's row, makes the new rows and buries the dead memory: the laws of a turn take the level on. Assumes nothing.
 use borrow.Author.Needs.{needs}
-use Prim.Native.Nat.{suc, _-_}
-use mathlib.Core.Path.{_≡_, refl, ap}
+use mathlib.Core.Path.{_≡_, refl}
 use native.Mathlib.Omega.{arith}
 use native.Mathlib.Numerals.{add-one}
-use lib.ListN.{getD}
 use Rattle.engine.proofs.Cells.{side-near, kept-trans}
 use Rattle.engine.proofs.Turning.{level-weighed, turn-ready, level-turned}
 use Rattle.engine.proofs.turns.turn.Statement.{statement}
@@ -13,17 +11,11 @@ use Rattle.engine.proofs.turns.turn.Tie as tie
 weigh-requires : tie.Need-weigh-requires
 weigh-requires c κs = search needs
 
-mul-p : tie.Need-mul-p
-mul-p c = search needs
-
-shared-slice-read-p : tie.Need-shared-slice-read-p
-shared-slice-read-p c = search needs
-
-cast-p : tie.Need-cast-p
-cast-p c = omega (arith, c .shared-slice-known3 .given (c .before .before .before .before .before .before .before .before .args .s .left))
+chance-requires : tie.Need-chance-requires
+chance-requires c κs = search needs
 
 sub-bury : tie.Need-sub-bury
-sub-bury c = omega (arith, c .before .before .before .before .before .before .before .before .pre .1 .rated .units (c .before .before .before .before .before .before .before .before .args .s .left))
+sub-bury c = rw (c .chance .ensures) (c .before .before .before .before .before .before .before .before .pre .1 .rated .units _)
 
 add-width : tie.Need-add-width
 add-width c = search needs
@@ -36,7 +28,7 @@ row-requires c κs =
     let pre = c .before .before .before .before .before .before .before .before .before .before .pre in
     let w = c .before .before .before .before .before .weigh .ensures in
     let y = level-weighed (pre .1) _ w in
-    rw (c .before .width .ensures, add-one) (turn-ready y (pre .0) (w .row) _ _ refl refl)
+    rw (c .before .width .ensures, add-one) (turn-ready y (pre .0) (w .row) _ _ (c .before .before .chance .ensures) refl)
 
 limit-requires : tie.Need-limit-requires
 limit-requires c κs = search needs
@@ -47,11 +39,11 @@ sub-bury-2 c = omega (arith, side-near (c .before .before .before .before .befor
 bury-requires : tie.Need-bury-requires
 bury-requires c κs = search needs
 
-add-t18 : tie.Need-add-t18
-add-t18 c = search needs
+add-t16 : tie.Need-add-t16
+add-t16 c = search needs
 
-sub-t12 : tie.Need-sub-t12
-sub-t12 c = omega (arith, side-near (c .before .before .before .before .before .before .before .before .before .before .before .before .before .before .before .before .before .before .pre .1 .side))
+sub-t15 : tie.Need-sub-t15
+sub-t15 c = omega (arith, side-near (c .before .before .before .before .before .before .before .before .before .before .before .before .before .before .before .before .before .before .pre .1 .side))
 
 same-length : tie.Need-same-length
 same-length c = search needs
@@ -61,7 +53,7 @@ returns c =
     let pre = c .before .before .before .before .before .before .before .before .before .before .before .before .before .before .before .before .before .before .pre in
     let w = c .before .before .before .before .before .before .before .before .before .before .before .before .before .weigh .ensures in
     let y = level-weighed (pre .1) _ w in
-    let made = rw (c .before .before .before .before .before .before .before .before .before .width .ensures, add-one) at (c .before .before .before .before .before .before .before .row .ensures) in
+    let made = rw (c .before .before .before .before .before .before .before .before .before .width .ensures, add-one, c .before .before .before .before .before .before .before .before .before .before .chance .ensures) at (c .before .before .before .before .before .before .before .row .ensures) in
     let buried = rw (c .before .before .before .before .limit .ensures) at (c .before .before .bury .ensures) in
     record {
       level = rw add-one (level-turned y (pre .0) (w .row) made buried);
@@ -76,9 +68,7 @@ turn-spec =
     tie.close
     (tie.spec
     weigh-requires
-    mul-p
-    shared-slice-read-p
-    cast-p
+    chance-requires
     sub-bury
     add-width
     width-requires
@@ -86,7 +76,7 @@ turn-spec =
     limit-requires
     sub-bury-2
     bury-requires
-    add-t18
-    sub-t12
+    add-t16
+    sub-t15
     same-length
     returns)
