@@ -12,7 +12,8 @@ use Rattle.rules.specs.Below.{listBelow}
 use Rattle.rules.specs.File.{Deck, numberAt, allBytes, headerOf, systemNumbers, fileOf, systemAt, deckIn, fileRefusal, fansIn, systemsIn}
 use Rattle.rules.specs.File.{survivalOffset, weightsOffset, systemsOffset}
 use Rattle.deck.specs.Bounds.{Bytes, Bounds}
-use Rattle.deck.proofs.Lists.{below-length, under-none, under-cons, under-append, under-below}
+use Rattle.rules.proofs.Lists.{below-length}
+use Rattle.deck.proofs.Lists.{under-none, under-cons, under-append, under-below}
 use Rattle.deck.proofs.Numbers.{Stands, all-length, number-fits, number-within, numbers-back, bytes-back, all-bytes}
 use Rattle.deck.proofs.Systems.{numbers-length, systems-back, numbers-of}
 use Rattle.deck.proofs.Sound.{Sound, sound, not-refused}

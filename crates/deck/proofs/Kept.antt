@@ -9,7 +9,8 @@ use Rattle.rules.specs.Answer.{unless}
 use Rattle.rules.specs.File.{Deck, numberAt, fansIn, systemsIn, systemAt, survivalOffset, systemsOffset, fileOf, deckIn, fileRefusal}
 use Rattle.deck.specs.Read.{noDeck, arraysOf, keptDeck, readOf}
 use Rattle.deck.specs.Bounds.{Bounds}
-use Rattle.deck.proofs.Lists.{below-length, padded-take, padded-get}
+use Rattle.rules.proofs.Lists.{below-length}
+use Rattle.deck.proofs.Lists.{padded-take, padded-get}
 use Rattle.deck.proofs.File.{file-accepted, deck-back}
 
 pub unless-refused : {A : Type 0} (r : ℕ) (x y : A) → (r ≡ 0 → ⊥) → unless r (λ n. x) y ≡ x

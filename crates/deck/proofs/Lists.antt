@@ -1,5 +1,5 @@
--- Lists made place by place, and lists padded to a length: how long they are, what stands where, and that storing the next entry in a padded
--- list pads a list of one entry more; and lists whose numbers are all below a limit. Assumes nothing.
+-- Lists padded to a length: how long they are, what stands where, and that storing the next entry in a padded list pads a list of one entry
+-- more; and lists whose numbers are all below a limit. Assumes nothing.
 use mathlib.Core.Path.{_≡_, refl, sym, ap, _∙_}
 use mathlib.Core.List.{List, [], _∷_, _++_}
 use Prim.Native.Nat.{ℕ, zero, suc, _+_, _-_, _≤_, _<_}
@@ -10,29 +10,11 @@ use native.Mathlib.Omega.{arith}
 use lib.ListN.{length, getD, take, set, replicate, length-append, List·getD-append, List·getD-eq-default}
 use lib.Seq.{ext-getD, getD-at, set-at, take-at, append-snoc}
 use Rattle.rules.specs.Below.{listBelow}
+use Rattle.rules.proofs.Lists.{below-length, below-get}
 use Rattle.deck.specs.Read.{padded}
 use Rattle.deck.specs.Bounds.{Under}
 
 module _ {A : Type 0} where
-  pub below-length : (n : ℕ) (f : ℕ → A) → length (listBelow n f) ≡ n
-  unfolding listBelow
-  below-length zero f = refl
-  below-length (suc n) f = length-append (listBelow n f) (f n ∷ []) ∙ omega (arith, below-length n f)
-
-  pub below-get : (n : ℕ) (f : ℕ → A) (d : A) (i : ℕ) → i < n → getD (listBelow n f) i d ≡ f i
-  unfolding listBelow
-  below-get zero f d i h = absurd (omega arith)
-  below-get (suc n) f d i h =
-      elim (decLt i n) [
-        | yes l ↦ List·getD-append (listBelow n f) (f n ∷ []) d i (rw (below-length n f) l) ∙ below-get n f d i l
-        | no g ↦ let e : i ≡ n = omega arith in rw e (getD-at (listBelow n f) (f n) [] d n (below-length n f))
-      ]
-
-  pub below-is : (xs : List A) (d : A) (n : ℕ) (f : ℕ → A) → length xs ≡ n → ((i : ℕ) → i < n → f i ≡ getD xs i d) → listBelow n f ≡ xs
-  below-is xs d n f e h =
-      ext-getD d (listBelow n f) xs (below-length n f ∙ sym e)
-      (λ i l. let s : i < n = rw (below-length n f) at l in below-get n f d i s ∙ h i s)
-
   padded-none : (k : ℕ) (filler : A) (f : ℕ → A) → replicate k filler ≡ padded k filler (listBelow 0 f)
   unfolding padded listBelow
   padded-none k filler f = rw sub-zero

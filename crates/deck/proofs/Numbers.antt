@@ -11,7 +11,8 @@ use lib.Seq.{drop-cons, take-add, drop-drop}
 use Rattle.rules.specs.Below.{listBelow}
 use Rattle.rules.specs.File.{bytesOf, numberAt, allBytes}
 use Rattle.deck.specs.Bounds.{Under, Bytes}
-use Rattle.deck.proofs.Lists.{below-is, under-none, under-cons, under-rest, under-append}
+use Rattle.rules.proofs.Lists.{below-is}
+use Rattle.deck.proofs.Lists.{under-none, under-cons, under-rest, under-append}
 
 -- a read past a first byte, past a list, and within one
 number-past : (width b : ℕ) (bytes : List ℕ) (at : ℕ) → numberAt width (b ∷ bytes) (suc at) ≡ numberAt width bytes at

@@ -11,7 +11,7 @@ use Rattle.rules.specs.declared.System.{System}
 use Rattle.rules.specs.Below.{listBelow}
 use Rattle.rules.specs.File.{numberAt, systemNumbers, systemAt}
 use Rattle.deck.specs.Read.{noSystem}
-use Rattle.deck.proofs.Lists.{below-is}
+use Rattle.rules.proofs.Lists.{below-is}
 
 pub numbers-length : (ss : List System) → length (systemNumbers ss) ≡ 5 * length ss
 unfolding systemNumbers

@@ -1,9 +1,8 @@
 // The deck file of document 01: its refusals, and the reader that hands its deck on.
 ghost use mathlib.Core.Path.{_≡_};
-ghost use mathlib.Core.Bool.{not};
 ghost use Prim.Native.Nat.{_+_, _*_, _≤_};
 ghost use lib.ListN.{length};
-ghost use Rattle.rules.specs.Below.{within, listBelow};
+ghost use Rattle.rules.specs.Below.{listBelow};
 ghost use Rattle.rules.specs.File.{numberAt, systemAt, survivalOffset, weightsOffset, systemsOffset, badVersion, badLayout, fileRefusal};
 ghost use Rattle.deck.specs.Read.{padded, noSystem, noDeck, keptDeck, readOf};
 use rules::Rule;
@@ -69,13 +68,6 @@ pub fn system_at(bytes: &[u8], at: usize) -> System
     System { rule, a, b }
 }
 
-// Is a count 0 or above the most that is allowed?
-fn outside(count: u64, most: u64) -> bool
-    ensures { λ r. ⌜ r ≡ not (within 1 count most) ⌝ }
-{
-    count < 1 || most < count
-}
-
 // 11: version not 1, or the zero field not 0.
 fn bad_version(bytes: &[u8]) -> bool
     requires { ⌜ 20 ≤ length (now bytes) ⌝ }
@@ -113,10 +105,10 @@ pub fn file_refusal(bytes: &[u8]) -> u64
     if bad_version(bytes) {
         return 11;
     }
-    if outside(number2(bytes, 4), 64) {
+    if refusals::outside(1, number2(bytes, 4), 64) {
         return 2;
     }
-    if outside(number2(bytes, 6), 32) {
+    if refusals::outside(1, number2(bytes, 6), 32) {
         return 12;
     }
     if bad_layout(bytes) {

@@ -14,6 +14,7 @@ use Rattle.rules.specs.declared.Rule.{Rule}
 use Rattle.rules.specs.Below.{total, within, rowOf}
 use Rattle.rules.specs.Refusal.{rangeOne, rangeTwo, badKind, badSize, badWeights, inRange, firstOf, highOne, shortTable, shortRoom, verdictRefusal, countRefusal}
 use Rattle.rules.specs.Answer.{unless}
+use Rattle.rules.proofs.Seven.{both, within-true}
 use Rattle.refusals.specs.Shared.{weightsOut, ranges, rangeOut, ratedRefusal, ruleRefusal, after}
 use Rattle.refusals.specs.Accepted.{Accepted, One, Ends, Two}
 
@@ -125,15 +126,6 @@ range-none rule n t (inr l) = ap not (List·getD-eq-default (false ∷ ranges ru
 
 -- ---- what an accepted rule is
 
-and-true : (a b : Bool) → a && b ≡ true → (a ≡ true) × (b ≡ true)
-and-true true b e = (refl, e)
-and-true false b e = absurd (false≢true e)
-
-pub within-true : (a x b : ℕ) → within a x b ≡ true → (a ≤ x) × (x ≤ b)
-within-true a x b e =
-    let h = and-true (leb a x) (leb x b) e in
-    (leb-true a x (h .0), leb-true x b (h .1))
-
 or-false : (a b : Bool) → not a || b ≡ false → (a ≡ true) × (b ≡ false)
 or-false true b e = (refl, e)
 or-false false b e = absurd (true≢false e)
@@ -180,13 +172,13 @@ accepted rule n weights e =
 
 one-true : (k most second : ℕ) → rangeOne k most second ≡ true → One k most second
 one-true k most second e =
-    let h = and-true (within 1 k most) (eqb second 0) e in
+    let h = both (within 1 k most) (eqb second 0) e in
     let i = within-true 1 k most (h .0) in
     record { low = i .0; high = i .1; none = eqb-true second 0 (h .1) }
 
 two-true : (first r n : ℕ) → rangeTwo first r n ≡ true → Two first r n
 two-true first r n e =
-    let h = and-true (eqb first 2) (within 2 r n) e in
+    let h = both (eqb first 2) (within 2 r n) e in
     let i = within-true 2 r n (h .1) in
     record { two = eqb-true first 2 (h .0); low = i .0; high = i .1 }
 

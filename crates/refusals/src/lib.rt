@@ -8,8 +8,8 @@ ghost use Rattle.rules.specs.Refusal.{badKind, badSize, rangeOne, rangeTwo};
 ghost use Rattle.refusals.specs.Shared.{rangeOut, ratedRefusal, ruleRefusal};
 use rules::Rule;
 
-// The ends belong to the range.
-fn outside(low: u64, x: u64, high: u64) -> bool
+// Is x outside a range, whose ends belong to it?
+pub fn outside(low: u64, x: u64, high: u64) -> bool
     ensures { λ r. ⌜ r ≡ not (within low x high) ⌝ }
 {
     if x < low {

@@ -1,6 +1,7 @@
 -- The theorems about document 01's definitions, from the ground up.
 pub mod Examples
 pub mod Sums
+pub mod Lists
 pub mod Bits
 pub mod Words
 pub mod Split

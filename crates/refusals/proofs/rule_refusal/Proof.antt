@@ -4,7 +4,8 @@ use native.Mathlib.Nat.{le-refl}
 use borrow.Author.Needs.{needs}
 use borrow.Author.Tests.{not-false}
 use Rattle.rules.specs.Below.{within}
-use Rattle.refusals.proofs.Laws.{rated-after, within-true}
+use Rattle.rules.proofs.Seven.{within-true}
+use Rattle.refusals.proofs.Laws.{rated-after}
 use Rattle.refusals.proofs.rule_refusal.Statement.{statement}
 use Rattle.refusals.proofs.rule_refusal.Tie as tie
 
