@@ -75,12 +75,11 @@ fn cell(p: Survival, q: Failure, table: &[u64], from: usize, m: usize) -> Ends
     requires { ⌜ Steady (p .0) (q .0) (now table) from m ⌝ }
     ensures { λ r. ⌜ Stepped (p .0) (now (table .entry)) from m r ⌝ }
 {
-    let works = table[2400 + m] as usize;
-    let fails = table[3000 + m] as usize;
-    let high = 1200 + from;
+    let works = from + table[2400 + m] as usize;
+    let fails = from + table[3000 + m] as usize;
     Ends {
-        low: units::round_down(p, q, table[from + works], table[from + fails]),
-        high: units::round_up(p, q, table[high + works], table[high + fails]),
+        low: units::round_down(p, q, table[works], table[fails]),
+        high: units::round_up(p, q, table[1200 + works], table[1200 + fails]),
     }
 }
 
