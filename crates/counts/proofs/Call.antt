@@ -1,0 +1,74 @@
+-- The public call: which kinds are lines, what a call that is not refused is known by, and that either way ends as document 01 has it.
+-- Assumes nothing.
+use mathlib.Core.Path.{_≡_, refl, sym, ap, _∙_}
+use mathlib.Core.Bool.{Bool, true, false, cond}
+use mathlib.Core.Logic.{_⊎_, inl, inr}
+use mathlib.Core.List.{List, _++_}
+use Prim.Native.Nat.{ℕ, zero, suc, _≤_}
+use native.Mathlib.Omega.{arith}
+use lib.Dec.{ltb}
+use lib.ListN.{length, drop, replicate}
+use borrow.Author.Tests.{ltb-false}
+use Rattle.rules.specs.declared.Rule.{Rule}
+use Rattle.rules.specs.declared.Counting.the-variants as counting
+use Rattle.rules.specs.Count.{countsOf}
+use Rattle.rules.specs.Refusal.{countRefusal}
+use Rattle.rules.specs.Answer.{unless, countingOf, roomAfter}
+use Rattle.rules.proofs.Seven.{seven}
+use Rattle.refusals.specs.Shared.{after, ruleRefusal}
+use Rattle.refusals.proofs.Laws.{count-after, unless-none, unless-some, accepted}
+use Rattle.counts.specs.Fill.{refusalOf, Fillable, Filled, Line}
+use Rattle.counts.specs.Outcome.{Outcome}
+use Rattle.counts.proofs.Cells.{outside-drop, written-list}
+
+-- the kinds that are left
+pub line-left : (kind : ℕ) → 1 ≤ kind → kind ≤ 7 → ((kind ≡ 1) ⊎ (kind ≡ 3) → ⊥) → ((kind ≡ 5) ⊎ (kind ≡ 7) → ⊥) → Line kind
+line-left =
+    seven (λ k. ((k ≡ 1) ⊎ (k ≡ 3) → ⊥) → ((k ≡ 5) ⊎ (k ≡ 7) → ⊥) → Line k)
+    (λ a b. absurd (a (inl refl)))
+    (λ a b. inl refl)
+    (λ a b. absurd (a (inr refl)))
+    (λ a b. inr (inl refl))
+    (λ a b. absurd (b (inl refl)))
+    (λ a b. inr (inr refl))
+    (λ a b. absurd (b (inr refl)))
+
+after-none : (r next : ℕ) → after r next ≡ 0 → (r ≡ 0) × (next ≡ 0)
+unfolding after
+after-none zero next e = (refl, e)
+after-none (suc r) next e = absurd (omega arith)
+
+none-short : (a b : Bool) → _≡_ {A = ℕ} (cond a 7 (cond b 8 0)) 0 → (a ≡ false) × (b ≡ false)
+none-short true b e = absurd (omega arith)
+none-short false true e = absurd (omega arith)
+none-short false false e = (refl, refl)
+
+module _ (rule : Rule) (n : ℕ) (weights table room : List ℕ) {number : ℕ} (e : number ≡ refusalOf rule n weights (length table) (length room)) where
+  pub fillable : number ≡ 0 → Fillable rule n weights table room
+  fillable z =
+      let a = after-none (ruleRefusal rule n weights) _ (sym e ∙ z) in
+      let s = none-short (ltb (length table) 7800) (ltb (length room) (suc n)) (a .1) in
+      record { sound = accepted rule n weights (a .0); long = ltb-false _ _ (s .0); slots = ltb-false _ _ (s .1) }
+
+  same : number ≡ countRefusal rule n weights table room
+  same = e ∙ sym (count-after rule n weights table room)
+
+  otherwise : {A : Type 0} (f : ℕ → A) (x : A) → (number ≡ 0 → ⊥) → f number ≡ unless (countRefusal rule n weights table room) f x
+  otherwise f x h = rw (← same) (sym (unless-some number f x h))
+
+  answer : {A : Type 0} (f : ℕ → A) (x : A) → number ≡ 0 → x ≡ unless (countRefusal rule n weights table room) f x
+  answer f x z = rw (← same) (sym (unless-none number f x z))
+
+  pub refused : (number ≡ 0 → ⊥) → Outcome rule n weights table room (counting.Refused number) table room
+  unfolding countingOf roomAfter
+  refused h = record { answered = otherwise _ _ h; cleared = otherwise (λ r. table) _ h; written = otherwise (λ r. room) _ h }
+
+  pub counted : {used tableExit roomExit : List ℕ} → number ≡ 0 → Filled rule n weights table room used roomExit
+      → tableExit ≡ replicate 7800 0 ++ drop 7800 used → Outcome rule n weights table room counting.Counted tableExit roomExit
+  unfolding countingOf roomAfter countsOf
+  counted z f d =
+      record {
+        answered = answer _ _ z;
+        cleared = d ∙ ap (λ x. replicate 7800 0 ++ x) (outside-drop (f .used)) ∙ answer (λ r. table) _ z;
+        written = written-list (fillable z .slots) (f .counts) ∙ answer (λ r. room) _ z;
+      }

@@ -1,0 +1,163 @@
+-- Laws of cells: what a store, a run of zeros, and one change after another leave of a table, and that a list is known by its cells.
+-- Assumes nothing.
+use mathlib.Core.Path.{_≡_, refl, sym, ap, _∙_}
+use mathlib.Core.Bool.{Bool, true, false}
+use mathlib.Core.Logic.{_⊎_, inl, inr, ⊎-elim}
+use mathlib.Core.List.{List, [], _∷_, _++_}
+use Prim.Native.Nat.{ℕ, zero, suc, _+_, _-_, _≤_, _<_}
+use native.Mathlib.Omega.{arith}
+use lib.Dec.{ltb}
+use lib.ListN.{length, getD, drop, set, replicate, length-set, length-append, length-drop, length-replicate, getD-replicate, List·getD-append}
+use lib.Seq.{ext-getD, getD-drop, getD-set-same, getD-set-other, getD-append-add}
+use borrow.Author.Tests.{ltb-true, ltb-false}
+use Rattle.rules.specs.Below.{listBelow}
+use Rattle.counts.specs.Cells.{Row, Outside, Written}
+
+pub below-or : (a b : ℕ) → (a < b) ⊎ (b ≤ a)
+below-or a b = go (ltb a b) refl
+  where
+    go : (t : Bool) → ltb a b ≡ t → (a < b) ⊎ (b ≤ a)
+    go true e = inl (ltb-true a b e)
+    go false e = inr (ltb-false a b e)
+
+module _ {from to : ℕ} where
+  pub outside-none : {t : List ℕ} → Outside from to t t
+  outside-none = record { long = refl; low = λ p l. refl; high = λ p l. refl }
+
+  pub outside-set : {a b : List ℕ} (p v : ℕ) → from ≤ p → p < to → Outside from to a b → Outside from to a (set b p v)
+  outside-set {b = b} p v l h o =
+      record {
+        long = length-set b p v ∙ o .long;
+        low = λ q m. getD-set-other b p q v 0 (λ e. omega arith) ∙ o .low q m;
+        high = λ q m. getD-set-other b p q v 0 (λ e. omega arith) ∙ o .high q m;
+      }
+
+  pub outside-then : {a b c : List ℕ} → Outside from to a b → Outside from to b c → Outside from to a c
+  outside-then f g =
+      record {
+        long = g .long ∙ f .long;
+        low = λ p l. g .low p l ∙ f .low p l;
+        high = λ p l. g .high p l ∙ f .high p l;
+      }
+
+  pub outside-wider : {from′ to′ : ℕ} {a b : List ℕ} → from′ ≤ from → to ≤ to′ → Outside from to a b → Outside from′ to′ a b
+  outside-wider l h o = record { long = o .long; low = λ p m. o .low p (omega arith); high = λ p m. o .high p (omega arith) }
+
+module _ {f : ℕ → ℕ} {off from to : ℕ} where
+  pub written-none : {t : List ℕ} → to ≤ from → Written f off from to t t
+  written-none l = record { row = record { is = λ k p m h e. absurd (omega arith) }; rest = outside-none }
+
+  -- one cell more, at the high end
+  pub written-up : {a b : List ℕ} (p v : ℕ) → from ≤ to → p ≡ off + to → p < length b → v ≡ f to → Written f off from to a b
+      → Written f off from (to + 1) a (set b p v)
+  written-up {b = b} p v order e l same w =
+      record {
+        row = record { is = λ k q m h d. ⊎-elim (old k q m d) (new k q h d) (below-or k to) };
+        rest = outside-set p v (omega arith) (omega arith) (outside-wider (omega arith) (omega arith) (w .rest));
+      }
+    where
+      old : (k q : ℕ) → from ≤ k → q ≡ off + k → k < to → getD (set b p v) q 0 ≡ f k
+      old k q m d h = getD-set-other b p q v 0 (λ c. omega arith) ∙ w .row .is k q m h d
+
+      new : (k q : ℕ) → k < to + 1 → q ≡ off + k → to ≤ k → getD (set b p v) q 0 ≡ f k
+      new k q h d g =
+          let at : k ≡ to = omega arith in
+          let here : q ≡ p = omega arith in
+          rw (at, here) (getD-set-same b p v 0 l ∙ same)
+
+  -- one cell more, at the low end
+  pub written-down : {a b : List ℕ} (low p v : ℕ) → low + 1 ≡ from → from ≤ to → p ≡ off + low → p < length b → v ≡ f low → Written f off from to a b
+      → Written f off low to a (set b p v)
+  written-down {b = b} low p v next order e l same w =
+      record {
+        row = record { is = λ k q m h d. ⊎-elim (new k q m d) (old k q h d) (below-or k from) };
+        rest = outside-set p v (omega arith) (omega arith) (outside-wider (omega arith) (omega arith) (w .rest));
+      }
+    where
+      old : (k q : ℕ) → k < to → q ≡ off + k → from ≤ k → getD (set b p v) q 0 ≡ f k
+      old k q h d m = getD-set-other b p q v 0 (λ c. omega arith) ∙ w .row .is k q m h d
+
+      new : (k q : ℕ) → low ≤ k → q ≡ off + k → k < from → getD (set b p v) q 0 ≡ f k
+      new k q m d g =
+          let at : k ≡ low = omega arith in
+          let here : q ≡ p = omega arith in
+          rw (at, here) (getD-set-same b p v 0 l ∙ same)
+
+-- a row that holds the same by another name
+pub row-same : {f g : ℕ → ℕ} {off from to : ℕ} {t : List ℕ} → ((k : ℕ) → from ≤ k → k < to → f k ≡ g k) → Row f off from to t → Row g off from to t
+row-same h r = record { is = λ k p l m e. r .is k p l m e ∙ h k l m }
+
+pub written-same : {f g : ℕ → ℕ} {off from to : ℕ} {a b : List ℕ} → ((k : ℕ) → from ≤ k → k < to → f k ≡ g k) → Written f off from to a b → Written g off from to a b
+written-same h w = record { row = row-same h (w .row); rest = w .rest }
+
+-- what stands past the cells that may differ is as it was
+pub outside-drop : {n : ℕ} {a b : List ℕ} → Outside 0 n a b → drop n b ≡ drop n a
+outside-drop {n} {a} {b} o =
+    ext-getD 0 (drop n b) (drop n a) (length-drop n b ∙ ap (λ x. x - n) (o .long) ∙ sym (length-drop n a))
+    (λ i l. getD-drop n b i 0 ∙ o .high (n + i) (omega arith) ∙ sym (getD-drop n a i 0))
+
+-- the cells of `listBelow`
+length-below : (k : ℕ) (f : ℕ → ℕ) → length (listBelow k f) ≡ k
+unfolding listBelow
+length-below zero f = refl
+length-below (suc k) f = length-append (listBelow k f) (f k ∷ []) ∙ omega (arith, length-below k f)
+
+-- the cells of a list and of what follows it
+append-low : (xs ys : List ℕ) (n i : ℕ) → length xs ≡ n → i < n → getD (xs ++ ys) i 0 ≡ getD xs i 0
+append-low xs ys n i e l = List·getD-append xs ys 0 i (omega arith)
+
+append-high : (xs ys : List ℕ) (n i : ℕ) → length xs ≡ n → n ≤ i → getD (xs ++ ys) i 0 ≡ getD ys (i - n) 0
+append-high xs ys n i e l =
+    let k : i ≡ length xs + (i - n) = omega arith in
+    ap (λ x. getD (xs ++ ys) x 0) k ∙ getD-append-add xs ys (i - n) 0
+
+below-cell : (k : ℕ) (f : ℕ → ℕ) (i : ℕ) → i < k → getD (listBelow k f) i 0 ≡ f i
+unfolding listBelow
+below-cell zero f i l = absurd (omega arith)
+below-cell (suc k) f i l =
+    ⊎-elim
+    (λ h. append-low (listBelow k f) (f k ∷ []) k i (length-below k f) h ∙ below-cell k f i h)
+    (λ h.
+    let e : i - k ≡ 0 = omega arith in
+    let d : k ≡ i = omega arith in
+    append-high (listBelow k f) (f k ∷ []) k i (length-below k f) h ∙ ap (λ x. getD (f k ∷ []) x 0) e ∙ ap f d)
+    (below-or i k)
+
+-- past the first n cells
+drop-cell : (n : ℕ) (a : List ℕ) (i : ℕ) → n ≤ i → getD (drop n a) (i - n) 0 ≡ getD a i 0
+drop-cell n a i l =
+    let d : n + (i - n) ≡ i = omega arith in
+    getD-drop n a (i - n) 0 ∙ ap (λ x. getD a x 0) d
+
+-- the first n cells set to 0
+module _ (a : List ℕ) {b : List ℕ} (n : ℕ) (fits : n ≤ length a) (e : b ≡ replicate n 0 ++ drop n a) where
+  pub zero-cell : (p : ℕ) → p < n → getD b p 0 ≡ 0
+  zero-cell p l = rw e (append-low (replicate n 0) (drop n a) n p (length-replicate n 0) l ∙ getD-replicate n p 0 0 l)
+
+  zero-high : (p : ℕ) → n ≤ p → getD b p 0 ≡ getD a p 0
+  zero-high p l = rw e (append-high (replicate n 0) (drop n a) n p (length-replicate n 0) l ∙ drop-cell n a p l)
+
+  pub zero-outside : Outside 0 n a b
+  zero-outside =
+      record {
+        long = rw e (length-append (replicate n 0) (drop n a) ∙ omega (arith, length-replicate {A = ℕ} n 0, length-drop n a));
+        low = λ p l. absurd (omega arith);
+        high = zero-high;
+      }
+
+-- a table whose first n cells were written, as a list
+pub written-list : {f : ℕ → ℕ} {n : ℕ} {a b : List ℕ} → n ≤ length a → Written f 0 0 n a b → b ≡ listBelow n f ++ drop n a
+written-list {f} {n} {a} {b} fits w =
+    ext-getD 0 b (listBelow n f ++ drop n a)
+    (w .rest .long ∙ omega (arith, length-append (listBelow n f) (drop n a), length-below n f, length-drop n a))
+    (λ i l. ⊎-elim (low i) (high i) (below-or i n))
+  where
+    low : (i : ℕ) → i < n → getD b i 0 ≡ getD (listBelow n f ++ drop n a) i 0
+    low i h =
+        w .row .is i i (omega arith) h (omega arith)
+        ∙ sym (append-low (listBelow n f) (drop n a) n i (length-below n f) h ∙ below-cell n f i h)
+
+    high : (i : ℕ) → n ≤ i → getD b i 0 ≡ getD (listBelow n f ++ drop n a) i 0
+    high i h =
+        w .rest .high i (omega arith)
+        ∙ sym (append-high (listBelow n f) (drop n a) n i (length-below n f) h ∙ drop-cell n a i h)

@@ -1,0 +1,55 @@
+// Document 01's count table: "Entry j is the number of working states with exactly j failed, 0 included."
+mod line; // line.rt: kinds 2, 4 and 6, read from the one start of a line
+mod number; // number.rt: kinds 1 and 3, which Pascal's row answers
+mod ring; // ring.rt: kinds 5 and 7, one lead at a time
+mod sweep; // sweep.rt: the working table over so many components
+mod turn; // turn.rt: the working table with one component more
+
+ghost use mathlib.Core.Path.{_≡_};
+ghost use Rattle.counts.specs.Fill.{refusalOf, Fillable, Filled};
+ghost use Rattle.counts.specs.Outcome.{Outcome};
+use rules::Counting;
+use rules::Rule;
+
+// Refusals 1, 2, 5, 6, 7 and 8, the lowest that applies; 0 for none.
+fn refusal(rule: Rule, n: u64, weights: &[u16], cells: usize, slots: usize) -> u64
+    ensures { λ r. ⌜ r ≡ refusalOf rule n (now (weights .entry)) cells slots ⌝ }
+{
+    let first = refusals::rule_refusal(rule, n, weights);
+    if first != 0 {
+        return first;
+    }
+    if cells < 7800 {
+        return 7;
+    }
+    if slots as u64 <= n {
+        return 8;
+    }
+    0
+}
+
+// The counts of an accepted rule, in the first n + 1 cells of the room.
+fn fill(rule: Rule, n: usize, weights: &[u16], table: &mut [u64], room: &mut [u64])
+    requires { ⌜ Fillable rule n (now weights) (now table) (now room) ⌝ }
+    ensures { λ _. ⌜ Filled rule n (now (weights .entry)) (now (table .entry)) (now (room .entry)) (now (table .exit)) (now (room .exit)) ⌝ }
+{
+    let kind = rule.kind;
+    match kind {
+        1 | 3 => number::by_number(rule, n, room),
+        5 | 7 => ring::ring(rule, n, weights, table, room),
+        _ => line::line(rule, n, weights, table, room),
+    }
+}
+
+// The count table of a rule over n components: its n + 1 entries in the room, worked in the lent table.
+pub fn counts(rule: Rule, n: u64, weights: &[u16], table: &mut [u64], room: &mut [u64]) -> Counting
+    ensures { λ r. ⌜ Outcome rule n (now (weights .entry)) (now (table .entry)) (now (room .entry)) r (now (table .exit)) (now (room .exit)) ⌝ }
+{
+    let given = refusal(rule, n, weights, table.len(), room.len());
+    if given != 0 {
+        return Counting::Refused(given);
+    }
+    fill(rule, n as usize, weights, table, room);
+    sweep::zero(table, 7800);
+    Counting::Counted
+}
