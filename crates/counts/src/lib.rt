@@ -50,6 +50,6 @@ pub fn counts(rule: Rule, n: u64, weights: &[u16], table: &mut [u64], room: &mut
         return Counting::Refused(given);
     }
     fill(rule, n as usize, weights, table, room);
-    sweep::zero(table, 7800);
+    cells::zero(table, 7800);
     Counting::Counted
 }

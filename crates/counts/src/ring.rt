@@ -15,7 +15,7 @@ fn opening(rule: Rule, n: usize, room: &mut [u64]) -> usize
     requires { ⌜ Openable rule n (now room) ⌝ }
     ensures { λ r. ⌜ Opened rule n r (now (room .entry)) (now (room .exit)) ⌝ }
 {
-    sweep::zero(room, n + 1);
+    cells::zero(room, n + 1);
     if rule.kind == 5 {
         return n - rule.first as usize;
     }

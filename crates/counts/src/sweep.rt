@@ -1,26 +1,12 @@
 // The working table for one lead: first with no component left, then a turn for each.
 ghost use mathlib.Core.Path.{_≡_};
-ghost use mathlib.Core.List.{_++_};
-ghost use Prim.Native.Nat.{_≤_, _<_};
-ghost use lib.ListN.{length, drop, replicate};
+ghost use Prim.Native.Nat.{_<_};
 ghost use Rattle.memory.specs.Step.{limitOf};
 ghost use Rattle.counts.specs.Cells.{Written};
 ghost use Rattle.counts.specs.Turn.{endsOf, Room, Startable, Started, Sweepable, Swept};
 use crate::turn;
 use memory::Memory;
 use rules::Rule;
-
-// Sets the first `count` cells to 0.
-pub fn zero(table: &mut [u64], count: usize)
-    requires { ⌜ count ≤ length (now table) ⌝ }
-    ensures { λ _. ⌜ now (table .exit) ≡ replicate count 0 ++ drop count (now (table .entry)) ⌝ }
-{
-    let mut i: usize = 0;
-    while i < count {
-        table[i] = 0;
-        i += 1;
-    }
-}
 
 // No component left, none failed: one state, which works where the memory ends working.
 fn ended(rule: Rule, lead: u64, at: u64) -> u64
@@ -52,7 +38,7 @@ fn start(rule: Rule, lead: u64, rows: usize, table: &mut [u64])
     requires { ⌜ Startable rule lead rows (now table) ⌝ }
     ensures { λ _. ⌜ Started rule lead rows (now (table .entry)) (now (table .exit)) ⌝ }
 {
-    zero(table, rows * memory::limit(rule) as usize);
+    cells::zero(table, rows * memory::limit(rule) as usize);
     ends(rule, lead, table);
 }
 

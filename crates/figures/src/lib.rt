@@ -1,8 +1,6 @@
 // Low and high: the figures of a whole list and of a stretch of it.
 ghost use mathlib.Core.Path.{_≡_};
 ghost use mathlib.Core.Bool.{false};
-ghost use Prim.Native.Nat.{_≤_};
-ghost use lib.ListN.{length};
 ghost use Rattle.rules.specs.Refusal.{badStretch, aboveUnit, stretchRefusal};
 ghost use Rattle.rules.specs.Answer.{cleared, range};
 ghost use Rattle.engine.specs.Level.{Sound};
@@ -11,25 +9,13 @@ use rules::Rating;
 use rules::Rule;
 use units::UNIT;
 
-// The first 7,800 cells are 0 again.
-fn clear(table: &mut [u64])
-    requires { ⌜ 7800 ≤ length (now table) ⌝ }
-    ensures { λ r. ⌜ now (table .exit) ≡ cleared (now (table .entry)) ⌝ }
-{
-    let mut i: usize = 0;
-    while i < 7800 {
-        table[i] = 0;
-        i += 1;
-    }
-}
-
 // The answer of a sound list.
 fn answer(rule: Rule, survival: &[u32], weights: &[u16], table: &mut [u64]) -> Rating
     requires { ⌜ Sound rule (now survival) (now weights) (now table) ⌝ }
     ensures { λ r. ⌜ (r ≡ range rule (now (survival .entry)) (now (weights .entry))) × (now (table .exit) ≡ cleared (now (table .entry))) ⌝ }
 {
     let ends = engine::rate(rule, survival, weights, table);
-    clear(table);
+    cells::zero(table, 7800);
     Rating::Range {
         low: ends.low,
         high: ends.high,

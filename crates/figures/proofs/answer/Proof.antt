@@ -1,4 +1,4 @@
--- `answer` rates, then clears: the cells past 7,800 are kept by the one and the other. Assumes nothing.
+-- `answer` rates, then sets the cells to 0: the cells past 7,800 are kept by the one and the other. Assumes nothing.
 use borrow.Author.Needs.{needs}
 use mathlib.Core.Path.{_≡_, ap, _∙_}
 use mathlib.Core.List.{_++_}
@@ -9,8 +9,8 @@ use Rattle.figures.proofs.answer.Tie as tie
 rate-requires : tie.Need-rate-requires
 rate-requires c κs = search needs
 
-clear-requires : tie.Need-clear-requires
-clear-requires c κs = search needs
+zero-requires : tie.Need-zero-requires
+zero-requires c κs = search needs
 
 same-length : tie.Need-same-length
 same-length c = search needs
@@ -18,7 +18,7 @@ same-length c = search needs
 returns : tie.Need-returns
 returns c =
     let e = c .before .before .before .before .before .before .rate .ensures in
-    (rw (e .0 .low, e .0 .high), c .before .before .clear .ensures ∙ ap (λ rest. replicate 7800 0 ++ rest) (e .1 .rest))
+    (rw (e .0 .low, e .0 .high), c .before .before .zero .ensures ∙ ap (λ rest. replicate 7800 0 ++ rest) (e .1 .rest))
 
 pub answer-spec : {M : Type 1} → statement M
-answer-spec = tie.close (tie.spec rate-requires clear-requires same-length returns)
+answer-spec = tie.close (tie.spec rate-requires zero-requires same-length returns)

@@ -1,19 +1,19 @@
--- `clear` fills from the front, one cell a turn. Assumes nothing.
-use borrow.Author.Needs.{needs}
-use Prim.Native.Nat.{_≤_, _-_}
+-- `zero` fills from the front: so many zeros, then what stood there. Assumes nothing.
 use mathlib.Core.Path.{_≡_}
 use mathlib.Core.List.{_++_}
+use Prim.Native.Nat.{_-_, _≤_}
 use native.Mathlib.Omega.{arith}
-use lib.ListN.{length, replicate, drop, length-set}
+use lib.ListN.{length, drop, replicate, length-set}
 use borrow.Author.Fill.{fill-more}
-use Rattle.figures.proofs.clear.Statement.{statement}
-use Rattle.figures.proofs.clear.Tie as tie
+use borrow.Author.Needs.{needs}
+use Rattle.cells.proofs.zero.Statement.{statement}
+use Rattle.cells.proofs.zero.Tie as tie
 
 abbrev Inv-loop : tie.InvT-loop
-Inv-loop table₀ i₀ table i = (i ≤ 7800) × (7800 ≤ length table₀) × (table ≡ replicate i 0 ++ drop i table₀) × (length table ≡ length table₀)
+Inv-loop table₀ count i₀ table i = (i ≤ count) × (count ≤ length table₀) × (table ≡ replicate i 0 ++ drop i table₀) × (length table ≡ length table₀)
 
 abbrev μ-loop : tie.MeasureT-loop
-μ-loop table₀ i₀ table i = 7800 - i
+μ-loop table₀ count i₀ table i = count - i
 
 loop-holds : tie.Need-loop-holds Inv-loop μ-loop
 loop-holds c = search needs
@@ -44,11 +44,11 @@ same-length c = search needs
 
 returns : tie.Need-returns Inv-loop μ-loop
 returns c =
-    let e : c .before .loop .i ≡ 7800 = omega arith in
+    let e : c .before .loop .i ≡ c .before .before .args .count = omega arith in
     rw e at (c .before .loop .inv .2)
 
-pub clear-spec : {M : Type 1} → statement M
-clear-spec =
+pub zero-spec : {M : Type 1} → statement M
+zero-spec =
     tie.close
     (tie.spec
     Inv-loop
