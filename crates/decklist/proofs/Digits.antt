@@ -1,0 +1,75 @@
+-- The digits that `io::decimal` writes, the fewest that hold a number, are the number's decimal digits; and how long a line can be. Assumes nothing.
+use mathlib.Core.Path.{_≡_, ap}
+use mathlib.Core.Bool.{Bool, true, false, cond}
+use mathlib.Core.List.{List, [], _∷_, _++_}
+use Prim.Native.Nat.{ℕ, zero, suc, _+_, _*_, _-_, _/_, _%_, _^_, _≤_, _<_}
+use native.Mathlib.Nat.{one-le-pow, pow-le-pow-right}
+use native.Mathlib.Decide.{decLe}
+use native.Mathlib.Omega.{arith}
+use lib.Dec.{ltb}
+use lib.ListN.{length, length-append}
+use borrow.Author.Tests.{lt-ltb, le-ltb}
+use Rattle.rules.specs.declared.Rating.{Rating}
+use Rattle.rules.specs.declared.Rating.the-variants.{Range, Refused}
+use Rattle.io.specs.Digits.{glyph, digits, Fewest}
+use Rattle.decklist.specs.Lines.{text, digitsIn, decimal, pairText, ratingText, lineText, linesText}
+
+-- by one digit: the number without its last one has one fewer
+digits-are : (most k n : ℕ) → Fewest 10 1 n (suc k) → k < most → digits 10 (suc k) n ≡ digitsIn most n
+unfolding digitsIn
+digits-are zero k n f l = absurd (omega arith)
+digits-are (suc most) zero n f l =
+    let small : n < 10 = omega (arith, f .1) in
+    let last : n % 10 ≡ n = omega arith in
+    rw (last, lt-ltb n 10 small)
+digits-are (suc most) (suc k) n f l =
+    let e : suc (suc k) - 1 ≡ suc k = omega arith in
+    let large : 10 ^ suc k ≤ n = rw e at (f .2 (omega arith)) in
+    let some : 1 ≤ 10 ^ k = one-le-pow k 10 (omega arith) in
+    let d : suc k - 1 ≡ k = omega arith in
+    let fewer : Fewest 10 1 (n / 10) (suc k) = (omega arith, omega (arith, f .1), λ h. rw d (omega arith)) in
+    let last : n % 10 < 10 = omega arith in
+    rw (le-ltb n 10 (omega arith), lt-ltb (n % 10) 10 last)
+    (ap (λ xs. xs ++ ((48 + n % 10) ∷ [])) (digits-are most k (n / 10) fewer (omega arith)))
+
+pub fewest-decimal : (n k : ℕ) → n < 2 ^ 64 → Fewest 10 1 n k → digits 10 k n ≡ decimal n
+fewest-decimal n zero h f = absurd (omega (arith, f .0))
+fewest-decimal n (suc zero) h f = digits-are 20 0 n f (omega arith)
+fewest-decimal n (suc (suc k)) h f =
+    elim (decLe (suc (suc k)) 20) [
+      | yes l ↦ digits-are 20 (suc k) n f (omega arith)
+      | no g ↦
+          let e : suc (suc k) - 1 ≡ suc k = omega arith in
+          let large : 10 ^ suc k ≤ n = rw e at (f .2 (omega arith)) in
+          let more : 10 ^ 20 ≤ 10 ^ suc k = pow-le-pow-right (omega arith) {i = 20} {j = suc k} (omega arith) in
+          absurd (omega arith)
+    ]
+
+-- a number of 64 bits has at most 20 digits
+digits-short : (most n : ℕ) → length (digitsIn most n) ≤ most
+unfolding digitsIn
+digits-short zero n = omega arith
+digits-short (suc most) n = go (ltb n 10) (digits-short most (n / 10))
+  where
+    go : (b : Bool) → length (digitsIn most (n / 10)) ≤ most → length (cond b ((48 + n) ∷ []) (digitsIn most (n / 10) ++ ((48 + n % 10) ∷ []))) ≤ suc most
+    go true h = omega arith
+    go false h = simp length-append (omega arith)
+
+pub decimal-short : (n : ℕ) → length (decimal n) ≤ 20
+decimal-short n = digits-short 20 n
+
+pub head-short : (n m : ℕ) → length (pairText (text "deck ") n (text " systems ") m) ≤ 55
+head-short n m = simp length-append (omega (arith, decimal-short n, decimal-short m))
+
+rating-short : (r : Rating) → length (ratingText r) ≤ 52
+rating-short (Range low high) = simp length-append (omega (arith, decimal-short low, decimal-short high))
+rating-short (Refused number) = simp length-append (omega (arith, decimal-short number))
+
+line-short : (s : ℕ) (r : Rating) → length (lineText s r) ≤ 79
+line-short s r = simp length-append (omega (arith, decimal-short s, rating-short r))
+
+pub lines-short : (m : ℕ) (answer : ℕ → Rating) → length (linesText m answer) ≤ 79 * m
+unfolding linesText
+lines-short zero answer = omega arith
+lines-short (suc m) answer =
+    omega (arith, length-append (linesText m answer) (lineText (suc m) (answer m)), lines-short m answer, line-short (suc m) (answer m))

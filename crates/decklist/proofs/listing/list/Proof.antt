@@ -1,0 +1,83 @@
+-- `listing::list` meets its contract, on a refusal and on none: all lines fit. Assumes nothing.
+use native.Mathlib.Omega.{arith}
+use Rattle.loading.proofs.Answers.{read-refusal, read-none, read-deck}
+use Rattle.decklist.proofs.Digits.{head-short}
+use Rattle.decklist.proofs.Adding.{put-added, added-more}
+use Rattle.decklist.proofs.Printed.{listed, refused-list, kept-listable, kept-list}
+use borrow.Author.Needs.{needs}
+use Rattle.decklist.proofs.listing.list.Statement.{statement}
+use Rattle.decklist.proofs.listing.list.Tie as tie
+
+read-deck-requires : tie.Need-read-deck-requires
+read-deck-requires c κs = search needs
+
+slice-aggregate-put : tie.Need-slice-aggregate-put
+slice-aggregate-put c = search needs
+
+put-requires : tie.Need-put-requires
+put-requires c κs = search needs
+
+put-refused-requires : tie.Need-put-refused-requires
+put-refused-requires c κs =
+    let start = c .before .before .before .before .before .before .before .before .before .before .before in
+    let file = c .before .before .before .put in
+    omega (arith, start .pre, file .kept, put-added (omega (arith, start .pre)) (file .ensures) .ends)
+
+same-length : tie.Need-same-length
+same-length c = search needs
+
+returns : tie.Need-returns
+returns c =
+    let start = c .before .before .before .before .before .before .before .before .before .before .before .before .before .before in
+    let read = c .before .before .before .before .before .before .before .before .before .before .before .read-deck in
+    let file = put-added (omega (arith, start .pre)) (c .before .before .before .before .before .before .put .ensures) in
+    listed (added-more file (c .before .before .put-refused .ensures))
+    (refused-list (start .args .bytes .now) (read .result .refusal) (read-refusal _ _ (read .ensures)) (c .before .before .before .before .before .before .before .before .before .if1 .taken))
+
+slice-aggregate-put-pair : tie.Need-slice-aggregate-put-pair
+slice-aggregate-put-pair c = search needs
+
+slice-aggregate-put-pair-2 : tie.Need-slice-aggregate-put-pair-2
+slice-aggregate-put-pair-2 c = search needs
+
+put-pair-requires : tie.Need-put-pair-requires
+put-pair-requires c κs = search needs
+
+put-systems-requires : tie.Need-put-systems-requires
+put-systems-requires c κs =
+    let start = c .before .before .before .before .before .before .before .before .before .before .before .before .before in
+    let read = c .before .before .before .before .before .before .before .before .before .before .read-deck in
+    let left = c .before .before .before .before .before .before .before .before .if1 .left in
+    let head = c .before .before .before .put-pair in
+    (
+      kept-listable (start .args .bytes .now) _ (read-deck _ _ (read .ensures) left) (read-none _ _ (read .ensures) left),
+      omega (arith, start .pre, head .kept, head .ensures .ends, head-short (read .result .deck .fans) (read .result .deck .systems)),
+    )
+
+same-length-2 : tie.Need-same-length-2
+same-length-2 c = search needs
+
+returns-2 : tie.Need-returns-2
+returns-2 c =
+    let start = c .before .before .before .before .before .before .before .before .before .before .before .before .before .before .before .before in
+    let read = c .before .before .before .before .before .before .before .before .before .before .before .before .before .read-deck in
+    let left = c .before .before .before .before .before .before .before .before .before .before .before .if1 .left in
+    listed (added-more (c .before .before .before .before .before .before .put-pair .ensures) (c .before .before .put-systems .ensures))
+    (kept-list (start .args .bytes .now) _ (read-deck _ _ (read .ensures) left) (read-none _ _ (read .ensures) left))
+
+pub list-spec : {M : Type 1} → statement M
+list-spec =
+    tie.close
+    (tie.spec
+    read-deck-requires
+    slice-aggregate-put
+    put-requires
+    put-refused-requires
+    same-length
+    returns
+    slice-aggregate-put-pair
+    slice-aggregate-put-pair-2
+    put-pair-requires
+    put-systems-requires
+    same-length-2
+    returns-2)

@@ -1,0 +1,73 @@
+-- `listing::put_systems` meets its contract: the buffer so far has the lines of the systems passed, and room for the rest. The measure is the
+-- number of systems left. Assumes nothing.
+use mathlib.Core.Path.{_≡_, refl}
+use Prim.Native.Nat.{_-_, _≤_}
+use native.Mathlib.Omega.{arith}
+use native.Mathlib.Numerals.{add-one}
+use lib.ListN.{length}
+use Rattle.loading.specs.Parts.{ratedAt}
+use Rattle.decklist.specs.Lines.{linesText}
+use Rattle.decklist.specs.Added.{Added}
+use Rattle.decklist.proofs.Digits.{lines-short}
+use Rattle.decklist.proofs.Adding.{none-added, added-more}
+use Rattle.decklist.proofs.listing.put_systems.Statement.{statement}
+use Rattle.decklist.proofs.listing.put_systems.Tie as tie
+
+abbrev Inv-loop : tie.InvT-loop
+Inv-loop deck out₀ at end₀ s₀ out end s =
+    (s ≤ deck .systems) × (length out ≡ length out₀) × Added (linesText s (ratedAt deck)) out₀ at out end
+
+abbrev μ-loop : tie.MeasureT-loop
+μ-loop deck out₀ at end₀ s₀ out end s = deck .systems - s
+
+loop-holds : tie.Need-loop-holds Inv-loop μ-loop
+unfolding linesText
+loop-holds c = (omega arith, refl, none-added (c .before .args .out .now) (c .before .args .at))
+
+rate-system-requires : tie.Need-rate-system-requires Inv-loop μ-loop
+rate-system-requires c κs = c .before .before .before .before .pre .0 .held _ (c .if1 .taken)
+
+add-s : tie.Need-add-s Inv-loop μ-loop
+add-s c = omega (arith, c .before .before .before .before .before .pre .0 .most)
+
+put-system-requires : tie.Need-put-system-requires Inv-loop μ-loop
+put-system-requires c κs =
+    let start = c .before .before .before .before .before .before in
+    let l = c .before .before .before .before .loop in
+    omega (arith, start .pre .1, start .pre .0 .most, l .inv .1, l .inv .2 .ends, lines-short (l .s) (ratedAt (start .args .deck)))
+
+loop-less : tie.Need-loop-less Inv-loop μ-loop
+loop-less c = omega arith
+
+loop-again : tie.Need-loop-again Inv-loop μ-loop
+unfolding linesText
+loop-again c =
+    let start = c .before .before .before .before .before .before .before .before .before in
+    let l = c .before .before .before .before .before .before .before .loop in
+    let put = c .before .before .put-system in
+    let line = rw (c .before .before .before .before .rate-system .ensures) at (put .ensures) in
+    (omega arith, omega (arith, put .kept, l .inv .1), rw add-one (added-more (l .inv .2) (rw add-one at line)))
+
+same-length : tie.Need-same-length Inv-loop μ-loop
+same-length c = c .before .before .loop .inv .1
+
+returns : tie.Need-returns Inv-loop μ-loop
+returns c =
+    let l = c .before .before .loop in
+    let e : l .s ≡ c .before .before .before .before .args .deck .systems = omega (arith, l .inv .0) in
+    rw e at (l .inv .2)
+
+pub put-systems-spec : {M : Type 1} → statement M
+put-systems-spec =
+    tie.close
+    (tie.spec
+    Inv-loop
+    μ-loop
+    loop-holds
+    rate-system-requires
+    add-s
+    put-system-requires
+    loop-less
+    loop-again
+    same-length
+    returns)

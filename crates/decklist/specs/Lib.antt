@@ -1,0 +1,3 @@
+-- What decklist prints, and how its lines come to stand in a buffer.
+pub mod Lines
+pub mod Added

@@ -1,0 +1,92 @@
+-- `figures_cases::run` meets its contract: the next case stands within the file, and the lines so far within the buffer. The measure is the
+-- number of cases left. Assumes nothing.
+use mathlib.Core.Path.{_≡_, refl, sym}
+use Prim.Native.Nat.{_-_, _≤_}
+use native.Mathlib.Omega.{arith}
+use lib.ListN.{length}
+use lib.Seq.{length-take-le}
+use borrow.Author.Tests.{not-false}
+use borrow.Author.Needs.{needs}
+use Rattle.figures_cases.proofs.run.Statement.{statement}
+use Rattle.figures_cases.proofs.run.Tie as tie
+
+abbrev Inv-loop : tie.InvT-loop
+Inv-loop bytes out₀ cases done₀ at₀ end₀ out done at end =
+    (at ≤ length bytes) × (length out ≡ length out₀) × (end ≤ length out)
+
+abbrev μ-loop : tie.MeasureT-loop
+μ-loop bytes out₀ cases done₀ at₀ end₀ out done at end = cases - done
+
+words-requires : tie.Need-words-requires Inv-loop μ-loop
+words-requires c κs = search needs
+
+returns : tie.Need-returns Inv-loop μ-loop
+returns c = (omega arith, refl)
+
+word-requires : tie.Need-word-requires Inv-loop μ-loop
+word-requires c κs = search needs
+
+loop-holds : tie.Need-loop-holds Inv-loop μ-loop
+loop-holds c = omega arith
+
+sizes-at-requires : tie.Need-sizes-at-requires Inv-loop μ-loop
+sizes-at-requires c κs = omega arith
+
+same-length : tie.Need-same-length Inv-loop μ-loop
+same-length c = c .before .before .before .before .loop .inv .1
+
+returns-2 : tie.Need-returns-2 Inv-loop μ-loop
+returns-2 c = let l = c .before .before .before .before .loop in (l .inv .2, sym (length-take-le _ _ (l .inv .2)))
+
+run-case-requires : tie.Need-run-case-requires Inv-loop μ-loop
+run-case-requires c κs = (c .before .before .before .sizes-at .ensures (not-false _ (c .before .if2 .left)), c .before .before .before .before .before .loop .inv .2)
+
+add-at : tie.Need-add-at Inv-loop μ-loop
+add-at c = omega (arith, c .before .before .before .before .before .before .before .sizes-at .ensures (not-false _ (c .before .before .before .before .before .if2 .left)))
+
+add-at-2 : tie.Need-add-at-2 Inv-loop μ-loop
+add-at-2 c = omega (arith, c .before .before .before .before .before .before .before .before .sizes-at .ensures (not-false _ (c .before .before .before .before .before .before .if2 .left)))
+
+add-at-3 : tie.Need-add-at-3 Inv-loop μ-loop
+add-at-3 c = omega (arith, c .before .before .before .before .before .before .before .before .sizes-at .ensures (not-false _ (c .before .before .before .before .before .before .if2 .left)))
+
+add-done : tie.Need-add-done Inv-loop μ-loop
+add-done c = omega arith
+
+loop-less : tie.Need-loop-less Inv-loop μ-loop
+loop-less c = omega arith
+
+loop-again : tie.Need-loop-again Inv-loop μ-loop
+loop-again c =
+    let l = c .before .before .before .before .before .before .before .before .before .before .loop in
+    let case = c .before .before .before .before .run-case in
+    omega (arith, l .inv, c .before .before .before .before .before .before .before .before .sizes-at .ensures (not-false _ (c .before .before .before .before .before .before .if2 .left)), case .kept, case .ensures)
+
+same-length-2 : tie.Need-same-length-2 Inv-loop μ-loop
+same-length-2 c = c .before .loop .inv .1
+
+returns-3 : tie.Need-returns-3 Inv-loop μ-loop
+returns-3 c = let l = c .before .loop in (l .inv .2, sym (length-take-le _ _ (l .inv .2)))
+
+pub run-spec : {M : Type 1} → statement M
+run-spec =
+    tie.close
+    (tie.spec
+    Inv-loop
+    μ-loop
+    words-requires
+    returns
+    word-requires
+    loop-holds
+    sizes-at-requires
+    same-length
+    returns-2
+    run-case-requires
+    add-at
+    add-at-2
+    add-at-3
+    add-done
+    loop-less
+    loop-again
+    same-length-2
+    returns-3)

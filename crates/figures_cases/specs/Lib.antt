@@ -1,0 +1,2 @@
+-- What is known of a case that is whole.
+pub mod Whole

@@ -1,0 +1,88 @@
+-- One number carries every answer of the call: figures stay within the unit and refusals within the table's numbers, so the number fits 64 bits,
+-- and it tells the answer: ranges and refusals never collide. Assumes nothing.
+use mathlib.Core.Path.{_≡_, refl, sym, ap, ap₂, _∙_}
+use mathlib.Core.Bool.{Bool, true, false, cond}
+use mathlib.Core.List.{List, [], _∷_}
+use Prim.Native.Nat.{ℕ, zero, suc, _+_, _*_, _^_, _≤_}
+use native.Mathlib.Omega.{arith}
+use lib.ListN.{length, replicate}
+use Rattle.rules.specs.declared.Rule.{Rule}
+use Rattle.rules.specs.declared.System.{System}
+use Rattle.rules.specs.declared.Rating.{Rating}
+use Rattle.rules.specs.declared.Rating.the-variants.{Range, Refused}
+use Rattle.rules.specs.State.{S, numberOf}
+use Rattle.rules.specs.Memory.{machine}
+use Rattle.rules.specs.Figure.{figure}
+use Rattle.rules.specs.Stretch.{stretch}
+use Rattle.rules.specs.Refusal.{cells, firstOf, aboveUnit, stretchRefusal}
+use Rattle.rules.specs.Answer.{unless, stretchOf}
+use Rattle.rules.specs.File.{Deck, badNumber, fileRefusal, systemOf, packed, loadingOf}
+use Rattle.rules.proofs.Enclosure.{value-le}
+use Rattle.rules.proofs.Conditions.{below-unit}
+use Rattle.rules.proofs.Accepted.{stretch-sound}
+use Rattle.loading.specs.Packing.{Packable}
+
+-- a refusal of a list of conditions is 0 or one of the list's numbers
+first-le : (n : ℕ) (b : Bool) (cs : List (ℕ × Bool)) → n ≤ 14 → firstOf cs ≤ 14 → firstOf ((n, b) ∷ cs) ≤ 14
+unfolding firstOf
+first-le n true cs h l = h
+first-le n false cs h l = l
+
+first-none : firstOf [] ≤ 14
+unfolding firstOf
+first-none = omega arith
+
+unless-packable : (r : ℕ) (answer : Rating) → r ≤ 14 → (r ≡ 0 → Packable answer) → Packable (unless r Refused answer)
+unfolding unless
+unless-packable zero answer h l = l refl
+unless-packable (suc r) answer h l = h
+
+-- a figure is a value of a memory, and stays within the unit
+figure-le : (up : Bool) (rule : Rule) (survival weights : List ℕ) → aboveUnit survival ≡ false → figure up S rule survival weights ≤ S
+figure-le up rule survival weights units =
+    value-le (machine rule weights) S (numberOf survival) (omega arith) up (length survival) (λ i l. below-unit survival units i) _
+
+stretch-le : (rule : Rule) (a b : ℕ) (survival weights table : List ℕ) → stretchRefusal rule a b survival weights table ≤ 14
+unfolding stretchRefusal
+stretch-le rule a b survival weights table =
+    first-le 1 _ _ (omega arith) (first-le 2 _ _ (omega arith) (first-le 3 _ _ (omega arith) (first-le 4 _ _ (omega arith)
+    (first-le 5 _ _ (omega arith) (first-le 6 _ _ (omega arith) (first-le 7 _ _ (omega arith) first-none))))))
+
+system-packable : (d : Deck) (s : System) → Packable (systemOf d s)
+unfolding systemOf stretchOf
+system-packable d s =
+    let table = replicate {A = ℕ} cells 0 in
+    let within : (up : Bool) → stretchRefusal (s .rule) (s .a) (s .b) (d .survival) (d .weights) table ≡ 0
+        → figure up S (s .rule) (stretch (s .a) (s .b) (d .survival)) (stretch (s .a) (s .b) (d .weights)) ≤ S
+    = λ up e. figure-le up (s .rule) _ _ (stretch-sound (s .rule) (s .a) (s .b) (d .survival) (d .weights) table e .1 .units) in
+    unless-packable _ _ (stretch-le (s .rule) (s .a) (s .b) (d .survival) (d .weights) table) (λ e. (within false e, within true e))
+
+pub loading-packable : (bytes : List ℕ) (s : ℕ) → Packable (loadingOf bytes s)
+unfolding loadingOf fileRefusal
+loading-packable bytes s =
+    unless-packable _ _
+    (first-le 10 _ _ (omega arith) (first-le 11 _ _ (omega arith) (first-le 2 _ _ (omega arith) (first-le 12 _ _ (omega arith)
+    (first-le 13 _ _ (omega arith) first-none)))))
+    (λ e. numbered (badNumber bytes s) _ (system-packable _ _))
+  where
+    numbered : (b : Bool) (answer : Rating) → Packable answer → Packable (cond b (Refused 14) answer)
+    numbered true answer h = omega arith
+    numbered false answer h = h
+
+-- the number tells the answer
+pub packed-tells : (r q : Rating) → Packable r → Packable q → packed r ≡ packed q → r ≡ q
+packed-tells (Range l h) (Range m g) s t e =
+    let low : l ≡ m = omega arith in
+    let high : h ≡ g = omega arith in
+    ap₂ Range low high
+packed-tells (Range l h) (Refused n) s t e = absurd (omega arith)
+packed-tells (Refused n) (Range l h) s t e = absurd (omega arith)
+packed-tells (Refused n) (Refused k) s t e = let same : n ≡ k = omega arith in ap Refused same
+
+-- any two outcomes that the contract allows are equal
+pub one-outcome : (bytes : List ℕ) (s r q : ℕ) → r ≡ packed (loadingOf bytes s) → q ≡ packed (loadingOf bytes s) → r ≡ q
+one-outcome bytes s r q e d = e ∙ sym d
+
+-- and equal numbers come of equal answers
+pub one-answer : (bytes other : List ℕ) (s t : ℕ) → packed (loadingOf bytes s) ≡ packed (loadingOf other t) → loadingOf bytes s ≡ loadingOf other t
+one-answer bytes other s t e = packed-tells _ _ (loading-packable bytes s) (loading-packable other t) e

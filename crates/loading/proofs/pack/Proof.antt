@@ -1,0 +1,43 @@
+-- `loading::pack` meets its contract: each half stays below 2^32. Assumes nothing.
+use mathlib.Core.Path.{sym}
+use native.Mathlib.Omega.{arith}
+use borrow.Author.Needs.{needs}
+use Rattle.loading.proofs.pack.Statement.{statement}
+use Rattle.loading.proofs.pack.Tie as tie
+
+enum-known-rating : tie.Need-enum-known-rating
+enum-known-rating c = search needs
+
+mul-result : tie.Need-mul-result
+mul-result c = omega (arith, rw (c .before .rating .given .1) at (c .before .before .before .pre))
+
+add-result : tie.Need-add-result
+add-result c = omega (arith, rw (c .before .rating .given .1) at (c .before .before .before .pre))
+
+enum-known-rating-2 : tie.Need-enum-known-rating-2
+enum-known-rating-2 c = search needs
+
+mul-result-2 : tie.Need-mul-result-2
+mul-result-2 c = search needs
+
+add-result-2 : tie.Need-add-result-2
+add-result-2 c = omega (arith, rw (c .before .rating2 .given .1) at (c .before .before .before .pre))
+
+returns : tie.Need-returns
+returns c = rw (c .before .rating .given .1)
+
+returns-2 : tie.Need-returns-2
+returns-2 c = rw (c .before .rating2 .given .1)
+
+pub pack-spec : {M : Type 1} → statement M
+pack-spec =
+    tie.close
+    (tie.spec
+    enum-known-rating
+    mul-result
+    add-result
+    enum-known-rating-2
+    mul-result-2
+    add-result-2
+    returns
+    returns-2)
