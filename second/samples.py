@@ -1,10 +1,29 @@
 """Rules, survival numbers and weights to draw from, shared by the checks and the case files."""
 
+from collections.abc import Sequence
+
 from foambeetle import KINDS, MOST_WEIGHT, UNIT, Rule
 
 HUGE = (2 ** 16, 2 ** 32, 2 ** 63, 2 ** 64 - 1)
 OVER_UNIT = (UNIT + 1, 2 ** 31, 2 ** 32 - 1)
 EDGE_SURVIVALS = (0, 1, UNIT // 2, UNIT - 1, UNIT)
+
+
+class Rules(Sequence):
+    """Rules over a range of numbers, each made when it is asked for: a heavy deck has tens of thousands."""
+
+    def __init__(self, rule, number, numbers):
+        self.rule, self.number, self.numbers = rule, number, numbers
+
+    def __len__(self):
+        return len(self.numbers)
+
+    def __getitem__(self, place):
+        return self.rule(self.numbers[place])
+
+    def __contains__(self, rule):
+        number = self.number(rule)
+        return number in self.numbers and rule == self.rule(number)
 
 
 def rules_in_range(kind, n, total):
@@ -13,9 +32,9 @@ def rules_in_range(kind, n, total):
     if kind == 3:
         return [Rule(3, low, high) for high in range(n + 1) for low in range(high + 1)]
     if kind in (6, 7):
-        return [Rule(kind, 2, r) for r in range(2, n + 1)]
+        return Rules(lambda r: Rule(kind, 2, r), lambda rule: rule.second, range(2, n + 1))
     most = total if kind == 2 else n
-    return [Rule(kind, k, 0) for k in range(1, most + 1)]
+    return Rules(lambda k: Rule(kind, k, 0), lambda rule: rule.first, range(1, most + 1))
 
 
 def all_rules(n, total):
@@ -31,7 +50,7 @@ def edge_rules(kind, n, total):
     else:
         most = total if kind == 2 else n
         pairs = ((1, 0), (2, 0), (most // 2, 0), (most - 1, 0), (most, 0))
-    accepted = set(rules_in_range(kind, n, total))
+    accepted = rules_in_range(kind, n, total)
     return [rule for rule in (Rule(kind, *pair) for pair in pairs) if rule in accepted]
 
 
