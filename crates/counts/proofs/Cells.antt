@@ -11,6 +11,7 @@ use lib.ListN.{length, getD, drop, set, replicate, length-set, length-append, le
 use lib.Seq.{ext-getD, getD-drop, getD-set-same, getD-set-other, getD-append-add}
 use borrow.Author.Tests.{ltb-true, ltb-false}
 use Rattle.rules.specs.Below.{listBelow}
+use Rattle.rules.proofs.Lists.{below-length, below-get}
 use Rattle.counts.specs.Cells.{Row, Outside, Written}
 
 pub below-or : (a b : ℕ) → (a < b) ⊎ (b ≤ a)
@@ -96,12 +97,6 @@ outside-drop {n} {a} {b} o =
     ext-getD 0 (drop n b) (drop n a) (length-drop n b ∙ ap (λ x. x - n) (o .long) ∙ sym (length-drop n a))
     (λ i l. getD-drop n b i 0 ∙ o .high (n + i) (omega arith) ∙ sym (getD-drop n a i 0))
 
--- the cells of `listBelow`
-length-below : (k : ℕ) (f : ℕ → ℕ) → length (listBelow k f) ≡ k
-unfolding listBelow
-length-below zero f = refl
-length-below (suc k) f = length-append (listBelow k f) (f k ∷ []) ∙ omega (arith, length-below k f)
-
 -- the cells of a list and of what follows it
 append-low : (xs ys : List ℕ) (n i : ℕ) → length xs ≡ n → i < n → getD (xs ++ ys) i 0 ≡ getD xs i 0
 append-low xs ys n i e l = List·getD-append xs ys 0 i (omega arith)
@@ -110,18 +105,6 @@ append-high : (xs ys : List ℕ) (n i : ℕ) → length xs ≡ n → n ≤ i →
 append-high xs ys n i e l =
     let k : i ≡ length xs + (i - n) = omega arith in
     ap (λ x. getD (xs ++ ys) x 0) k ∙ getD-append-add xs ys (i - n) 0
-
-below-cell : (k : ℕ) (f : ℕ → ℕ) (i : ℕ) → i < k → getD (listBelow k f) i 0 ≡ f i
-unfolding listBelow
-below-cell zero f i l = absurd (omega arith)
-below-cell (suc k) f i l =
-    ⊎-elim
-    (λ h. append-low (listBelow k f) (f k ∷ []) k i (length-below k f) h ∙ below-cell k f i h)
-    (λ h.
-    let e : i - k ≡ 0 = omega arith in
-    let d : k ≡ i = omega arith in
-    append-high (listBelow k f) (f k ∷ []) k i (length-below k f) h ∙ ap (λ x. getD (f k ∷ []) x 0) e ∙ ap f d)
-    (below-or i k)
 
 -- past the first n cells
 drop-cell : (n : ℕ) (a : List ℕ) (i : ℕ) → n ≤ i → getD (drop n a) (i - n) 0 ≡ getD a i 0
@@ -149,15 +132,15 @@ module _ (a : List ℕ) {b : List ℕ} (n : ℕ) (fits : n ≤ length a) (e : b 
 pub written-list : {f : ℕ → ℕ} {n : ℕ} {a b : List ℕ} → n ≤ length a → Written f 0 0 n a b → b ≡ listBelow n f ++ drop n a
 written-list {f} {n} {a} {b} fits w =
     ext-getD 0 b (listBelow n f ++ drop n a)
-    (w .rest .long ∙ omega (arith, length-append (listBelow n f) (drop n a), length-below n f, length-drop n a))
+    (w .rest .long ∙ omega (arith, length-append (listBelow n f) (drop n a), below-length n f, length-drop n a))
     (λ i l. ⊎-elim (low i) (high i) (below-or i n))
   where
     low : (i : ℕ) → i < n → getD b i 0 ≡ getD (listBelow n f ++ drop n a) i 0
     low i h =
         w .row .is i i (omega arith) h (omega arith)
-        ∙ sym (append-low (listBelow n f) (drop n a) n i (length-below n f) h ∙ below-cell n f i h)
+        ∙ sym (append-low (listBelow n f) (drop n a) n i (below-length n f) h ∙ below-get n f 0 i h)
 
     high : (i : ℕ) → n ≤ i → getD b i 0 ≡ getD (listBelow n f ++ drop n a) i 0
     high i h =
         w .rest .high i (omega arith)
-        ∙ sym (append-high (listBelow n f) (drop n a) n i (length-below n f) h ∙ drop-cell n a i h)
+        ∙ sym (append-high (listBelow n f) (drop n a) n i (below-length n f) h ∙ drop-cell n a i h)

@@ -1,6 +1,8 @@
 // Prints the systems of the deck file on standard input, a line each, or the file's refusal.
 ghost use Rattle.io.specs.Counts.{Counts};
+
 mod listing;
+
 use libc::STDIN_FILENO;
 use libc::STDOUT_FILENO;
 

@@ -134,7 +134,14 @@ fn put_line(rating: Rating, cells: u64, out: &mut [u8], at: usize) -> usize
 }
 
 // Runs one case over a table that it fills with rubbish, and puts its line.
-fn run_over(bytes: &[u8], at: usize, s: Sizes, table: &mut [u64], out: &mut [u8], end: usize) -> usize
+fn run_over(
+    bytes: &[u8],
+    at: usize,
+    s: Sizes,
+    table: &mut [u64],
+    out: &mut [u8],
+    end: usize,
+) -> usize
     requires { ⌜ Whole (length (now bytes)) at s × (end ≤ length (now out)) ⌝ }
     ensures { λ r. ⌜ r ≤ length (now (out .exit)) ⌝ }
 {

@@ -53,7 +53,7 @@ unfolding systemOf stretchOf
 system-packable d s =
     let table = replicate {A = ℕ} cells 0 in
     let within : (up : Bool) → stretchRefusal (s .rule) (s .a) (s .b) (d .survival) (d .weights) table ≡ 0
-        → figure up S (s .rule) (stretch (s .a) (s .b) (d .survival)) (stretch (s .a) (s .b) (d .weights)) ≤ S
+    → figure up S (s .rule) (stretch (s .a) (s .b) (d .survival)) (stretch (s .a) (s .b) (d .weights)) ≤ S
     = λ up e. figure-le up (s .rule) _ _ (stretch-sound (s .rule) (s .a) (s .b) (d .survival) (d .weights) table e .1 .units) in
     unless-packable _ _ (stretch-le (s .rule) (s .a) (s .b) (d .survival) (d .weights) table) (λ e. (within false e, within true e))
 

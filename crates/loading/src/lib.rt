@@ -7,7 +7,8 @@ ghost use Rattle.rules.specs.File.{packed, loadingOf};
 ghost use Rattle.loading.specs.Parts.{ratedAt, Held};
 ghost use Rattle.loading.specs.Packing.{Packable};
 use deck::Deck;
-use rules::{Rating, System};
+use rules::Rating;
+use rules::System;
 
 // A system's figures over a deck's lists, in a working table of the call's own.
 fn rate_lists(system: System, survival: &[u32], weights: &[u16]) -> Rating

@@ -48,8 +48,7 @@ put-systems-requires c κs =
     let start = c .before .before .before .before .before .before .before .before .before .before .before .before .before in
     let read = c .before .before .before .before .before .before .before .before .before .before .read-deck in
     let left = c .before .before .before .before .before .before .before .before .if1 .left in
-    let head = c .before .before .before .put-pair in
-    (
+    let head = c .before .before .before .put-pair in (
       kept-listable (start .args .bytes .now) _ (read-deck _ _ (read .ensures) left) (read-none _ _ (read .ensures) left),
       omega (arith, start .pre, head .kept, head .ensures .ends, head-short (read .result .deck .fans) (read .result .deck .systems)),
     )
