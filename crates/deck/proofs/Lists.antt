@@ -1,14 +1,14 @@
 -- Lists padded to a length: how long they are, what stands where, and that storing the next entry in a padded list pads a list of one entry
 -- more; and lists whose numbers are all below a limit. Assumes nothing.
-use mathlib.Core.Path.{_≡_, refl, sym, ap, _∙_}
+use mathlib.Core.Path.{_≡_, sym, ap, _∙_}
 use mathlib.Core.List.{List, [], _∷_, _++_}
 use Prim.Native.Nat.{ℕ, zero, suc, _+_, _-_, _≤_, _<_}
 use native.Mathlib.Nat.{sub-zero}
 use native.Mathlib.Decide.{decLt}
 use native.Mathlib.Numerals.{add-one}
 use native.Mathlib.Omega.{arith}
-use lib.ListN.{length, getD, take, set, replicate, length-append, List·getD-append, List·getD-eq-default}
-use lib.Seq.{ext-getD, getD-at, set-at, take-at, append-snoc}
+use lib.ListN.{length, getD, take, set, replicate, List·getD-append, List·getD-eq-default}
+use lib.Seq.{set-at, take-at, append-snoc}
 use Rattle.rules.specs.Below.{listBelow}
 use Rattle.rules.proofs.Lists.{below-length, below-get}
 use Rattle.deck.specs.Read.{padded}

@@ -1,15 +1,15 @@
 -- Rows of a table after a store: one that makes a row longer, one elsewhere; and the cells past 7,800 kept. Assumes nothing.
-use Prim.Native.Nat.{ℕ, zero, suc, _+_, _-_, _≤_, _<_}
-use mathlib.Core.Path.{_≡_, refl, sym, ap, _∙_}
-use mathlib.Core.Logic.{_⊎_, inl, inr, ⊎-elim}
+use Prim.Native.Nat.{ℕ, _+_, _-_, _≤_, _<_}
+use mathlib.Core.Path.{_≡_, refl, ap, _∙_}
+use mathlib.Core.Logic.{inl, inr, ⊎-elim}
 use mathlib.Core.List.{List}
 use native.Mathlib.Omega.{arith}
 use lib.ListN.{length, getD, set, length-set}
 use lib.Seq.{getD-set-same, getD-set-other, drop-set-lt}
 use borrow.Author.Count.{below-more}
-use mathlib.Core.Bool.{Bool, true, false}
+use mathlib.Core.Bool.{true, false}
 use Rattle.rules.specs.Refusal.{cells}
-use Rattle.engine.specs.Rows.{Row, Kept, Celled, Off, Written, Side, Within, Steady, stepAt}
+use Rattle.engine.specs.Rows.{Row, Kept, Celled, Off, Written, Side, Steady, stepAt}
 
 module _ {f : ℕ → ℕ} {t : List ℕ} {off : ℕ} where
   pub row-none : Row f t off 0

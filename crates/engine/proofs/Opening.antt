@@ -1,23 +1,23 @@
 -- The open memory of a ring, one component more at a time: it stays open on one side of the step and enters the rows of its lead on the other.
 -- Assumes nothing.
 use Prim.Native.Nat.{ℕ, zero, suc, _+_, _-_, _≤_, _<_, min}
-use mathlib.Core.Path.{_≡_, refl, sym, ap, subst, _∙_}
-use mathlib.Core.Bool.{Bool, true, false, cond}
-use mathlib.Core.Logic.{_⊎_, inl, inr, ⊎-elim}
+use mathlib.Core.Path.{_≡_, refl, sym, subst, _∙_}
+use mathlib.Core.Bool.{Bool, true, false}
+use mathlib.Core.Logic.{⊎-elim}
 use mathlib.Core.List.{List}
 use native.Mathlib.Omega.{arith}
-use lib.Dec.{eqb, ltb}
+use lib.Dec.{eqb}
 use lib.ListN.{length, getD}
 use native.Mathlib.Numerals.{add-one}
 use borrow.Author.Tests.{lt-ltb, le-ltb, eqb-false}
 use Rattle.rules.specs.declared.Rule.{Rule}
 use Rattle.rules.specs.State.{S, numberOf}
-use Rattle.rules.specs.Memory.{Row, live, dead, moved, ended, machineOf, below, Ring, lead, pair, row5, row7, working5, failing5, end5, working7, failing7, end7}
-use Rattle.rules.specs.Figure.{rounded, mixed, value}
+use Rattle.rules.specs.Memory.{Row, dead, moved, ended, machineOf, row5, working5, failing5, working7, failing7, end7}
+use Rattle.rules.specs.Figure.{value}
 use Rattle.rules.proofs.Seven.{ruleOf}
 use Rattle.rules.proofs.Reading.{by-test}
 use Rattle.rules.proofs.Enclosure.{value-le}
-use Rattle.memory.specs.Step.{limitOf, program, to}
+use Rattle.memory.specs.Step.{limitOf, program}
 use Rattle.memory.proofs.Same.{pair5, pair7}
 use Rattle.engine.specs.declared.Ends.{Ends}
 use Rattle.engine.specs.declared.Sweep.{Sweep}

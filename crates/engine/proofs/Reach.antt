@@ -1,15 +1,15 @@
 -- Where memories go: a dead one stays dead and is worth 0, and a memory that can be reached goes to one that could be reached before, or is dead.
 -- Assumes nothing.
-use Prim.Native.Nat.{ℕ, zero, suc, _+_, _-_, _*_, _≤_, _<_, min}
-use mathlib.Core.Path.{_≡_, refl, _∙_}
-use mathlib.Core.Bool.{Bool, true, false, cond}
+use Prim.Native.Nat.{ℕ, zero, suc, _+_, _-_, _*_, _<_, min}
+use mathlib.Core.Path.{_≡_, refl}
+use mathlib.Core.Bool.{Bool, false, cond}
 use mathlib.Core.Logic.{_⊎_, inl, inr}
 use mathlib.Core.List.{List}
 use native.Mathlib.Omega.{arith}
 use lib.Dec.{leb, ltb, eqb}
 use borrow.Author.Tests.{leb-true, ltb-true, le-leb, eqb-true, ne-eqb}
 use Rattle.rules.specs.declared.Rule.{Rule}
-use Rattle.rules.specs.State.{S, numberOf, failure}
+use Rattle.rules.specs.State.{S, numberOf}
 use Rattle.rules.specs.Figure.{mixed, rounded, value}
 use Rattle.rules.proofs.Reading.{by-test}
 use Rattle.rules.proofs.Rounding.{whole}

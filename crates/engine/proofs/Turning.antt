@@ -1,8 +1,8 @@
 -- A turn of the engine takes the values with `left` components left to those with one more: what it reads are values of memories that could be
 -- reached, so the rounded step of each is the definition's own. Assumes nothing.
-use Prim.Native.Nat.{ℕ, zero, suc, _+_, _-_, _≤_, _<_, min}
+use Prim.Native.Nat.{ℕ, zero, suc, _+_, _-_, _≤_, _<_}
 use mathlib.Core.Path.{_≡_, refl, sym, ap, _∙_}
-use mathlib.Core.Bool.{Bool, true, false, cond}
+use mathlib.Core.Bool.{Bool, true, false}
 use mathlib.Core.Logic.{_⊎_, inl, inr, ⊎-elim}
 use mathlib.Core.List.{List}
 use native.Mathlib.Omega.{arith}
@@ -12,16 +12,16 @@ use lib.ListN.{length, getD}
 use Rattle.rules.specs.declared.Rule.{Rule}
 use Rattle.rules.specs.State.{S, numberOf, failure}
 use Rattle.rules.specs.Refusal.{cells}
-use Rattle.rules.specs.Figure.{mixed, rounded, value}
+use Rattle.rules.specs.Figure.{value}
 use Rattle.rules.proofs.Enclosure.{value-le}
 use Rattle.rules.proofs.Reading.{by-test}
-use Rattle.memory.specs.Step.{limitOf, workedAt, failedAt, leadOf, program, to}
+use Rattle.memory.specs.Step.{limitOf, workedAt, failedAt, leadOf, program}
 use Rattle.engine.specs.declared.Ends.{Ends}
 use Rattle.engine.specs.declared.Sweep.{Sweep}
-use Rattle.engine.specs.Rows.{Row, Kept, Celled, Written, Within, Steady, Ready, stepAt, endsOf, Side, Off}
-use Rattle.engine.specs.Level.{valueAt, widthOf, Rated, Bound, Stepping, Level, Buried, Swept}
+use Rattle.engine.specs.Rows.{Row, Celled, Written, Steady, Ready, stepAt, endsOf, Side}
+use Rattle.engine.specs.Level.{valueAt, widthOf, Rated, Bound, Stepping, Level, Buried}
 use Rattle.engine.specs.Open.{Both}
-use Rattle.engine.proofs.Cells.{kept-trans, side-near, off-steps, off-low, off-high}
+use Rattle.engine.proofs.Cells.{side-near, off-steps}
 use Rattle.engine.proofs.Reach.{value-dead, end-dead, worked-in, failed-in, failed-other}
 
 -- the same row of a table whose cells there are the same

@@ -1,25 +1,25 @@
 -- What the engine works out is document 01's: a line's start, and a ring's open memory with all components left, have the definition's values.
 -- Assumes nothing.
-use Prim.Native.Nat.{ℕ, zero, suc, _+_, _-_, _≤_, _<_}
-use mathlib.Core.Path.{_≡_, refl, sym, ap, subst, _∙_}
-use mathlib.Core.Bool.{Bool, true, false}
+use Prim.Native.Nat.{ℕ, _≤_, _<_}
+use mathlib.Core.Path.{_≡_, refl, sym, subst}
+use mathlib.Core.Bool.{Bool, true}
 use mathlib.Core.Logic.{_⊎_, inl, inr, ⊎-elim}
 use mathlib.Core.List.{List}
 use native.Mathlib.Omega.{arith}
 use native.Mathlib.Nat.{sub-self, zero-min}
-use lib.Dec.{eqb, leb, ltb}
-use lib.ListN.{length, getD}
+use lib.Dec.{eqb}
+use lib.ListN.{length}
 use borrow.Author.Tests.{lt-ltb}
 use Rattle.rules.specs.declared.Rule.{Rule}
 use Rattle.rules.specs.State.{S, numberOf}
 use Rattle.rules.specs.Below.{total}
-use Rattle.rules.specs.Memory.{readingOf, machine}
-use Rattle.rules.specs.Figure.{value, figure}
-use Rattle.rules.specs.Refusal.{inRange, badWeights}
+use Rattle.rules.specs.Memory.{readingOf}
+use Rattle.rules.specs.Figure.{figure}
+use Rattle.rules.specs.Refusal.{inRange}
 use Rattle.rules.proofs.Seven.{seven, ruleOf, both, within-true, range-kind}
 use Rattle.memory.specs.Step.{limitOf, leadOf}
 use Rattle.memory.proofs.Same.{line1, line2, line3, line4, line6}
-use Rattle.engine.specs.Level.{valueAt, Rated}
+use Rattle.engine.specs.Level.{valueAt}
 use Rattle.engine.specs.Open.{Ringed, openAt, openOf, ringOf}
 
 -- the limit of each kind's memories, in range

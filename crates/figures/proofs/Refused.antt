@@ -1,19 +1,19 @@
 -- The refusal of a stretch, as the code works it out: 1 to 4, then 5 and 6 over the weights that are rated, then 7; and what its absence says of the
 -- part that is rated. Weights that kind 2 does not read change nothing. Assumes nothing.
-use Prim.Native.Nat.{ℕ, suc, _+_, _-_, _≤_, _<_}
+use Prim.Native.Nat.{ℕ, suc, _-_, _≤_}
 use mathlib.Core.Path.{_≡_, refl, sym, ap, _∙_}
-use mathlib.Core.Bool.{Bool, true, false, cond, not, _&&_, _||_, true≢false}
+use mathlib.Core.Bool.{Bool, true, false, cond, not, true≢false}
 use mathlib.Core.Logic.{_⊎_, inl, inr, ⊎-elim}
 use mathlib.Core.List.{List, [], _∷_}
 use native.Mathlib.Omega.{arith}
-use lib.Dec.{eqb, ltb}
-use lib.ListN.{length, getD, take, drop, length-take, length-drop}
+use lib.Dec.{eqb}
+use lib.ListN.{length, take, drop, length-take, length-drop}
 use borrow.Author.Tests.{eqb-true, eqb-false, eq-eqb, ne-eqb, ltb-false, not-false}
 use Rattle.rules.specs.declared.Rule.{Rule}
-use Rattle.rules.specs.State.{S, numberOf}
+use Rattle.rules.specs.State.{numberOf}
 use Rattle.rules.specs.Below.{total}
 use Rattle.rules.specs.Stretch.{stretch}
-use Rattle.rules.specs.Refusal.{cells, firstOf, badKind, badSize, badStretch, aboveUnit, badWeights, inRange, shortTable, stretchRefusal}
+use Rattle.rules.specs.Refusal.{firstOf, badKind, badSize, badStretch, aboveUnit, badWeights, inRange, shortTable, stretchRefusal}
 use Rattle.rules.specs.Answer.{range}
 use Rattle.rules.proofs.Seven.{within-true}
 use Rattle.rules.proofs.Reading.{by-test}
@@ -22,8 +22,7 @@ use Rattle.rules.proofs.Accepted as accepted
 use Rattle.rules.proofs.Accepted.{first-same, first-after, in-stretch, stretch-length, stretch-sound, unread-range, unread-answer}
 use Rattle.refusals.specs.Shared.{weightsOut, rangeOut, ratedRefusal, after}
 use Rattle.refusals.proofs.Laws.{range-total, range-other, weights-sound}
-use Rattle.memory.specs.Step.{limitOf}
-use Rattle.engine.specs.Level.{Rated, Sound}
+use Rattle.engine.specs.Level.{Sound}
 use Rattle.engine.proofs.Whole.{limited}
 use Rattle.figures.specs.Outcome.{ratedOf}
 

@@ -1,17 +1,16 @@
 -- The program's memory reads as document 01's: a line of each kind from its start, and the pairs of the rings. A relation for each family of rows
 -- says which memories stand for each other, and that each step keeps them so. Assumes nothing.
-use mathlib.Core.Path.{_≡_, refl, sym, ap, _∙_}
-use mathlib.Core.Bool.{Bool, true, false, cond, not, _||_, _&&_}
+use mathlib.Core.Path.{_≡_, refl}
+use mathlib.Core.Bool.{Bool, true, false, cond, not, _||_}
 use mathlib.Core.List.{List}
 use Prim.Native.Nat.{ℕ, zero, suc, _+_, _-_, _≤_, _<_}
 use native.Mathlib.Omega.{arith}
-use native.Mathlib.Nat.{add-zero}
 use native.Mathlib.Numerals.{add-one}
 use lib.Dec.{eqb, ltb, leb}
-use borrow.Author.Tests.{ltb-true, ltb-false, lt-ltb, le-ltb, le-leb, lt-leb, eq-eqb, ne-eqb}
+use borrow.Author.Tests.{ltb-true, ltb-false, lt-ltb, le-leb, lt-leb, ne-eqb}
 use Rattle.rules.specs.State.{numberOf}
 use Rattle.rules.specs.Below.{within}
-use Rattle.rules.specs.Memory.{Machine, live, dead, moved, ended, machineOf, below, row1, row3, row4, row5, row6, row7, Ring, lead, pair, working5, failing5, end5, working7, failing7, end7}
+use Rattle.rules.specs.Memory.{Machine, live, dead, moved, ended, machineOf, below, row1, row3, row4, row5, row6, row7, Ring, pair, working5, failing5, end5, working7, failing7, end7}
 use Rattle.rules.specs.Memory as rows
 use Rattle.rules.proofs.Seven.{ruleOf}
 use Rattle.rules.proofs.InARow.{line-row}

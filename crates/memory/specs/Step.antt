@@ -1,6 +1,6 @@
 -- The program's own memory: `lead` stays as it is while `at` moves, from 0 up to the limit, which is dead. For kinds 1 to 5 `at` is the number of
 -- document 01's memory; for kinds 6 and 7 it is 0 where no component need work, else r - g, so that it starts low and grows by one a component.
-use mathlib.Core.Bool.{Bool, true, false, cond, not, _||_}
+use mathlib.Core.Bool.{Bool, true, false, cond, _||_}
 use mathlib.Core.List.{List}
 use Prim.Native.Nat.{ℕ, _+_, _-_}
 use lib.Dec.{eqb, ltb, leb}

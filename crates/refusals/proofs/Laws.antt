@@ -1,15 +1,15 @@
 -- What the refusals 1, 2, 5 and 6 share: a call's refusal is theirs followed by its own, `inRange` reads only the total of the weights (and
 -- for kind 2 alone), and a rule that none of them meets is `Accepted`. By cases on the tests; the rows are taken at a number. Assumes nothing.
 use mathlib.Core.Path.{_≡_, refl, ap, subst}
-use mathlib.Core.Bool.{Bool, true, false, cond, not, _&&_, _||_, true≢false, false≢true}
+use mathlib.Core.Bool.{Bool, true, false, cond, not, _||_, true≢false}
 use mathlib.Core.Logic.{_⊎_, inl, inr}
 use mathlib.Core.List.{List, [], _∷_}
 use Prim.Native.Nat.{ℕ, zero, suc, _≤_, _<_}
 use native.Mathlib.Omega.{arith}
 use native.Mathlib.Nat.{eq-or-lt-of-le, le-antisymm}
-use lib.Dec.{leb, ltb, eqb}
+use lib.Dec.{ltb, eqb}
 use lib.ListN.{length, List·getD-eq-default}
-use borrow.Author.Tests.{leb-true, ltb-false, eqb-true, eq-eqb, not-false}
+use borrow.Author.Tests.{ltb-false, eqb-true, eq-eqb, not-false}
 use Rattle.rules.specs.declared.Rule.{Rule}
 use Rattle.rules.specs.Below.{total, within, rowOf}
 use Rattle.rules.specs.Refusal.{rangeOne, rangeTwo, badKind, badSize, badWeights, inRange, firstOf, highOne, shortTable, shortRoom, verdictRefusal, countRefusal}

@@ -4,16 +4,16 @@
 use mathlib.Core.Path.{_≡_, refl, sym, ap, _∙_}
 use mathlib.Core.Bool.{Bool, true, false, cond, not}
 use mathlib.Core.List.{List}
-use Prim.Native.Nat.{ℕ, zero, suc, _+_, _^_, _≤_, _<_}
+use Prim.Native.Nat.{ℕ, zero, suc, _+_, _^_, _<_}
 use native.Mathlib.Omega.{arith}
-use native.Mathlib.Nat.{add-zero, zero-add, add-assoc, suc-add}
+use native.Mathlib.Nat.{add-zero, zero-add}
 use lib.Dec.{ltb, leb}
 use lib.Count.{ones}
 use borrow.Author.Tests.{ltb-true, ltb-false, lt-ltb, le-ltb, le-leb, lt-leb}
 use Rattle.rules.specs.Below.{sumBelow, held, within}
 use Rattle.rules.specs.State.{down, numberOf}
 use Rattle.rules.specs.Verdict.{fails1, fails2, fails3}
-use Rattle.rules.specs.Memory.{run, Memory, live, dead, moved, ended, machineOf, below, row1, row3}
+use Rattle.rules.specs.Memory.{run, live, moved, ended, machineOf, row1, row3}
 use Rattle.rules.proofs.Sums.{held-sum}
 use Rattle.rules.proofs.Bits.{ones-held}
 use Rattle.rules.proofs.Reading.{by-test, by-both, run-dead}

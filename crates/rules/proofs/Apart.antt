@@ -8,7 +8,6 @@ use mathlib.Core.Bool.{Bool, true, false, false≢true, not}
 use Prim.Native.Nat.{ℕ, zero, suc, min, _+_, _-_, _%_, _≤_, _<_}
 use native.Mathlib.Omega.{arith}
 use native.Mathlib.Decide.{decLt}
-use lib.Dec.{leb}
 use borrow.Author.Tests.{leb-true, le-leb}
 use Rattle.rules.specs.Below.{held}
 use Rattle.rules.specs.State.{down, window, starts}

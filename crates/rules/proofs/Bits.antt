@@ -1,7 +1,7 @@
 -- The bits of a state word: the top one clear or set, what stands above those that are read, and the number of ones as a count of places.
 -- Assumes nothing.
 use mathlib.Core.Path.{_≡_, refl, _∙_}
-use mathlib.Core.Bool.{Bool, true, false, cond}
+use mathlib.Core.Bool.{true, false, cond}
 use Prim.Native.Nat.{ℕ, zero, suc, _+_, _*_, _/_, _%_, _^_, _<_}
 use native.Mathlib.Omega.{arith}
 use native.Mathlib.Nat.{pow-suc, div-eq-of-lt, mul-add-div-right, mod-lt, mod-one, mod-eq-of-lt}

@@ -1,23 +1,22 @@
 -- What is owed of the definitions, put together. Reading is the verdict: for every rule in range and every word below 2^n a reading through the
 -- kind's memory ends working exactly if the verdict says that the system works. Hence the third condition, for a list and for a stretch, and the
 -- counts as a reading gives them. Assumes nothing.
-use mathlib.Core.Path.{_≡_, refl, sym, _∙_}
-use mathlib.Core.Bool.{Bool, true, false, false≢true, _&&_}
+use mathlib.Core.Path.{_≡_, sym}
+use mathlib.Core.Bool.{true, false}
 use mathlib.Core.List.{List}
-use Prim.Native.Nat.{ℕ, zero, suc, _+_, _^_, _≤_, _<_}
+use Prim.Native.Nat.{ℕ, zero, suc, _^_, _≤_, _<_}
 use native.Mathlib.Omega.{arith}
-use lib.Dec.{leb, eqb, ltb}
+use lib.Dec.{eqb, ltb}
 use lib.ListN.{length, getD, List·getD-eq-default}
 use native.Mathlib.Decide.{decLt}
-use borrow.Author.Tests.{leb-true, ltb-false, lt-ltb}
+use borrow.Author.Tests.{lt-ltb}
 use Rattle.rules.specs.declared.Rule.{Rule}
-use Rattle.rules.specs.Below.{within, some}
+use Rattle.rules.specs.Below.{some}
 use Rattle.rules.specs.State.{S, numberOf}
 use Rattle.rules.specs.Verdict.{fails, works}
 use Rattle.rules.specs.Count.{countIf, countOf}
 use Rattle.rules.specs.Memory.{run, readingOf, machine}
 use Rattle.rules.specs.Figure.{low, high, exact, Third}
-use Rattle.rules.specs.Stretch.{stretch}
 use Rattle.rules.specs.Refusal.{inRange, aboveUnit}
 use Rattle.rules.proofs.Seven.{seven, both, within-true, ruleOf, range-kind}
 use Rattle.rules.proofs.Windows.{some-none, not-lt}

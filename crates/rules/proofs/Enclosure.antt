@@ -1,13 +1,13 @@
 -- The rounding argument, once, over any memory, any unit and any survival numbers: the rounded values enclose the exact sum, lie at most n - 1
 -- units apart, and stay within the unit. By induction over the components left, a step of `Rounding` each. Assumes nothing.
-use mathlib.Core.Path.{_≡_, refl, ap}
+use mathlib.Core.Path.{_≡_}
 use mathlib.Core.Bool.{Bool, true, false, cond}
 use Prim.Native.Nat.{ℕ, zero, suc, _+_, _*_, _^_, _-_, _≤_, _<_}
 use native.Mathlib.Omega.{arith}
 use native.Mathlib.Nat.{pow-suc, pow-zero, mul-le-mul-left, mul-le-mul-right, le-of-mul-le-mul-right}
 use Rattle.rules.specs.State.{failure}
 use Rattle.rules.specs.Memory.{Machine, run}
-use Rattle.rules.specs.Figure.{rounded, mixed, value, exactIf, Third}
+use Rattle.rules.specs.Figure.{mixed, value, exactIf, Third}
 use Rattle.rules.proofs.Split.{exact-zero, exact-split}
 use Rattle.rules.proofs.Rounding.{down-le, le-up, whole, step-gap, step-le}
 

@@ -1,6 +1,5 @@
 -- Document 01, "Proved examples": A to K as one table, and one theorem that every row of it holds, computed by the checker. Assumes nothing.
 use mathlib.Core.Path.{_≡_, refl}
-use mathlib.Core.Bool.{Bool, true, false, cond}
 use mathlib.Core.List.{List, [], _∷_}
 use Prim.Native.Nat.{ℕ}
 use lib.Count.{ones}
@@ -13,7 +12,7 @@ use Rattle.rules.specs.Below.{sumBelow, held, some, listBelow, total}
 use Rattle.rules.specs.State.{S, numberOf}
 use Rattle.rules.specs.Verdict.{someWindow, fails}
 use Rattle.rules.specs.Count.{countIf, countsOf}
-use Rattle.rules.specs.Memory.{run, moved, ended, working5, failing5, end5, failing6, working7, failing7, end7, readingOf}
+use Rattle.rules.specs.Memory.{moved, ended, readingOf}
 use Rattle.rules.specs.Figure.{rounded, value}
 use Rattle.rules.specs.Refusal.{aboveUnit, badWeights, inRange, firstOf, verdictRefusal, figuresRefusal}
 use Rattle.rules.specs.Answer.{unless, verdictOf, figuresOf}

@@ -9,12 +9,12 @@ use native.Mathlib.Omega.{arith}
 use native.Mathlib.Nat.{lt-of-not-le, zero-add}
 use native.Mathlib.Decide.{decLt}
 use lib.Dec.{ltb}
-use borrow.Author.Tests.{ltb-true, lt-ltb, le-ltb}
+use borrow.Author.Tests.{ltb-true, lt-ltb}
 use Rattle.rules.specs.State.{down, window, starts}
 use Rattle.rules.specs.Verdict.{someWindow}
 use Rattle.rules.specs.Memory.{run, Memory, live, dead, moved, ended, machineOf, below, Ring, lead, pair, working5, failing5, end5, row4, row5}
 use Rattle.rules.proofs.Windows.{opposite, last, first, held-all, all-held, no-window, not-lt, at, turned}
-use Rattle.rules.proofs.Reading.{step, upto, by-test}
+use Rattle.rules.proofs.Reading.{step, upto}
 use Rattle.rules.proofs.Simulation.{Alike, Same, alike-same}
 
 -- t failed ones, then the places below i, then s failed ones: no k of them in a row have failed

@@ -6,7 +6,7 @@ use Prim.Native.Nat.{ℕ, zero, suc, _<_, _≤_}
 use lib.Dec.{ltb}
 use borrow.Author.Tests.{ltb-true, ltb-false}
 use Rattle.rules.specs.State.{down}
-use Rattle.rules.specs.Memory.{Machine, run, Memory, live, dead, Row, moved, ended, machineOf, below}
+use Rattle.rules.specs.Memory.{run, Memory, live, dead, Row, moved, ended, machineOf, below}
 
 pub by-test : {A : Type 0} (P : A → Type 0) (b : Bool) (x y : A) → (b ≡ true → P x) → (b ≡ false → P y) → P (cond b x y)
 by-test P true x y g h = g refl

@@ -1,10 +1,10 @@
 -- The single rounded step, down and up, for any unit from 1 on: what it loses and gains, and that it stays within the unit. Every figure is made
 -- of such steps, and nothing else is rounded. Assumes nothing.
-use mathlib.Core.Path.{_≡_, refl, ap}
+use mathlib.Core.Path.{_≡_, ap}
 use mathlib.Core.Bool.{Bool, true, false}
-use Prim.Native.Nat.{ℕ, zero, suc, _+_, _*_, _/_, _-_, _≤_, _<_}
+use Prim.Native.Nat.{ℕ, suc, _+_, _*_, _-_, _≤_, _<_}
 use native.Mathlib.Omega.{arith}
-use native.Mathlib.Nat.{div-mul-le-self, lt-div-mul-add, mul-le-mul-left, mul-le-mul-right, le-of-suc-le-suc, div-lt-iff-lt-mul, mul-div-cancel}
+use native.Mathlib.Nat.{div-mul-le-self, lt-div-mul-add, mul-le-mul-left, le-of-suc-le-suc, div-lt-iff-lt-mul, mul-div-cancel}
 use lib.Arith.{digits-div}
 use Rattle.rules.specs.Figure.{rounded, mixed}
 

@@ -1,7 +1,7 @@
 -- Two memories that keep step with each other read alike and have the same values: the same `run`, and the same rounded `value`.
 -- By this the line is read as a ring past its lead, and the program's own memory as document 01's. Assumes nothing.
-use mathlib.Core.Path.{_≡_, refl, sym, _∙_}
-use mathlib.Core.Bool.{Bool, true, false, cond}
+use mathlib.Core.Path.{_≡_, sym, _∙_}
+use mathlib.Core.Bool.{Bool}
 use Prim.Native.Nat.{ℕ, zero, suc}
 use Rattle.rules.specs.State.{down}
 use Rattle.rules.specs.Memory.{Machine, run}

@@ -5,7 +5,7 @@ use mathlib.Core.Bool.{Bool, true, false, cond}
 use Prim.Native.Nat.{ℕ, zero, suc, _+_, _*_, _^_, _<_}
 use native.Mathlib.Omega.{arith}
 use Rattle.rules.specs.Below.{sumBelow}
-use Rattle.rules.specs.State.{failure, down}
+use Rattle.rules.specs.State.{failure}
 use Rattle.rules.specs.Count.{countIf}
 use Rattle.rules.specs.Memory.{Machine, run}
 use Rattle.rules.specs.Figure.{product, exactIf}

@@ -1,8 +1,8 @@
 -- Laws of sums and counts over the numbers below a bound: they add up, scale, and fall into the words with the top bit clear and set.
 -- Assumes nothing.
-use mathlib.Core.Path.{_≡_, refl, ap, _∙_}
-use mathlib.Core.Bool.{Bool, true, false, cond}
-use Prim.Native.Nat.{ℕ, zero, suc, _+_, _*_, _^_, _≤_, _<_}
+use mathlib.Core.Path.{_≡_, refl, ap}
+use mathlib.Core.Bool.{Bool, cond}
+use Prim.Native.Nat.{ℕ, zero, suc, _+_, _*_, _^_, _<_}
 use native.Mathlib.Nat.{add-zero, add-suc, one-mul}
 use native.Mathlib.Omega.{arith}
 use Rattle.rules.specs.Below.{sumBelow, held, some}

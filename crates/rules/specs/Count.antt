@@ -1,5 +1,5 @@
 -- Document 01, "The seven verdicts": "The count table has n + 1 entries. Entry j is the number of working states with exactly j failed".
-use mathlib.Core.Bool.{Bool, cond, _&&_}
+use mathlib.Core.Bool.{Bool, _&&_}
 use mathlib.Core.List.{List}
 use Prim.Native.Nat.{ℕ, suc, _^_}
 use lib.Dec.{eqb}

@@ -5,7 +5,7 @@ use Prim.Native.Nat.{ℕ, zero, suc, _+_, _-_, _*_, _/_, _^_, _≤_}
 use lib.ListN.{length}
 use Rattle.rules.specs.declared.Rule.{Rule}
 use Rattle.rules.specs.Below.{sumBelow}
-use Rattle.rules.specs.State.{S, numberOf, failure, down}
+use Rattle.rules.specs.State.{numberOf, failure, down}
 use Rattle.rules.specs.Verdict.{works}
 use Rattle.rules.specs.Memory.{Machine, machine}
 

@@ -1,5 +1,5 @@
 -- Document 01, "Refusal numbers": each condition of the table, and each call's refusal, "the lowest number that applies, and none otherwise".
-use mathlib.Core.Bool.{Bool, true, false, cond, not, _&&_, _||_}
+use mathlib.Core.Bool.{Bool, false, cond, not, _&&_, _||_}
 use mathlib.Core.List.{List, [], _∷_}
 use Prim.Native.Nat.{ℕ, suc, _^_}
 use lib.Dec.{ltb, leb, eqb}

@@ -1,6 +1,6 @@
 -- `rate` takes rings and lines apart; what each works out is the definition's. Assumes nothing.
 use borrow.Author.Needs.{needs}
-use mathlib.Core.Path.{_≡_, _∙_}
+use mathlib.Core.Path.{_∙_}
 use mathlib.Core.Logic.{inl, inr}
 use mathlib.Core.Bool.{true, false}
 use Rattle.engine.proofs.Whole.{ringed, ring-is, line-is}

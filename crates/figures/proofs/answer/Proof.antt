@@ -1,6 +1,6 @@
 -- `answer` rates, then sets the cells to 0: the cells past 7,800 are kept by the one and the other. Assumes nothing.
 use borrow.Author.Needs.{needs}
-use mathlib.Core.Path.{_≡_, ap, _∙_}
+use mathlib.Core.Path.{ap, _∙_}
 use mathlib.Core.List.{_++_}
 use lib.ListN.{replicate}
 use Rattle.figures.proofs.answer.Statement.{statement}

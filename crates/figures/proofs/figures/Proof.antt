@@ -1,6 +1,6 @@
 -- `figures` is the stretch from 1 to n. Assumes nothing.
 use borrow.Author.Needs.{needs}
-use mathlib.Core.Path.{_≡_, sym, ap, _∙_}
+use mathlib.Core.Path.{sym, ap, _∙_}
 use Rattle.rules.specs.Answer.{tableAfter}
 use Rattle.rules.proofs.Accepted.{whole-refusal, whole-is-stretch}
 use Rattle.figures.proofs.figures.Statement.{statement}

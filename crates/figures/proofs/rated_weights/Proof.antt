@@ -1,9 +1,7 @@
 -- `rated_weights` takes the tests of `ratedOf`; the part that it hands on is the stretch. Assumes nothing.
 use borrow.Author.Needs.{needs}
-use mathlib.Core.Path.{_≡_}
 use native.Mathlib.Omega.{arith}
 use borrow.Author.Tests.{eq-eqb, ne-eqb}
-use lib.ListN.{length}
 use Rattle.rules.proofs.Accepted.{in-stretch}
 use Rattle.figures.specs.Outcome.{ratedOf}
 use Rattle.figures.proofs.Refused.{part-is}

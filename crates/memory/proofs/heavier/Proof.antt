@@ -1,6 +1,6 @@
 -- `heavier` is the row that the kind picks. Assumes nothing.
 use borrow.Author.Needs.{needs}
-use borrow.Author.Tests.{eq-eqb, ne-eqb, le-leb, lt-leb, lt-ltb, le-ltb}
+use borrow.Author.Tests.{eq-eqb, ne-eqb}
 use Rattle.memory.specs.Step.{heavierOf}
 use Rattle.memory.proofs.heavier.Statement.{statement}
 use Rattle.memory.proofs.heavier.Tie as tie

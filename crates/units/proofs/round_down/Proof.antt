@@ -1,6 +1,5 @@
 -- `round_down` is the rounded step: with both values within the unit the products and their sum fit 64 bits. Assumes nothing.
 use native.Mathlib.Omega.{arith}
-use borrow.Author.Needs.{needs}
 use Rattle.rules.specs.Figure.{rounded}
 use Rattle.units.proofs.Laws.{left-le, right-le}
 use Rattle.units.proofs.round_down.Statement.{statement}

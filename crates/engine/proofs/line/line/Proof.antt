@@ -1,13 +1,7 @@
 -- `line` sweeps the line's lead over all components and reads the start. Assumes nothing.
 use borrow.Author.Needs.{needs}
-use mathlib.Core.Path.{_≡_, _∙_, ap}
-use mathlib.Core.Logic.{inr}
+use mathlib.Core.Path.{_∙_, ap}
 use native.Mathlib.Omega.{arith}
-use mathlib.Core.Bool.{Bool, true, false}
-use Prim.Native.Nat.{ℕ, _+_}
-use lib.ListN.{length, getD}
-use Rattle.memory.specs.Step.{leadOf}
-use Rattle.engine.specs.Level.{valueAt, Level}
 use Rattle.engine.proofs.Cells.{side-near, kept-trans}
 use Rattle.engine.proofs.Turning.{read-at, lead-small}
 use Rattle.engine.proofs.line.line.Statement.{statement}

@@ -1,8 +1,5 @@
 -- `line_lead` takes the test of `leadOf`; past kind 5 the limit is the rule's second number. Assumes nothing.
 use borrow.Author.Needs.{needs}
-use mathlib.Core.Path.{_≡_, _∙_, ap}
-use mathlib.Core.Bool.{cond}
-use Prim.Native.Nat.{_-_}
 use native.Mathlib.Omega.{arith}
 use borrow.Author.Tests.{le-leb, lt-leb, ne-eqb}
 use Rattle.memory.specs.Step.{limitOf, leadOf}

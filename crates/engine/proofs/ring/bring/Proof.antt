@@ -1,6 +1,6 @@
 -- `bring` goes on with the rows of the same lead, or sweeps another lead from its beginning. Assumes nothing.
 use borrow.Author.Needs.{needs}
-use mathlib.Core.Path.{_≡_, ap, _∙_}
+use mathlib.Core.Path.{ap, _∙_}
 use native.Mathlib.Omega.{arith}
 use Rattle.engine.proofs.Cells.{kept-trans}
 use Rattle.engine.proofs.ring.bring.Statement.{statement}

@@ -1,6 +1,6 @@
 -- `open_ends` takes the test of `firstOpen`. Assumes nothing.
 use borrow.Author.Tests.{eq-eqb, ne-eqb}
-use mathlib.Core.Path.{_≡_, refl}
+use mathlib.Core.Path.{refl}
 use Rattle.engine.specs.Open.{firstOpen}
 use Rattle.engine.proofs.ring.open_ends.Statement.{statement}
 use Rattle.engine.proofs.ring.open_ends.Tie as tie

@@ -1,7 +1,6 @@
 -- `open_left` takes the test of `leftOf`. Assumes nothing.
 use borrow.Author.Needs.{needs}
 use borrow.Author.Tests.{eq-eqb, ne-eqb}
-use native.Mathlib.Omega.{arith}
 use Rattle.engine.specs.Open.{leftOf}
 use Rattle.engine.proofs.ring.open_left.Statement.{statement}
 use Rattle.engine.proofs.ring.open_left.Tie as tie

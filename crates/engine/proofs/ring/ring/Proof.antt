@@ -6,7 +6,6 @@ use mathlib.Core.Path.{_≡_, refl, sym, ap, _∙_}
 use mathlib.Core.Logic.{⊎-elim}
 use native.Mathlib.Omega.{arith}
 use lib.ListN.{length}
-use Rattle.memory.specs.Step.{limitOf}
 use Rattle.engine.specs.Open.{openAt, Opened}
 use Rattle.engine.proofs.Cells.{kept-none, kept-trans}
 use Rattle.engine.proofs.Opening.{open-first, left-le, bringable, enterable, entered-is, widenable, opened-more}

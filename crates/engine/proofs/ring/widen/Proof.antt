@@ -1,7 +1,6 @@
 -- `widen` takes the test of `widened`, one rounded step either way. Assumes nothing.
 use borrow.Author.Needs.{needs}
 use borrow.Author.Tests.{eq-eqb, ne-eqb}
-use mathlib.Core.Path.{_≡_, _∙_}
 use Rattle.engine.specs.Open.{widened}
 use Rattle.engine.proofs.ring.widen.Statement.{statement}
 use Rattle.engine.proofs.ring.widen.Tie as tie

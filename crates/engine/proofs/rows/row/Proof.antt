@@ -1,6 +1,6 @@
 -- `row` writes one memory more of both rows a turn; what it reads, it does not write. Assumes nothing.
 use borrow.Author.Needs.{needs}
-use Prim.Native.Nat.{suc, _≤_, _<_, _-_, _+_}
+use Prim.Native.Nat.{_≤_, _-_, _+_}
 use mathlib.Core.Path.{_≡_, _∙_}
 use mathlib.Core.Bool.{true, false}
 use native.Mathlib.Omega.{arith}

@@ -1,9 +1,9 @@
 -- `sweep_to` turns until `upto` components are left. Assumes nothing.
 use Prim.Native.Nat.{_≤_, _-_}
-use mathlib.Core.Path.{_≡_, refl, _∙_}
+use mathlib.Core.Path.{refl, _∙_}
 use native.Mathlib.Omega.{arith}
 use lib.ListN.{length}
-use Rattle.engine.specs.Level.{Level, Swept}
+use Rattle.engine.specs.Level.{Swept}
 use Rattle.engine.proofs.Cells.{kept-none, kept-trans}
 use Rattle.engine.proofs.turns.sweep_to.Statement.{statement}
 use Rattle.engine.proofs.turns.sweep_to.Tie as tie

@@ -1,6 +1,6 @@
 -- `turn` writes the weight's row, makes the new rows and buries the dead memory: the laws of a turn take the level on. Assumes nothing.
 use borrow.Author.Needs.{needs}
-use mathlib.Core.Path.{_≡_, refl}
+use mathlib.Core.Path.{refl}
 use native.Mathlib.Omega.{arith}
 use native.Mathlib.Numerals.{add-one}
 use Rattle.engine.proofs.Cells.{side-near, kept-trans}
