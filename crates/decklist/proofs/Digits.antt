@@ -1,7 +1,7 @@
 -- The digits that `io::decimal` writes, the fewest that hold a number, are the number's decimal digits; and how long a line can be. Assumes nothing.
 use mathlib.Core.Path.{_≡_, ap}
 use mathlib.Core.Bool.{Bool, true, false, cond}
-use mathlib.Core.List.{List, [], _∷_, _++_}
+use mathlib.Core.List.{[], _∷_, _++_}
 use Prim.Native.Nat.{ℕ, zero, suc, _+_, _*_, _-_, _/_, _%_, _^_, _≤_, _<_}
 use native.Mathlib.Nat.{one-le-pow, pow-le-pow-right}
 use native.Mathlib.Decide.{decLe}
@@ -11,7 +11,7 @@ use lib.ListN.{length, length-append}
 use borrow.Author.Tests.{lt-ltb, le-ltb}
 use Rattle.rules.specs.declared.Rating.{Rating}
 use Rattle.rules.specs.declared.Rating.the-variants.{Range, Refused}
-use Rattle.io.specs.Digits.{glyph, digits, Fewest}
+use Rattle.io.specs.Digits.{digits, Fewest}
 use Rattle.decklist.specs.Lines.{text, digitsIn, decimal, pairText, ratingText, lineText, linesText}
 
 -- by one digit: the number without its last one has one fewer

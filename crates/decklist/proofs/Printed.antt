@@ -2,18 +2,17 @@
 -- Assumes nothing.
 use mathlib.Core.Path.{_≡_, refl, sym, ap, ap₂, _∙_}
 use mathlib.Core.List.{List, _++_}
-use Prim.Native.Nat.{ℕ, zero, suc, _+_, _≤_, _<_}
+use Prim.Native.Nat.{ℕ, zero, suc, _+_, _<_}
 use native.Mathlib.Omega.{arith}
 use lib.ListN.{length, take, length-take}
 use Rattle.rules.specs.declared.Rating.{Rating}
-use Rattle.rules.specs.Answer.{unless}
 use Rattle.rules.specs.File.{fansIn, systemsIn, fileRefusal}
 use Rattle.deck.specs.declared.Deck.{Deck}
 use Rattle.deck.specs.Read.{keptDeck}
 use Rattle.deck.proofs.Sound.{sound}
 use Rattle.loading.specs.Parts.{ratedAt}
-use Rattle.loading.proofs.Answers.{kept-rated, kept-held}
-use Rattle.decklist.specs.Lines.{text, pairText, refusedText, lineText, linesText, answerIn, listText}
+use Rattle.loading.proofs.Answers.{unless-some, unless-none, kept-rated, kept-held}
+use Rattle.decklist.specs.Lines.{text, pairText, refusedText, lineText, linesText, listText}
 use Rattle.decklist.specs.Added.{Added, Listable, Listed}
 
 -- a text added at the front of a buffer is what stands there
@@ -27,19 +26,10 @@ unfolding linesText
 lines-same zero f g h = refl
 lines-same (suc m) f g h = ap₂ (λ ls r. ls ++ lineText (suc m) r) (lines-same m f g (λ s l. h s (omega arith))) (h m (omega arith))
 
-unless-some : {A : Type 0} (r : ℕ) (refused : ℕ → A) (answer : A) → (r ≡ 0 → ⊥) → refused r ≡ unless r refused answer
-unfolding unless
-unless-some zero refused answer h = absurd (h refl)
-unless-some (suc r) refused answer h = refl
-
-unless-none : {A : Type 0} (r : ℕ) (refused : ℕ → A) (answer : A) → r ≡ 0 → answer ≡ unless r refused answer
-unfolding unless
-unless-none r refused answer e = rw e
-
 module _ (bytes : List ℕ) where
   pub refused-list : (r : ℕ) → r ≡ fileRefusal bytes → (r ≡ 0 → ⊥) → text "file" ++ refusedText r ≡ listText bytes
   unfolding listText
-  refused-list r e h = rw e (unless-some (fileRefusal bytes) _ _ (λ z. h (e ∙ z)))
+  refused-list r e h = rw e (sym (unless-some (fileRefusal bytes) _ _ (λ z. h (e ∙ z))))
 
   module _ (d : Deck) (is : d ≡ keptDeck bytes) (none : fileRefusal bytes ≡ 0) where
     pub kept-listable : Listable d
@@ -52,4 +42,4 @@ module _ (bytes : List ℕ) where
         rw is
         (ap (λ ls. pairText (text "deck ") (fansIn bytes) (text " systems ") (systemsIn bytes) ++ ls)
         (lines-same (systemsIn bytes) _ _ (λ s h. kept-rated bytes s h))
-        ∙ unless-none (fileRefusal bytes) _ _ none)
+        ∙ sym (unless-none (fileRefusal bytes) _ _ none))

@@ -1,14 +1,16 @@
 -- What a file and a system number answer, case by case, in terms of the deck that the reader hands on. Assumes nothing.
 use mathlib.Core.Path.{_≡_, refl, sym, ap, ap₂, _∙_}
+use mathlib.Core.Bool.{true, false}
 use mathlib.Core.List.{List}
-use Prim.Native.Nat.{ℕ, zero, suc, _+_, _-_, _*_, _≤_, _<_}
+use Prim.Native.Nat.{ℕ, zero, suc, _+_, _-_, _*_, _<_}
 use native.Mathlib.Omega.{arith}
-use lib.ListN.{length, getD, take, replicate, length-append}
-use borrow.Author.Tests.{le-leb, lt-leb}
+use lib.ListN.{getD, replicate, length-append}
+use borrow.Author.Tests.{not-false}
 use Rattle.rules.specs.declared.Rating.the-variants.{Refused}
 use Rattle.rules.specs.Refusal.{cells}
 use Rattle.rules.specs.Answer.{unless, stretchOf}
-use Rattle.rules.specs.File.{numberAt, fansIn, systemsIn, systemAt, survivalOffset, weightsOffset, systemsOffset, deckIn, fileRefusal, systemOf, loadingOf}
+use Rattle.rules.specs.File.{fansIn, systemsIn, systemAt, systemsOffset, deckIn, fileRefusal, systemOf, badNumber, loadingOf}
+use Rattle.rules.proofs.Seven.{within-true}
 use Rattle.rules.proofs.Lists.{below-length}
 use Rattle.deck.specs.declared.Read.{Read}
 use Rattle.deck.specs.Read.{padded, noSystem, keptDeck, readOf}
@@ -58,15 +60,14 @@ module _ (bytes : List ℕ) (s : ℕ) where
   unfolding loadingOf
   loading-refused h = unless-some _ _ _ h
 
-  pub loading-none : fileRefusal bytes ≡ 0 → s < 1 → loadingOf bytes s ≡ Refused 14
-  unfolding loadingOf
-  loading-none e h = unless-none _ _ _ e ∙ rw (lt-leb 1 s h)
+  pub numbered : badNumber bytes s ≡ false → s - 1 < systemsIn bytes
+  numbered h = let l = within-true 1 s (systemsIn bytes) (not-false _ h) in omega arith
 
-  pub loading-past : fileRefusal bytes ≡ 0 → 1 ≤ s → systemsIn bytes < s → loadingOf bytes s ≡ Refused 14
+  pub loading-outside : fileRefusal bytes ≡ 0 → badNumber bytes s ≡ true → loadingOf bytes s ≡ Refused 14
   unfolding loadingOf
-  loading-past e l h = unless-none _ _ _ e ∙ rw (le-leb 1 s l, lt-leb s (systemsIn bytes) h)
+  loading-outside e h = unless-none _ _ _ e ∙ rw h
 
-  pub loading-rated : fileRefusal bytes ≡ 0 → 1 ≤ s → s ≤ systemsIn bytes
+  pub loading-rated : fileRefusal bytes ≡ 0 → badNumber bytes s ≡ false
       → loadingOf bytes s ≡ systemOf (deckIn bytes) (systemAt bytes (systemsOffset (fansIn bytes) + 10 * (s - 1)))
   unfolding loadingOf
-  loading-rated e l h = unless-none _ _ _ e ∙ rw (le-leb 1 s l, le-leb s (systemsIn bytes) h)
+  loading-rated e h = unless-none _ _ _ e ∙ rw h

@@ -3,7 +3,7 @@
 use mathlib.Core.Path.{_≡_, refl, sym, ap, ap₂, _∙_}
 use mathlib.Core.Bool.{Bool, true, false, cond}
 use mathlib.Core.List.{List, [], _∷_}
-use Prim.Native.Nat.{ℕ, zero, suc, _+_, _*_, _^_, _≤_}
+use Prim.Native.Nat.{ℕ, zero, suc, _≤_}
 use native.Mathlib.Omega.{arith}
 use lib.ListN.{length, replicate}
 use Rattle.rules.specs.declared.Rule.{Rule}
@@ -48,14 +48,16 @@ stretch-le rule a b survival weights table =
     first-le 1 _ _ (omega arith) (first-le 2 _ _ (omega arith) (first-le 3 _ _ (omega arith) (first-le 4 _ _ (omega arith)
     (first-le 5 _ _ (omega arith) (first-le 6 _ _ (omega arith) (first-le 7 _ _ (omega arith) first-none))))))
 
+pub stretch-packable : (rule : Rule) (a b : ℕ) (survival weights table : List ℕ) → Packable (stretchOf rule a b survival weights table)
+unfolding stretchOf
+stretch-packable rule a b survival weights table =
+    let within : (up : Bool) → stretchRefusal rule a b survival weights table ≡ 0 → figure up S rule (stretch a b survival) (stretch a b weights) ≤ S
+    = λ up e. figure-le up rule _ _ (stretch-sound rule a b survival weights table e .1 .units) in
+    unless-packable _ _ (stretch-le rule a b survival weights table) (λ e. (within false e, within true e))
+
 system-packable : (d : Deck) (s : System) → Packable (systemOf d s)
-unfolding systemOf stretchOf
-system-packable d s =
-    let table = replicate {A = ℕ} cells 0 in
-    let within : (up : Bool) → stretchRefusal (s .rule) (s .a) (s .b) (d .survival) (d .weights) table ≡ 0
-    → figure up S (s .rule) (stretch (s .a) (s .b) (d .survival)) (stretch (s .a) (s .b) (d .weights)) ≤ S
-    = λ up e. figure-le up (s .rule) _ _ (stretch-sound (s .rule) (s .a) (s .b) (d .survival) (d .weights) table e .1 .units) in
-    unless-packable _ _ (stretch-le (s .rule) (s .a) (s .b) (d .survival) (d .weights) table) (λ e. (within false e, within true e))
+unfolding systemOf
+system-packable d s = stretch-packable (s .rule) (s .a) (s .b) (d .survival) (d .weights) (replicate cells 0)
 
 pub loading-packable : (bytes : List ℕ) (s : ℕ) → Packable (loadingOf bytes s)
 unfolding loadingOf fileRefusal

@@ -36,21 +36,21 @@ pub fn rate_file(file: &[u8], system: u64) -> Rating
     ensures { λ r. ⌜ r ≡ loadingOf (now (file .entry)) system ⌝ }
 {
     let read = deck::read_deck(file);
-    if read.refusal != 0 {
-        return Rating::Refused(read.refusal);
-    }
+    let refusal = read.refusal;
     let deck = read.deck;
-    if system < 1 {
-        return Rating::Refused(14);
+    let systems = deck.systems;
+    let outside = refusals::outside(1, system, systems);
+    if refusal != 0 {
+        return Rating::Refused(refusal);
     }
-    if deck.systems < system {
+    if outside {
         return Rating::Refused(14);
     }
     rate_system(deck, (system - 1) as usize)
 }
 
 // An answer as one number: low times 2^32 plus high, or (2^32 - 1) times 2^32 plus the refusal.
-fn pack(rating: Rating) -> u64
+pub fn pack(rating: Rating) -> u64
     requires { ⌜ Packable rating ⌝ }
     ensures { λ r. ⌜ r ≡ packed rating ⌝ }
 {

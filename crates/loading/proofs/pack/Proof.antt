@@ -1,5 +1,4 @@
 -- `loading::pack` meets its contract: each half stays below 2^32. Assumes nothing.
-use mathlib.Core.Path.{sym}
 use native.Mathlib.Omega.{arith}
 use borrow.Author.Needs.{needs}
 use Rattle.loading.proofs.pack.Statement.{statement}

@@ -6,9 +6,6 @@ use Rattle.loading.specs.Parts.{ratedAt}
 use borrow.Author.Needs.{needs}
 use Rattle.loading.proofs.rate_system.Statement.{statement}
 use Rattle.loading.proofs.rate_system.Tie as tie
-use Rattle.loading.proofs.rate_system.Reads as reads
-use Rattle.loading.proofs.rate_system.Lts as lts
-use Rattle.loading.proofs.rate_lists.Reads as rate-lists-reads
 
 mul-system : tie.Need-mul-system
 mul-system c = search needs

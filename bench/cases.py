@@ -1,0 +1,95 @@
+"""The cases that are rated: the worst rule of each kind and size, and every rule of small sizes for the peers to agree on."""
+
+import os
+import sys
+from typing import NamedTuple
+
+sys.path.insert(0, os.path.join(os.path.dirname(os.path.abspath(__file__)), "..", "second"))
+from foambeetle import DEAD, ROWS, UNIT, Rule  # noqa: E402
+
+SIZES = (8, 16, 32, 64)
+KINDS = range(1, 8)
+# Read from the last component on, these give as many memories as a total of 120 can: 1, 2, 4, .. 64, then 120.
+WEIGHTS = (1, 2, 4, 8, 16, 32, 57)
+HEAVIEST = 120
+
+
+class Case(NamedTuple):
+    rule: Rule
+    survivals: tuple
+    weights: tuple
+
+    def line(self):
+        return " ".join(map(str, (*self.rule, len(self.survivals), *self.survivals, *self.weights)))
+
+
+def drawn(n):
+    """Survival numbers from a twentieth of the unit up, odd, so that no fraction is shortened."""
+    numbers, x = [], 1
+    for _ in range(n):
+        x = (x * 1103515245 + 12345) % 2**31
+        numbers.append(UNIT // 20 + x % (UNIT // 20 * 19) | 1)
+    return tuple(numbers)
+
+
+def edges(n):
+    """The same with every third one 0 or the whole unit."""
+    return tuple(p if i % 3 else UNIT * (i % 2) for i, p in enumerate(drawn(n)))
+
+
+def weights(n):
+    return tuple(reversed((WEIGHTS + (0,) * n)[:n]))
+
+
+def rules(kind, n):
+    """Every rule of a kind; a few of kind 2."""
+    if kind == 2:
+        return [Rule(2, k, 0) for k in (1, 2, 30, HEAVIEST - 1, HEAVIEST)]
+    if kind == 3:
+        return [Rule(3, low, high) for high in range(n + 1) for low in range(high + 1)]
+    if kind in (6, 7):
+        return [Rule(kind, 2, r) for r in range(2, n + 1)]
+    return [Rule(kind, k, 0) for k in range(1, n + 1)]
+
+
+def steps(rule, n):
+    """How many pairs of a component and a living memory a reading can come to."""
+    row = ROWS[rule.kind]
+    heavy = weights(n)
+    here, pairs = {row.start}, 0
+    for component in range(n, 0, -1):
+        pairs += len(here)
+        after = {row.working(rule, m) for m in here} | {row.failed(rule, m, heavy[component - 1]) for m in here}
+        here = after - {DEAD}
+    return pairs
+
+
+def worst(kind, n):
+    """The rule with the most steps: of kind 3, where all rules have as many, the one that the papers' recurrence works longest at."""
+    if kind == 3:
+        return Rule(3, n // 2, n)
+    return max(rules(kind, n), key=lambda rule: steps(rule, n))
+
+
+def case(rule, n, list_of=drawn):
+    return Case(rule, list_of(n), weights(n))
+
+
+def worst_cases():
+    return [case(worst(kind, n), n) for kind in KINDS for n in SIZES]
+
+
+def agreed_cases():
+    """Small lists under every rule, short rings and survival numbers 0 among them; longer ones under a short and a middling rule."""
+    small = [case(rule, n, list_of) for n in (8, 16) for kind in KINDS for rule in rules(kind, n) for list_of in (drawn, edges)]
+    return small + [case(rule, n) for n in (32, 64) for rule in middling(n)]
+
+
+def middling(n):
+    return [Rule(1, n // 2, 0), Rule(2, 30, 0), Rule(3, 3, n // 2), Rule(4, 3, 0), Rule(5, 3, 0), Rule(6, 2, 3), Rule(7, 2, 3)]
+
+
+def longest_cases():
+    """Every rule over the longest list, to find what costs the library most; of kind 3, whose rules all cost it the same, two."""
+    most = SIZES[-1]
+    return [case(rule, most) for kind in KINDS for rule in (rules(kind, most) if kind != 3 else (Rule(3, 0, 0), worst(3, most)))]

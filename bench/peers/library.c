@@ -1,0 +1,23 @@
+// The library: one proved call, both ends, in a working table that is lent and handed back clear.
+#include "bench.h"
+
+enum { CELLS = 7800 };
+
+uint64_t foambeetle_figures(uint64_t kind, uint64_t first, uint64_t second, const uint32_t *survival, size_t n, const uint16_t *weights,
+                            size_t weighed, uint64_t *table, size_t cells);
+
+static struct asked asked;
+static uint64_t table[CELLS], packed;
+
+void prepare(const struct asked *a) {
+    asked = *a;
+}
+
+struct ends rate(void) {
+    packed = foambeetle_figures(asked.kind, asked.first, asked.second, asked.survival, asked.n, asked.weights, asked.n, table, CELLS);
+    return (struct ends){0, 0};
+}
+
+struct ends told(struct ends e) {
+    return (struct ends){packed >> 32, (uint32_t)packed};
+}

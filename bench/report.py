@@ -1,0 +1,239 @@
+"""Runs the programs that bench/run has built on the same cases, sees that they agree, and writes down what each costs."""
+
+import os
+import platform
+import subprocess
+import sys
+from datetime import date
+from typing import NamedTuple
+
+from cases import KINDS, SIZES, agreed_cases, longest_cases, steps, worst_cases
+
+# A double that has gone through n rounded steps is this near, in units of 2^-30.
+NEAR = 0.001
+# The instructions of the loop that the driver runs first.
+KNOWN = 2001
+START, END = "<!-- results -->\n", "<!-- end of results -->\n"
+WAYS = ("library", "plain", "directed", "fractions", "integers", "whole")
+NAMES = {"plain": "(a)", "directed": "(b)", "fractions": "(c)", "integers": "(c')"}
+LINES, RINGS = (1, 2, 3, 4, 6), (5, 7)
+
+
+class Measured(NamedTuple):
+    """One program's answers and costs, case by case."""
+
+    answers: list
+    costs: list
+
+
+def fail(*words):
+    sys.exit("bench: " + " ".join(map(str, words)))
+
+
+def run(command, cases):
+    """What the program prints: low, high and, where it was timed, nanoseconds, a line a case."""
+    lines = "".join(case.line() + "\n" for case in cases)
+    output = subprocess.run(command, input=lines, capture_output=True, text=True, check=True).stdout
+    return [tuple(map(float, line.split())) for line in output.splitlines()]
+
+
+def counted(room, way, cases):
+    """Answers and instructions, on the same plain x-86 processor everywhere."""
+    marks = os.path.join(room, way + ".marks")
+    answers = run(["qemu-x86_64", "-cpu", "qemu64", "-plugin", f"{room}/counter.so,out={marks}", f"{room}/{way}"], cases)
+    costs = costs_between(way, [int(line) for line in open(marks)])
+    if not len(costs) == len(answers) == len(cases):
+        fail(way, "rated", len(costs), "of", len(cases), "cases")
+    return Measured([answer[:2] for answer in answers], costs)
+
+
+def costs_between(way, marks):
+    """Three marks stand around the loop of known length and around nothing, then four around two ratings of each case."""
+    empty = marks[2] - marks[1]
+    if marks[1] - marks[0] - empty != KNOWN:
+        fail("the counter counts", marks[1] - marks[0] - empty, "where", KNOWN, "instructions were run")
+    costs = []
+    for at in range(3, len(marks), 4):
+        once, again = marks[at + 1] - marks[at], marks[at + 3] - marks[at + 2]
+        if once != again:
+            fail(way, "takes", once, "instructions, then", again)
+        costs.append(once - empty)
+    return costs
+
+
+def agrees(way, answer, low, high):
+    """Is a peer's answer one that the library's two ends allow?"""
+    if way == "whole":
+        return answer == (low, high)
+    if way in ("fractions", "integers"):
+        return low <= answer[0] <= answer[1] <= high
+    return low - NEAR <= answer[1] and answer[0] <= high + NEAR and answer[0] <= answer[1]
+
+
+def see_agreement(cases, library, way, peer):
+    for case, ours, theirs in zip(cases, library.answers, peer.answers):
+        if not agrees(way, theirs, *ours):
+            fail(way, "has", theirs, "and the library", ours, "of", case.line())
+
+
+def comma(number):
+    return f"{number:,.0f}"
+
+
+def ratio(a, b):
+    return f"{a / b:.2f}" if a < 10 * b else comma(a / b)
+
+
+def asked(rule):
+    if rule.kind == 3:
+        return f"l {rule.first}, h {rule.second}"
+    return f"r {rule.second}" if rule.kind > 5 else f"k {rule.first}"
+
+
+def table(heads, rows):
+    lines = ["| " + " | ".join(heads) + " |", "|" + "---|" * len(heads)]
+    return "\n".join(lines + ["| " + " | ".join(row) + " |" for row in rows]) + "\n"
+
+
+class Results:
+    """What each way costs at the rule with the most steps of each kind and size, and at the rules that cost the library most."""
+
+    def __init__(self, room):
+        self.room = room
+        self.ways = [way for way in WAYS if os.path.exists(f"{room}/{way}")]
+        self.cases = worst_cases()
+        self.at = {(case.rule.kind, len(case.survivals)): place for place, case in enumerate(self.cases)}
+        self.measure()
+        self.measure_figure1()
+        self.measure_dearest()
+
+    def measure(self):
+        """The peers must agree on all cases; the costs are kept of the worst."""
+        every = self.cases + agreed_cases()
+        self.agreed = len(every)
+        self.costs = {}
+        for way in self.ways:
+            measured = counted(self.room, way, every)
+            library = measured if way == "library" else library
+            see_agreement(every, library, way, measured)
+            self.costs[way] = measured.costs[: len(self.cases)]
+        self.exact = "fractions" if "fractions" in self.ways else "integers"
+
+    def measure_figure1(self):
+        cases = [self.cases[self.at[6, n]] for n in SIZES]
+        figure1 = counted(self.room, "figure1", cases)
+        see_agreement(cases, counted(self.room, "library", cases), "figure1", figure1)
+        self.figure1 = figure1.costs
+
+    def measure_dearest(self):
+        cases = longest_cases()
+        costs = counted(self.room, "library", cases).costs
+        places = [max((p for p, case in enumerate(cases) if case.rule.kind == kind), key=costs.__getitem__) for kind in KINDS]
+        self.dearest = [cases[place] for place in places]
+        self.dearest_costs = {way: counted(self.room, way, self.dearest).costs for way in ("library", "plain", "directed")}
+
+    def cost(self, way, kind, n=SIZES[-1]):
+        return self.costs[way][self.at[kind, n]]
+
+    def rule(self, kind, n=SIZES[-1]):
+        return self.cases[self.at[kind, n]].rule
+
+    def steps(self, kind, n=SIZES[-1]):
+        return steps(self.rule(kind, n), n)
+
+    def row(self, kind, n):
+        ours, work = self.cost("library", kind, n), self.steps(kind, n)
+        peers = [comma(self.cost(way, kind, n)) if way in self.ways else "-" for way in NAMES]
+        grown = ratio(ours, self.cost("library", kind, n // 2)) if n > SIZES[0] else ""
+        return [str(kind), str(n), asked(self.rule(kind, n)), comma(work), comma(ours), *peers,
+                ratio(ours, self.cost("plain", kind, n)), f"{ours / work:.1f}", grown]
+
+    def costs_table(self):
+        heads = ["kind", "n", "rule", "steps", "library", *NAMES.values(), "library / (a)", "library a step", "growth"]
+        return table(heads, [self.row(kind, n) for kind in KINDS for n in SIZES])
+
+    def dearest_table(self):
+        rows = []
+        for place, case in enumerate(self.dearest):
+            ours, plain, directed = (self.dearest_costs[way][place] for way in ("library", "plain", "directed"))
+            work = steps(case.rule, SIZES[-1])
+            rows.append([str(case.rule.kind), asked(case.rule), comma(work), comma(ours), comma(plain), comma(directed), f"{ours / work:.1f}"])
+        return table(["kind", "rule", "steps", "library", "(a)", "(b)", "library a step"], rows)
+
+    def whole_table(self):
+        if "whole" not in self.ways:
+            return "Skipped: the crate `loading` is not here.\n"
+        rows = [[str(kind), comma(self.cost("whole", kind)), comma(self.cost("library", kind)), comma(self.over(kind))] for kind in KINDS]
+        return table(["kind", "whole call", "library", "over it"], rows)
+
+    def over(self, kind):
+        return self.cost("whole", kind) - self.cost("library", kind)
+
+    def a_step(self):
+        """The library's cost of a step of kind 1, which the rings are held against."""
+        return self.cost("library", 1) / self.steps(1)
+
+    def goals(self):
+        """Each goal: what is asked, what is reached, what it may be at most."""
+        for kind in LINES:
+            yield f"kind {kind}: no more than (a)", self.cost("library", kind), self.cost("plain", kind)
+        for kind in KINDS:
+            yield f"kind {kind}: fewer than (b)", self.cost("library", kind), self.cost("directed", kind) - 1
+        for kind in KINDS:
+            yield f"kind {kind}: 50 times fewer than {NAMES[self.exact]}", self.cost("library", kind), self.cost(self.exact, kind) // 50
+        for kind in RINGS:
+            yield f"kind {kind}: twice its steps at kind 1's cost a step", self.cost("library", kind), 2 * self.steps(kind) * self.a_step()
+        for kind in RINGS:
+            case, ours = self.dearest[kind - 1], self.dearest_costs["library"][kind - 1]
+            yield f"the same at its dearest rule, {asked(case.rule)}", ours, 2 * steps(case.rule, SIZES[-1]) * self.a_step()
+        for kind in KINDS if "whole" in self.ways else ():
+            yield f"kind {kind}: whole call 20,000 over the rating", self.over(kind), 20000
+
+    def goals_table(self):
+        rows = []
+        for name, reached, most in self.goals():
+            verdict = "met" if reached <= most else f"missed by {comma(reached - most)} ({ratio(reached, most)} times)"
+            rows.append([name, comma(reached), comma(most), verdict])
+        if "whole" not in self.ways:
+            rows.append(["whole call 20,000 over the rating", "-", "20,000", "skipped: the crate `loading` is not here"])
+        return table(["goal at n = 64", "reached", "at most", ""], rows)
+
+    def times_table(self):
+        if platform.machine() != "x86_64":
+            return "No times: this machine is not x86-64 and runs the programs under an emulator.\n"
+        took = {way: [line[2] for line in run([f"{self.room}/{way}", "time"], self.cases)] for way in self.ways}
+        rows = [[str(kind), *(comma(took[way][self.at[kind, SIZES[-1]]]) for way in self.ways)] for kind in KINDS]
+        return "Nanoseconds a rating at n = 64, medians of 101:\n\n" + table(["kind", *self.ways], rows)
+
+    def text(self):
+        return "\n".join((
+            f"Measured on {date.today().isoformat()}; the programs agree on {self.agreed:,} cases.\n",
+            self.costs_table(),
+            "Kind 6 by figure 1 of document 000 (a'), at n = 8, 16, 32, 64: " + ", ".join(map(comma, self.figure1)) + ".\n",
+            "The rules that cost the library most at n = 64, of every k or r:\n",
+            self.dearest_table(),
+            "The whole call from a file's bytes, at n = 64:\n",
+            self.whole_table(),
+            "Goals:\n",
+            self.goals_table(),
+            self.times_table(),
+        ))
+
+
+def write(path, text):
+    """The results between their two lines, the rest of the page as it stands."""
+    page = open(path).read() if os.path.exists(path) else START + END
+    before, rest = page.split(START)
+    after = rest.split(END)[1]
+    with open(path, "w") as out:
+        out.write(before + START + "\n" + text + "\n" + END + after)
+
+
+def main():
+    room, page = sys.argv[1:]
+    text = Results(room).text()
+    print(text)
+    write(page, text)
+
+
+main()

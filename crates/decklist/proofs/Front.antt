@@ -1,0 +1,65 @@
+-- Input longer than any sound file, 724 bytes, is never cut into a sound one: a front of 725 bytes or more has the whole's header and is no file
+-- either, so decklist prints the same for both. Assumes nothing.
+use mathlib.Core.Path.{_≡_, refl, sym, ap, _∙_}
+use mathlib.Core.Bool.{Bool, true, false, not, _&&_}
+use mathlib.Core.List.{List}
+use Prim.Native.Nat.{ℕ, zero, suc, _+_, _≤_, _<_}
+use native.Mathlib.Omega.{arith}
+use lib.Dec.{eqb}
+use lib.ListN.{length, take}
+use lib.Seq.{length-take-le, getD-take}
+use borrow.Author.Tests.{le-ltb, ne-eqb, not-false}
+use Rattle.rules.specs.Refusal.{badSize}
+use Rattle.rules.specs.File.{numberAt, fansIn, systemsIn, survivalOffset, weightsOffset, systemsOffset, fileLength, badLayout, fileRefusal}
+use Rattle.rules.proofs.Seven.{within-true}
+use Rattle.rules.proofs.Accepted.{first-same}
+use Rattle.deck.proofs.Sound.{sound}
+use Rattle.decklist.specs.Lines.{listText}
+use Rattle.decklist.proofs.Printed.{refused-list}
+
+-- a length that differs is refused, whatever the offsets are
+long-layout : (bytes : List ℕ) → 724 < length bytes → fansIn bytes ≤ 64 → systemsIn bytes ≤ 32 → badLayout bytes ≡ true
+long-layout bytes long fans systems =
+    let n = fansIn bytes in
+    let placed = eqb (numberAt 4 bytes 8) survivalOffset && eqb (numberAt 4 bytes 12) (weightsOffset n) && eqb (numberAt 4 bytes 16) (systemsOffset n) in
+    rw (ne-eqb (length bytes) (fileLength n (systemsIn bytes)) (λ e. omega arith)) (never placed)
+  where
+    never : (b : Bool) → not (b && false) ≡ true
+    never true = refl
+    never false = refl
+
+long-refused : (bytes : List ℕ) → 724 < length bytes → fileRefusal bytes ≡ 0 → ⊥
+long-refused bytes long none = let s = sound bytes none in omega arith
+
+module _ (bytes : List ℕ) (k : ℕ) (long : 724 < k) (within : k ≤ length bytes) where
+  abbrev front : List ℕ
+  front = take k bytes
+
+  size : length front ≡ k
+  size = length-take-le k bytes within
+
+  -- a number in the front is the whole's
+  same-number : (width at : ℕ) → at + width ≤ k → numberAt width front at ≡ numberAt width bytes at
+  unfolding numberAt
+  same-number zero at h = refl
+  same-number (suc width) at h = rw (same-number width (suc at) (omega arith), getD-take k bytes at 0 (omega arith))
+
+  same-refusal : fileRefusal front ≡ fileRefusal bytes
+  unfolding fileRefusal
+  same-refusal =
+      first-same 10 _ _ _ _ (rw (size, le-ltb k 20 (omega arith), le-ltb (length bytes) 20 (omega arith))) (λ short.
+      first-same 11 _ _ _ _ (rw (same-number 2 0 (omega arith), same-number 2 2 (omega arith))) (λ version.
+      first-same 2 _ _ _ _ (ap badSize (same-number 2 4 (omega arith))) (λ fans.
+      first-same 12 _ _ _ _ (rw (same-number 2 6 (omega arith))) (λ systems.
+      let n = within-true 1 _ 64 (not-false _ fans) .1 in
+      let m = within-true 1 _ 32 (not-false _ systems) .1 in
+      first-same 13 _ _ _ _
+      (long-layout front (rw size long) n m
+      ∙ sym (long-layout bytes (omega arith) (rw (same-number 2 4 (omega arith)) at n) (rw (same-number 2 6 (omega arith)) at m)))
+      (λ layout. refl)))))
+
+  pub front-prints : listText front ≡ listText bytes
+  front-prints =
+      let refused = long-refused bytes (omega arith) in
+      sym (refused-list front (fileRefusal front) refl (λ z. refused (sym same-refusal ∙ z)))
+      ∙ refused-list bytes (fileRefusal front) same-refusal (λ z. refused (sym same-refusal ∙ z))

@@ -1,0 +1,2 @@
+-- The law of the rating for C: one number carries every answer.
+pub mod Packed
