@@ -5,3 +5,4 @@ pub mod Systems
 pub mod Sound
 pub mod File
 pub mod Kept
+pub mod Outcome
