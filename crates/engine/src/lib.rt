@@ -2,7 +2,8 @@
 //
 // The lent table holds, for one lead, a row of low and a row of high values of every memory that can still be reached, twice: the row with i
 // components left at `from`, and the one being made at the other side. Where each memory goes is written beside them, so a turn of the engine
-// knows nothing of kinds.
+// knows nothing of kinds. Cells 0 and 600 begin the two low rows, each with its high row 1,200 further; 2,400 begins where memories go on a working
+// component, 3,000 on a failed one.
 mod line; // line.rt: kinds 1 to 4 and 6
 mod ring; // ring.rt: kinds 5 and 7
 mod rows; // rows.rt: the rows of the table
