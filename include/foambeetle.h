@@ -1,4 +1,27 @@
-/* Foambeetle for the loading computer: one call on the bytes of a deck file. Link with libloading.a. */
+/* foambeetle.h: the loading computer's call.
+ *
+ * Link with libloading.a (x86-64). The call reads a deck file's bytes, rates one of its systems, and answers one
+ * 64-bit number. It writes nothing of the caller's, keeps nothing between calls, and may run in several threads at
+ * once. It uses up to 67,000 bytes of stack, 62,400 of them its working table.
+ *
+ * Figures are parts of FOAMBEETLE_UNIT: the exact chance that the system works lies between low / 2^30 and
+ * high / 2^30.
+ *
+ * A refusal is a number of this table. 2 and 10 to 13 refuse the whole file, 14 the system number, and the others the
+ * system alone:
+ *
+ *    1  kind not 1..7
+ *    2  number of fans 0 or above 64
+ *    3  stretch: a = 0, b < a, or b above the number of fans
+ *    4  a survival number above 2^30 in the stretch
+ *    5  kind 2: the stretch's weights add up to more than 120
+ *    6  first or second out of range
+ *   10  file under 20 bytes
+ *   11  version not 1, or the zero field not 0
+ *   12  number of systems not 1..32
+ *   13  an offset or the file's length differs from the layout
+ *   14  system number 0 or above the file's count
+ */
 #ifndef FOAMBEETLE_H
 #define FOAMBEETLE_H
 
@@ -9,35 +32,36 @@
 extern "C" {
 #endif
 
-/* The unit of low and high: a figure of FOAMBEETLE_UNIT is certainty. */
-#define FOAMBEETLE_UNIT ((uint32_t)1 << 30)
+/* What a chance of 1 is. */
+#define FOAMBEETLE_UNIT 1073741824u
 
-/* Rates one system of a deck file.
- *
- * file, length: the file's bytes, which are only read. With a length of 0, file may be any pointer but NULL.
- * system: the system's number in the file, from 1.
- *
- * The answer is low times 2^32 plus high; a refusal is (2^32 - 1) times 2^32 plus its number: the file's own (10, 11, 2, 12, 13), then
- * 14 (no such system), then the system's (1, 3, 4, 5, 6). Take it apart with the functions below. */
+/* The figures of a system, counted from 1, of the deck file in `length` bytes from `file` on. `file` is not null, also
+ * where `length` is 0. The answer is low times 2^32 plus high, or, for a refusal, (2^32 - 1) times 2^32 plus its
+ * number: take it apart by the functions below. */
 uint64_t foambeetle_rate(const uint8_t *file, size_t length, uint64_t system);
 
-/* Was the system refused? */
-static inline int foambeetle_refused(uint64_t answer) {
-    return (answer >> 32) == UINT32_MAX;
+/* Is the answer a refusal? 1 or 0. */
+static inline int foambeetle_refused(uint64_t answer)
+{
+    return (answer >> 32) == 0xffffffffu;
 }
 
-/* The refusal's number; 0 where there is none. */
-static inline uint32_t foambeetle_refusal(uint64_t answer) {
-    return foambeetle_refused(answer) ? (uint32_t)answer : 0;
+/* The refusal's number; 0 for an answer that is none. */
+static inline uint32_t foambeetle_refusal(uint64_t answer)
+{
+    return foambeetle_refused(answer) ? (uint32_t)(answer & 0xffffffffu) : 0u;
 }
 
-/* The low and the high figure, in parts of FOAMBEETLE_UNIT; the exact chance lies between them. Of a refusal they say nothing. */
-static inline uint32_t foambeetle_low(uint64_t answer) {
+/* Low, of an answer that is no refusal: 0 to FOAMBEETLE_UNIT. */
+static inline uint32_t foambeetle_low(uint64_t answer)
+{
     return (uint32_t)(answer >> 32);
 }
 
-static inline uint32_t foambeetle_high(uint64_t answer) {
-    return (uint32_t)answer;
+/* High, likewise. */
+static inline uint32_t foambeetle_high(uint64_t answer)
+{
+    return (uint32_t)(answer & 0xffffffffu);
 }
 
 #ifdef __cplusplus

@@ -1,5 +1,4 @@
 // Prints the systems of the deck file on standard input, a line each, or the file's refusal.
-ghost use Rattle.io.specs.Counts.{Counts};
 
 mod listing;
 
