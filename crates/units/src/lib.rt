@@ -1,6 +1,7 @@
 // The unit S = 2^30, a component's two numbers, and the one rounded step that every figure is made of.
 ghost use mathlib.Core.Path.{_≡_};
 ghost use mathlib.Core.Bool.{true, false};
+ghost use Prim.Native.Nat.{_*_, _≤_};
 ghost use Rattle.rules.specs.State.{S};
 ghost use Rattle.rules.specs.Figure.{rounded, mixed};
 ghost use Rattle.units.specs.Step.{Parts};
@@ -12,12 +13,28 @@ pub struct Survival(pub u64);
 
 pub struct Failure(pub u64);
 
-// p times the value where the component works, plus q times the value where it fails, over the unit, rounded down.
+// A number within the unit. The compiler sees that it fits 32 bits, and multiplies two at a time.
+fn narrow(x: u64) -> u64
+    requires { ⌜ x ≤ S ⌝ }
+    ensures { λ r. ⌜ r ≡ x ⌝ }
+{
+    (x as u32) as u64
+}
+
+// p times the value where the component works, plus q times the value where it fails.
+fn mix(p: Survival, q: Failure, works: u64, fails: u64) -> u64
+    requires { ⌜ Parts (p .0) (q .0) works fails ⌝ }
+    ensures { λ r. ⌜ (r ≡ mixed S (p .0) works fails) × (r ≤ S * S) ⌝ }
+{
+    narrow(p.0) * narrow(works) + narrow(q.0) * narrow(fails)
+}
+
+// The mix over the unit, rounded down.
 pub fn round_down(p: Survival, q: Failure, works: u64, fails: u64) -> u64
     requires { ⌜ Parts (p .0) (q .0) works fails ⌝ }
     ensures { λ r. ⌜ r ≡ rounded false S (mixed S (p .0) works fails) ⌝ }
 {
-    (p.0 * works + q.0 * fails) / UNIT
+    mix(p, q, works, fails) / UNIT
 }
 
 // The same, rounded up.
@@ -25,5 +42,5 @@ pub fn round_up(p: Survival, q: Failure, works: u64, fails: u64) -> u64
     requires { ⌜ Parts (p .0) (q .0) works fails ⌝ }
     ensures { λ r. ⌜ r ≡ rounded true S (mixed S (p .0) works fails) ⌝ }
 {
-    (p.0 * works + q.0 * fails + (UNIT - 1)) / UNIT
+    (mix(p, q, works, fails) + (UNIT - 1)) / UNIT
 }

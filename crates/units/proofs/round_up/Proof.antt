@@ -1,29 +1,21 @@
--- `round_up` is the rounded step: with both values within the unit the products and their sum fit 64 bits. Assumes nothing.
-use native.Mathlib.Omega.{arith}
+-- `round_up` is the rounded step of the mix. Assumes nothing.
 use borrow.Author.Needs.{needs}
 use Rattle.rules.specs.Figure.{rounded}
-use Rattle.units.proofs.Laws.{left-le, right-le}
 use Rattle.units.proofs.round_up.Statement.{statement}
 use Rattle.units.proofs.round_up.Tie as tie
 
-mul-result : tie.Need-mul-result
-mul-result c = omega (arith, left-le (c .before .pre))
-
-mul-result-2 : tie.Need-mul-result-2
-mul-result-2 c = omega (arith, right-le (c .before .before .pre))
-
-add-result : tie.Need-add-result
-add-result c = omega (arith, left-le (c .before .before .pre), right-le (c .before .before .pre))
+mix-requires : tie.Need-mix-requires
+mix-requires c κs = search needs
 
 sub-result : tie.Need-sub-result
 sub-result c = search needs
 
-add-result-2 : tie.Need-add-result-2
-add-result-2 c = omega (arith, left-le (c .before .before .pre), right-le (c .before .before .pre))
+add-result : tie.Need-add-result
+add-result c = search needs
 
 returns : tie.Need-returns
 unfolding rounded
-returns c = rw (c .before .before .pre .rest)
+returns c = rw (c .mix .ensures .0)
 
 pub round-up-spec : {M : Type 1} → statement M
-round-up-spec = tie.close (tie.spec mul-result mul-result-2 add-result sub-result add-result-2 returns)
+round-up-spec = tie.close (tie.spec mix-requires sub-result add-result returns)
