@@ -1,113 +1,83 @@
--- Rows of a table after a store: one that makes a row longer, one elsewhere; and the cells past 7,800 kept. Assumes nothing.
-use Prim.Native.Nat.{ℕ, _+_, _-_, _≤_, _<_}
-use mathlib.Core.Path.{_≡_, refl, ap, _∙_}
-use mathlib.Core.Logic.{inl, inr, ⊎-elim}
+-- Places of a table after a pair is written: a row made longer, one elsewhere; and the cells past 7,800 kept. Assumes nothing.
+use Prim.Native.Nat.{ℕ, _+_, _≤_, _<_}
+use mathlib.Core.Path.{_≡_, refl, sym, _∙_}
+use mathlib.Core.Bool.{Bool, true, false}
+use mathlib.Core.Logic.{_⊎_, inl, inr, ⊎-elim}
 use mathlib.Core.List.{List}
 use native.Mathlib.Omega.{arith}
 use lib.ListN.{length, getD, set, length-set}
 use lib.Seq.{getD-set-same, getD-set-other, drop-set-lt}
 use borrow.Author.Count.{below-more}
-use mathlib.Core.Bool.{true, false}
 use Rattle.rules.specs.Refusal.{cells}
-use Rattle.engine.specs.Rows.{Row, Kept, Celled, Off, Written, Side, Steady, stepAt}
+use Rattle.engine.specs.declared.Ends.{Ends}
+use Rattle.engine.specs.Cells.{one, Both, cellAt, Place, Kept, Put, Row, Written}
 
-module _ {f : ℕ → ℕ} {t : List ℕ} {off : ℕ} where
-  pub row-none : Row f t off 0
-  row-none = record { is = λ k l. absurd (omega arith) }
-
-  pub row-other : {n : ℕ} (j v : ℕ) → ((k : ℕ) → k < n → off + k ≡ j → ⊥) → Row f t off n → Row f (set t j v) off n
-  row-other j v away r = record { is = λ k l. getD-set-other t j (off + k) v 0 (away k l) ∙ r .is k l }
-
-  pub row-more : {n : ℕ} (j v : ℕ) → j ≡ off + n → j < length t → v ≡ f n → Row f t off n → Row f (set t j v) off (n + 1)
-  row-more {n} j v w l e r =
-      record { is = below-more _ n (row-other j v (λ k h q. omega arith) r .is) (rw (← w) (getD-set-same t j v 0 l ∙ e)) }
+pub both-at : {f : Bool → ℕ} {r : Ends} → Both f r → (up : Bool) → one up r ≡ f up
+both-at b false = b .low
+both-at b true = b .high
 
 pub kept-none : {t : List ℕ} → Kept t t
 kept-none = record { long = refl; rest = refl }
 
-pub kept-set : {t₀ t : List ℕ} (j v : ℕ) → j < cells → Kept t₀ t → Kept t₀ (set t j v)
+kept-set : {t₀ t : List ℕ} (j v : ℕ) → j < cells → Kept t₀ t → Kept t₀ (set t j v)
 kept-set {t = t} j v l k = record { long = length-set t j v ∙ k .long; rest = drop-set-lt cells t j v l ∙ k .rest }
 
 pub kept-trans : {a b c : List ℕ} → Kept a b → Kept b c → Kept a c
 kept-trans h k = record { long = k .long ∙ h .long; rest = k .rest ∙ h .rest }
 
-pub celled-none : {f : ℕ → ℕ} {t : List ℕ} {off : ℕ} → Celled f 0 off t t
-celled-none = record { row = row-none; other = λ k s. refl; kept = kept-none }
+pub room-kept : {t₀ t : List ℕ} → Kept t₀ t → cells ≤ length t₀ → cells ≤ length t
+room-kept k room = omega (arith, k .long)
 
--- one cell more of a row that is being written
-pub celled-more : {f : ℕ → ℕ} {n off : ℕ} {t₀ t : List ℕ} (j v : ℕ) → j ≡ off + n → j < cells → cells ≤ length t₀ → v ≡ f n
-    → Celled f n off t₀ t → Celled f (n + 1) off t₀ (set t j v)
-celled-more {n = n} {off} {t₀} {t} j v w small room e r = record {
-  row = row-more j v w (omega (arith, r .kept .long)) e (r .row);
-  other = λ k s. getD-set-other t j k v 0 (λ q. ⊎-elim (λ l. omega arith) (λ l. omega arith) s)
-      ∙ r .other k (⊎-elim (λ l. inl l) (λ l. inr (omega arith)) s);
-  kept = kept-set j v small (r .kept);
-}
+-- the two stores of a pair
+module _ (at : ℕ) (e : Ends) (t : List ℕ) (p : Place at t) where
+  abbrev stored : List ℕ
+  stored = set (set t at (e .low)) (1200 + at) (e .high)
 
-pub written-none : {f g : ℕ → ℕ} {to : ℕ} {t : List ℕ} → Written f g 0 to t t
-written-none = record { low = row-none; high = row-none; other = λ k o. refl; kept = kept-none }
+  put-here : (up : Bool) → cellAt stored up at ≡ one up e
+  put-here false =
+      getD-set-other (set t at (e .low)) (1200 + at) at (e .high) 0 (λ q. omega arith) ∙ getD-set-same t at (e .low) 0 (omega (arith, p .low, p .room))
+  put-here true = getD-set-same (set t at (e .low)) (1200 + at) (e .high) 0 (rw (length-set t at (e .low)) (omega (arith, p .low, p .room)))
 
--- one cell more of both rows that are being written
-pub written-more : {f g : ℕ → ℕ} {n to : ℕ} {t₀ t : List ℕ} (j j' v v' : ℕ) → j ≡ to + n → j' ≡ 1200 + to + n → n < 600 → to ≤ 600 → cells ≤ length t₀
-    → v ≡ f n → v' ≡ g n → Written f g n to t₀ t → Written f g (n + 1) to t₀ (set (set t j v) j' v')
-written-more {n = n} {to} {t₀} {t} j j' v v' w w' small near room e e' r = record {
-  low = row-other j' v' (λ k h q. omega arith) (row-more j v w (omega (arith, r .kept .long)) e (r .low));
-  high = row-more j' v' w' (simp length-set (omega (arith, r .kept .long))) e' (row-other j v (λ k h q. omega arith) (r .high));
-  other = λ k o.
-      getD-set-other (set t j v) j' k v' 0 (λ q. ⊎-elim (λ l. omega arith) (λ l. omega arith) (o .1))
-      ∙ getD-set-other t j k v 0 (λ q. ⊎-elim (λ l. omega arith) (λ l. omega arith) (o .0))
-      ∙ r .other k o;
-  kept = kept-set j' v' (omega arith) (kept-set j v (omega arith) (r .kept));
-}
+  put-other : (up : Bool) (k : ℕ) → k < 1200 → (k ≡ at → ⊥) → cellAt stored up k ≡ cellAt t up k
+  put-other false k l away = getD-set-other (set t at (e .low)) (1200 + at) k (e .high) 0 (λ q. omega arith) ∙ getD-set-other t at k (e .low) 0 away
+  put-other true k l away =
+      getD-set-other (set t at (e .low)) (1200 + at) (1200 + k) (e .high) 0 (λ q. away (omega arith))
+      ∙ getD-set-other t at (1200 + k) (e .low) 0 (λ q. omega (arith, p .low))
 
-pub side-near : {from : ℕ} → Side from → from ≤ 600
-side-near side = ⊎-elim (λ e. omega arith) (λ e. omega arith) side
-
--- the cells that a turn reads lie outside the rows that it writes
-pub off-steps : {from k : ℕ} → Side from → 2400 ≤ k → Off (600 - from) k
-off-steps side l = (inr (omega arith), inr (omega arith))
-
-pub off-low : {from k : ℕ} → Side from → k < 600 → Off (600 - from) (from + k)
-off-low side l = ⊎-elim (λ e. (inl (omega arith), inl (omega arith))) (λ e. (inr (omega arith), inl (omega arith))) side
-
-pub off-high : {from k : ℕ} → Side from → k < 600 → Off (600 - from) (1200 + from + k)
-off-high side l = ⊎-elim (λ e. (inr (omega arith), inl (omega arith))) (λ e. (inr (omega arith), inr (omega arith))) side
-
--- so a step reads there what it read before
-module _ {p q from m n : ℕ} {f g : ℕ → ℕ} {t₀ t : List ℕ} (side : Side from) (y : Steady p q t₀ from m) (r : Written f g n (600 - from) t₀ t) where
-  worked-same : getD t (2400 + m) 0 ≡ getD t₀ (2400 + m) 0
-  worked-same = r .other _ (off-steps side (omega arith))
-
-  failed-same : getD t (3000 + m) 0 ≡ getD t₀ (3000 + m) 0
-  failed-same = r .other _ (off-steps side (omega arith))
-
-  low-left : getD t (from + getD t (2400 + m) 0) 0 ≡ getD t₀ (from + getD t₀ (2400 + m) 0) 0
-  low-left = ap (λ x. getD t (from + x) 0) worked-same ∙ r .other _ (off-low side (y .worked))
-
-  low-right : getD t (from + getD t (3000 + m) 0) 0 ≡ getD t₀ (from + getD t₀ (3000 + m) 0) 0
-  low-right = ap (λ x. getD t (from + x) 0) failed-same ∙ r .other _ (off-low side (y .failed))
-
-  high-left : getD t (1200 + from + getD t (2400 + m) 0) 0 ≡ getD t₀ (1200 + from + getD t₀ (2400 + m) 0) 0
-  high-left = ap (λ x. getD t (1200 + from + x) 0) worked-same ∙ r .other _ (off-high side (y .worked))
-
-  high-right : getD t (1200 + from + getD t (3000 + m) 0) 0 ≡ getD t₀ (1200 + from + getD t₀ (3000 + m) 0) 0
-  high-right = ap (λ x. getD t (1200 + from + x) 0) failed-same ∙ r .other _ (off-high side (y .failed))
-
-  pub steady-same : Steady p q t from m
-  steady-same = record {
-    chance = y .chance;
-    rest = y .rest;
-    near = y .near;
-    small = y .small;
-    room = omega (arith, y .room, r .kept .long);
-    worked = rw worked-same (y .worked);
-    failed = rw failed-same (y .failed);
-    low = record { left = rw low-left (y .low .left); right = rw low-right (y .low .right) };
-    high = record { left = rw high-left (y .high .left); right = rw high-right (y .high .right) };
+  pub put-set : Put at e t stored
+  put-set = record {
+    here = put-here;
+    other = put-other;
+    kept = kept-set (1200 + at) (e .high) (omega (arith, p .low)) (kept-set at (e .low) (omega (arith, p .low)) kept-none);
   }
 
-  pub low-step : stepAt false p t from m ≡ stepAt false p t₀ from m
-  low-step = rw (low-left, low-right)
+module _ {f : Bool → ℕ → ℕ} {t t' : List ℕ} {off at : ℕ} {e : Ends} (p : Put at e t t') where
+  pub row-other : {n : ℕ} → off + n ≤ 1200 → ((k : ℕ) → k < n → off + k ≡ at → ⊥) → Row f t off n → Row f t' off n
+  row-other low away r = record { is = λ up k l. p .other up (off + k) (omega arith) (away k l) ∙ r .is up k l }
 
-  pub high-step : stepAt true p t (1200 + from) m ≡ stepAt true p t₀ (1200 + from) m
-  high-step = rw (high-left, high-right)
+  pub row-more : {n : ℕ} → at ≡ off + n → off + n < 1200 → Both (λ up. f up n) e → Row f t off n → Row f t' off (n + 1)
+  row-more {n} w low b r =
+      record { is = λ up. below-more _ n (row-other (omega arith) (λ k h q. omega arith) r .is up) (rw (← w) (p .here up ∙ both-at b up)) }
+
+pub row-none : {f : Bool → ℕ → ℕ} {t : List ℕ} {off : ℕ} → Row f t off 0
+row-none = record { is = λ up k l. absurd (omega arith) }
+
+-- the same row where the places are as they were
+pub row-same : {f : Bool → ℕ → ℕ} {t₀ t : List ℕ} {off n : ℕ} → ((up : Bool) (k : ℕ) → k < n → cellAt t up (off + k) ≡ cellAt t₀ up (off + k)) → Row f t₀ off n → Row f t off n
+row-same same r = record { is = λ up k l. same up k l ∙ r .is up k l }
+
+-- and the same places by another account
+pub row-as : {f g : Bool → ℕ → ℕ} {t : List ℕ} {off n : ℕ} → ((up : Bool) (k : ℕ) → k < n → f up k ≡ g up k) → Row f t off n → Row g t off n
+row-as same r = record { is = λ up k l. r .is up k l ∙ same up k l }
+
+pub written-none : {f : Bool → ℕ → ℕ} {off : ℕ} {t : List ℕ} → Written f 0 off t t
+written-none = record { row = row-none; other = λ up k l o. refl; kept = kept-none }
+
+-- one place more of a row that is being written
+pub written-more : {f : Bool → ℕ → ℕ} {n off at : ℕ} {t₀ t t' : List ℕ} {e : Ends} → Put at e t t' → at ≡ off + n → off + n < 1200 → Both (λ up. f up n) e
+    → Written f n off t₀ t → Written f (n + 1) off t₀ t'
+written-more p w low b r = record {
+  row = row-more p w low b (r .row);
+  other = λ up k l o. p .other up k l (λ q. ⊎-elim (λ h. omega arith) (λ h. omega arith) o) ∙ r .other up k l (⊎-elim (λ h. inl h) (λ h. inr (omega arith)) o);
+  kept = kept-trans (r .kept) (p .kept);
+}

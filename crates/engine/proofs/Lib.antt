@@ -1,6 +1,2 @@
--- What the engine's proofs share.
+-- What the engine's proofs share, from a table's cells up to the whole figure.
 pub mod Cells
-pub mod Reach
-pub mod Turning
-pub mod Opening
-pub mod Whole

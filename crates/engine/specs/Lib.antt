@@ -1,4 +1,3 @@
--- What the engine's contracts cite: the rows of the lent table.
-pub mod Rows
-pub mod Level
-pub mod Open
+-- What the engine's contracts cite: the lent table's cells, and what is known of the list that is rated.
+pub mod Cells
+pub mod Rated
