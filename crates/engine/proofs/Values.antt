@@ -1,0 +1,50 @@
+-- Values of the program's memory: within the unit; the unit and 0 mixed with themselves; and 0 of a memory at its limit or past it, which stays there.
+-- Assumes nothing.
+use Prim.Native.Nat.{ℕ, zero, suc, _*_, _≤_}
+use mathlib.Core.Path.{_≡_}
+use mathlib.Core.Bool.{Bool, false}
+use mathlib.Core.List.{List}
+use native.Mathlib.Omega.{arith}
+use lib.ListN.{getD}
+use borrow.Author.Tests.{le-leb}
+use Rattle.rules.specs.declared.Rule.{Rule}
+use Rattle.rules.specs.State.{S, numberOf}
+use Rattle.rules.specs.Figure.{mixed, rounded, value}
+use Rattle.rules.proofs.Rounding.{whole}
+use Rattle.rules.proofs.Enclosure.{value-le}
+use Rattle.memory.specs.Step.{limitOf, workedAt, failedAt, endOf, to, program}
+use Rattle.engine.specs.Rated.{valueAt}
+
+pub nothing : (up : Bool) (p : ℕ) → rounded up S (mixed S p 0 0) ≡ 0
+nothing up p = let e : mixed S p 0 0 ≡ 0 * S = omega arith in rw e (whole up S 0 (omega arith))
+
+pub unchanged : (up : Bool) (p : ℕ) → p ≤ S → rounded up S (mixed S p S S) ≡ S
+unchanged up p l = let e : mixed S p S S ≡ S * S = omega arith in rw e (whole up S S (omega arith))
+
+numbers-le : (survival : List ℕ) → ((k : ℕ) → getD survival k 0 ≤ S) → (i : ℕ) → numberOf survival i ≤ S
+unfolding numberOf
+numbers-le survival h zero = omega arith
+numbers-le survival h (suc i) = h i
+
+pub value-small : (up : Bool) (rule : Rule) (survival weights : List ℕ) (lead i at : ℕ) → ((k : ℕ) → getD survival k 0 ≤ S) → valueAt up rule survival weights lead i at ≤ S
+value-small up rule survival weights lead i at units =
+    value-le (program rule weights) S (numberOf survival) (omega arith) up i (λ k l. numbers-le survival units k) _
+
+module _ (rule : Rule) (at : ℕ) (gone : limitOf rule ≤ at) where
+  worked-dead : workedAt rule at ≡ at
+  unfolding workedAt
+  worked-dead = rw (le-leb (limitOf rule) at gone)
+
+  failed-dead : (weight : ℕ) → failedAt rule weight at ≡ at
+  unfolding failedAt
+  failed-dead weight = rw (le-leb (limitOf rule) at gone)
+
+  end-dead : (lead : ℕ) → endOf rule (to lead at) ≡ false
+  unfolding endOf
+  end-dead lead = rw (le-leb (limitOf rule) at gone)
+
+  pub value-dead : (up : Bool) (survival weights : List ℕ) (lead i : ℕ) → valueAt up rule survival weights lead i at ≡ 0
+  unfolding value
+  value-dead up survival weights lead zero = rw (end-dead lead)
+  value-dead up survival weights lead (suc i) =
+      rw (worked-dead, failed-dead (numberOf weights (suc i)), value-dead up survival weights lead i) (nothing up (numberOf survival (suc i)))
