@@ -14,13 +14,15 @@ use Rattle.rules.specs.declared.Rule.{Rule}
 use Rattle.rules.specs.State.{S, numberOf}
 use Rattle.rules.specs.Figure.{mixed, rounded, value}
 use Rattle.rules.proofs.Reading.{by-test}
+use Rattle.rules.specs.Refusal.{cells}
 use Rattle.memory.specs.Step.{limitOf, heavierOf, workedAt, failedAt, endOf, to}
 use Rattle.engine.specs.declared.Ends.{Ends}
 use Rattle.engine.specs.declared.Known.{Known}
-use Rattle.engine.specs.Cells.{one, Both, cellAt, Place, Within, Put, Kept}
+use Rattle.engine.specs.Cells.{one, Both, cellAt, Place, Within, Put, Written}
 use Rattle.engine.specs.Rated.{Rated}
 use Rattle.engine.specs.Runs.{valueOf, ran, before, settled, Ready, Holds, Steppable, Running, Passable, Reached}
-use Rattle.engine.proofs.Cells.{both-at, row-same, row-more, room-kept, kept-trans}
+use Rattle.rules.proofs.Rounding.{step-le}
+use Rattle.engine.proofs.Cells.{both-at, row-none, row-other, row-more, room-kept}
 use Rattle.engine.proofs.Values.{nothing, unchanged, value-small, value-dead}
 
 module _ (rule : Rule) (late : 3 < rule .kind) (some : 0 < limitOf rule) where
@@ -199,3 +201,156 @@ pub run-over : (rule : Rule) (survival : List ℕ) (lead i upto : ℕ) {r : Ends
 run-over rule survival lead i upto rated e b =
     let d : suc upto - upto ≡ 1 = omega arith in
     rw (e, d, ran-one rule survival rated) at b
+
+-- settled runs, a component at a time
+before-small : (up : Bool) (rule : Rule) (p none run : ℕ) → p ≤ S → none ≤ S → run ≤ S → before up rule p none run ≤ S
+unfolding before
+before-small up rule p none run a b c =
+    by-test (λ x. rounded up S x ≤ S) (leb (rule .kind) 5) _ _ (λ _. step-le up S p none run (omega arith) a b c) (λ _. step-le up S p run 0 (omega arith) a c (omega arith))
+
+settled-small : (up : Bool) (rule : Rule) (survival : List ℕ) → ((k : ℕ) → getD survival k 0 ≤ S) → (i : ℕ) → settled up rule survival i ≤ S
+unfolding settled
+settled-small up rule survival units zero = omega arith
+settled-small up rule survival units (suc i) = before-small up rule (getD survival i 0) S _ (units i) (omega arith) (settled-small up rule survival units i)
+
+module _ {rule : Rule} {survival : List ℕ} (rated : Rated rule survival) {unit run : Ends} (i : ℕ) (u : Both (λ up. S) unit) (v : Both (λ up. settled up rule survival i) run) where
+  pub settle-steppable : i < length survival → Steppable rule survival i unit run
+  settle-steppable l = record {
+    some = l;
+    unit = rated .units i;
+    none-small = λ _. record { low = omega (arith, u .low); high = omega (arith, u .high) };
+    run-small = record { low = rw (v .low) (settled-small false rule survival (rated .units) i); high = rw (v .high) (settled-small true rule survival (rated .units) i) };
+  }
+
+  pub settled-more : {r : Ends} → Both (λ up. before up rule (getD survival i 0) (one up unit) (one up run)) r → Both (λ up. settled up rule survival (i + 1)) r
+  unfolding settled
+  settled-more b = let e : i + 1 ≡ suc i = omega arith in record { low = b .low ∙ rw (u .low, v .low, e); high = b .high ∙ rw (u .high, v .high, e) }
+
+pub settled-first : (rule : Rule) (survival : List ℕ) {r : Ends} → Both (λ up. S) r → Both (λ up. settled up rule survival 0) r
+unfolding settled
+settled-first rule survival b = b
+
+pub settled-all : {rule : Rule} {survival t₀ t : List ℕ} {i : ℕ} → Rated rule survival → 3 < rule .kind → cells ≤ length t₀ → i ≡ length survival
+    → Written (λ up k. settled up rule survival k) i 600 t₀ t → Ready rule survival t
+settled-all rated late room e w = record { rated = rated; late = late; room = room-kept (w .kept) room; settled = rw e at (w .row) }
+
+-- a failed component passed
+module _ {rule : Rule} {survival : List ℕ} {s : Known} {i : ℕ} {t : List ℕ} (y : Passable rule survival s i t) where
+  abbrev ready : Ready rule survival t
+  ready = y .holds .ready
+
+  pub cut-place : Place (600 + i) t
+  cut-place = record { low = omega (arith, y .some, ready .rated .size); room = ready .room }
+
+  pub cut-settled : suc i < limitOf rule → endOf rule (to (s .lead) (i + 1)) ≡ true → {r : Ends} → Both (λ up. cellAt t up (600 + i)) r → Both (λ up. valueOf up rule survival (s .lead) i 1) r
+  cut-settled l works b = record { low = b .low ∙ is false; high = b .high ∙ is true }
+    where
+      is : (up : Bool) → cellAt t up (600 + i) ≡ valueOf up rule survival (s .lead) i 1
+      is up = ready .settled .is up i (y .some) ∙ sym (cut-works rule (ready .late) (ready .rated .some) up survival (s .lead) i (ready .rated .units) l (let e : i + 1 ≡ suc i = omega arith in rw e at works))
+
+  pub cut-dead : 5 < rule .kind → suc i < limitOf rule → endOf rule (to (s .lead) (i + 1)) ≡ false → {r : Ends} → Both (λ up. 0) r → Both (λ up. valueOf up rule survival (s .lead) i 1) r
+  cut-dead late l fails b = record { low = b .low ∙ sym (is false); high = b .high ∙ sym (is true) }
+    where
+      is : (up : Bool) → valueOf up rule survival (s .lead) i 1 ≡ 0
+      is up =
+          let e : 1 + i ≡ i + 1 = omega arith in
+          cut-late rule (ready .late) (ready .rated .some) (lt-leb (rule .kind) 5 late) up survival (s .lead) i 1 (omega arith) (omega arith) ∙ rw (e, fails)
+
+  pub cut-running : rule .kind ≤ 5 → suc i < limitOf rule → endOf rule (to (s .lead) (i + 1)) ≡ false → {r : Ends} → Both (λ up. 0) r → Running rule survival s 0 i r t
+  unfolding value
+  cut-running early l fails b = record {
+    holds = y .holds;
+    order = omega arith;
+    most = omega (arith, y .some);
+    short = omega arith;
+    none = y .none;
+    last = record { low = b .low ∙ sym (is false); high = b .high ∙ sym (is true) };
+  }
+    where
+      is : (up : Bool) → valueOf up rule survival (s .lead) 0 (ran rule (suc i - 0)) ≡ 0
+      is up = let e : suc i - 0 ≡ i + 1 = omega arith in rw (e, ran-short rule (ready .late) (ready .rated .some) (i + 1) (omega arith), fails)
+
+  pub whole-running : (from : ℕ) → from + limitOf rule ≡ suc i → {r : Ends} → Both (λ up. cond (leb (rule .kind) 5) 0 (cellAt t up from)) r → Running rule survival s from i r t
+  unfolding ran
+  whole-running from e b = record {
+    holds = y .holds;
+    order = omega (arith, ready .rated .some);
+    most = omega (arith, y .some);
+    short = omega arith;
+    none = y .none;
+    last = record { low = b .low ∙ is false; high = b .high ∙ is true };
+  }
+    where
+      known : (up : Bool) → cellAt t up from ≡ valueOf up rule survival (s .lead) from 0
+      known up = let z = zero-add from in rw z at (y .holds .none .is up from (omega (arith, y .near)))
+
+      is : (up : Bool) → cond (leb (rule .kind) 5) 0 (cellAt t up from) ≡ valueOf up rule survival (s .lead) from (ran rule (suc i - from))
+      is up =
+          let d : suc i - from ≡ limitOf rule = omega arith in
+          rw (d, le-ltb (limitOf rule) (limitOf rule) (omega arith))
+          (by-test (λ x. cond (leb (rule .kind) 5) 0 (cellAt t up from) ≡ valueOf up rule survival (s .lead) from x) (leb (rule .kind) 5) _ _
+          (λ k. rw k (sym (value-dead rule (limitOf rule) (omega arith) up survival [] (s .lead) from))) (λ k. rw k (known up)))
+
+-- memory 0 with one component more
+module _ {rule : Rule} {survival : List ℕ} {s : Known} {t : List ℕ} (y : Holds rule survival s t) (l : s .left < length survival) where
+  pub more-passable : Passable rule survival s (s .left) t
+  more-passable = record { holds = y; some = l; near = omega (arith, y .ready .rated .some); none = λ _. omega arith }
+
+  pub none-place : (i : ℕ) → i ≤ length survival → Place i t
+  none-place i h = record { low = omega (arith, y .ready .rated .size); room = y .ready .room }
+
+  module _ {none run : Ends} (n : Both (λ up. cellAt t up (s .left)) none) (v : Both (λ up. valueOf up rule survival (s .lead) (s .left) 1) run) where
+    none-is : Both (λ up. valueOf up rule survival (s .lead) (s .left) 0) none
+    none-is = none-at y (s .left) (omega arith) n
+
+    pub none-within : Within none × Within run
+    none-within = (within-values rule survival (s .lead) (s .left) 0 (y .ready .rated .units) none-is, within-values rule survival (s .lead) (s .left) 1 (y .ready .rated .units) v)
+
+    pub holds-more : {t' : List ℕ} {e : Ends} → Both (λ up. rounded up S (mixed S (getD survival (s .left) 0) (one up none) (one up run))) e → Put (s .left + 1) e t t'
+        → Reached rule survival (s .lead) (suc (s .left)) t t' (record { lead = s .lead; left = s .left + 1 })
+    holds-more {t'} {e} b p = record {
+      holds = record {
+        ready = record {
+          rated = y .ready .rated;
+          late = y .ready .late;
+          room = room-kept (p .kept) (y .ready .room);
+          settled = row-other p (omega (arith, y .ready .rated .size)) (λ k h q. omega (arith, y .ready .rated .size)) (y .ready .settled);
+        };
+        lead = y .lead;
+        left = omega arith;
+        none = let a : suc (s .left + 1) ≡ suc (s .left) + 1 = omega arith in rw a (row-more p (omega arith) (omega (arith, y .ready .rated .size)) turned (y .none));
+      };
+      lead = refl;
+      left = omega arith;
+      kept = p .kept;
+    }
+      where
+        step : (up : Bool) → rounded up S (mixed S (getD survival (s .left) 0) (one up none) (one up run)) ≡ valueOf up rule survival (s .lead) (suc (s .left)) 0
+        step up =
+            ap (λ x. rounded up S (mixed S (getD survival (s .left) 0) x (one up run))) (both-at none-is up)
+            ∙ ap (λ x. rounded up S (mixed S (getD survival (s .left) 0) (valueOf up rule survival (s .lead) (s .left) 0) x)) (both-at v up)
+            ∙ sym (none-before rule (y .ready .late) (y .ready .rated .some) up survival (s .lead) (s .left))
+
+        turned : Both (λ up. valueOf up rule survival (s .lead) (suc (s .left)) 0) e
+        turned = record { low = b .low ∙ step false; high = b .high ∙ step true }
+
+-- memory 0 with no components left
+pub holds-begun : {rule : Rule} {survival : List ℕ} {lead : ℕ} {t t' : List ℕ} {works : Bool} {e : Ends} → Ready rule survival t → lead < 1000 → works ≡ endOf rule (to lead 0)
+    → Both (λ up. cond works S 0) e → Put 0 e t t' → Reached rule survival lead 0 t t' (record { lead = lead; left = 0 })
+unfolding value
+holds-begun y small end b p = record {
+  holds = record {
+    ready = record {
+      rated = y .rated;
+      late = y .late;
+      room = room-kept (p .kept) (y .room);
+      settled = row-other p (omega (arith, y .rated .size)) (λ k h q. omega arith) (y .settled);
+    };
+    lead = small;
+    left = omega arith;
+    none = row-more p refl (omega arith) (rw end at b) row-none;
+  };
+  lead = refl;
+  left = refl;
+  kept = p .kept;
+}

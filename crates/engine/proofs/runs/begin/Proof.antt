@@ -1,11 +1,13 @@
+-- `begin` writes the end of memory 0 at place 0. Assumes nothing.
 use borrow.Author.Needs.{needs}
+use mathlib.Core.Path.{refl, _∙_, ap}
+use mathlib.Core.Bool.{cond}
+use native.Mathlib.Omega.{arith}
+use Rattle.rules.specs.State.{S}
+use Rattle.rules.specs.Figure.{value}
+use Rattle.engine.proofs.Running.{holds-begun}
 use Rattle.engine.proofs.runs.begin.Statement.{statement}
 use Rattle.engine.proofs.runs.begin.Tie as tie
-use Rattle.engine.proofs.runs.begin.Reads as reads
-use Rattle.engine.proofs.runs.begin.Lts as lts
-use Rattle.engine.proofs.pair.worth.Reads as worth-reads
-use Rattle.engine.proofs.pair.write.Reads as write-reads
-use Rattle.memory.proofs.Memory.end.Reads as end-reads
 
 end-requires : tie.Need-end-requires
 end-requires c κs = search needs
@@ -20,7 +22,9 @@ same-length : tie.Need-same-length
 same-length c = search needs
 
 returns : tie.Need-returns
-returns c = ?
+returns c =
+    let pre = c .before .before .before .before .before .before .before .before .pre in
+    holds-begun (pre .0) (pre .1) (c .before .before .before .before .end .ensures) (c .before .before .before .worth .ensures) (c .before .before .write .ensures)
 
 pub begin-spec : {M : Type 1} → statement M
 begin-spec = tie.close (tie.spec end-requires worth-requires write-requires same-length returns)
