@@ -2,3 +2,4 @@
 pub mod Cells
 pub mod Values
 pub mod Running
+pub mod Opening

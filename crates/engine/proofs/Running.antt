@@ -150,7 +150,7 @@ ran-one rule survival rated =
     (λ short. by-test (λ x. x ≡ 1) (leb (rule .kind) 5) _ _ (λ _. omega (arith, rated .some, ltb-false 1 (limitOf rule) short))
     (λ late. absurd (omega (arith, rated .two (leb-false (rule .kind) 5 late), ltb-false 1 (limitOf rule) short))))
 
-within-values : (rule : Rule) (survival : List ℕ) (lead i at : ℕ) {r : Ends} → ((k : ℕ) → getD survival k 0 ≤ S) → Both (λ up. valueOf up rule survival lead i at) r → Within r
+pub within-values : (rule : Rule) (survival : List ℕ) (lead i at : ℕ) {r : Ends} → ((k : ℕ) → getD survival k 0 ≤ S) → Both (λ up. valueOf up rule survival lead i at) r → Within r
 within-values rule survival lead i at units b =
     record { low = rw (b .low) (value-small false rule survival [] lead i at units); high = rw (b .high) (value-small true rule survival [] lead i at units) }
 

@@ -21,7 +21,7 @@ nothing up p = let e : mixed S p 0 0 ≡ 0 * S = omega arith in rw e (whole up S
 pub unchanged : (up : Bool) (p : ℕ) → p ≤ S → rounded up S (mixed S p S S) ≡ S
 unchanged up p l = let e : mixed S p S S ≡ S * S = omega arith in rw e (whole up S S (omega arith))
 
-numbers-le : (survival : List ℕ) → ((k : ℕ) → getD survival k 0 ≤ S) → (i : ℕ) → numberOf survival i ≤ S
+pub numbers-le : (survival : List ℕ) → ((k : ℕ) → getD survival k 0 ≤ S) → (i : ℕ) → numberOf survival i ≤ S
 unfolding numberOf
 numbers-le survival h zero = omega arith
 numbers-le survival h (suc i) = h i
