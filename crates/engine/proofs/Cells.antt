@@ -1,11 +1,11 @@
 -- Places of a table after a pair is written: a row made longer, one elsewhere; and the cells past 7,800 kept. Assumes nothing.
 use Prim.Native.Nat.{ℕ, _+_, _≤_, _<_}
-use mathlib.Core.Path.{_≡_, refl, sym, _∙_}
+use mathlib.Core.Path.{_≡_, refl, _∙_}
 use mathlib.Core.Bool.{Bool, true, false}
 use mathlib.Core.Logic.{_⊎_, inl, inr, ⊎-elim}
 use mathlib.Core.List.{List}
 use native.Mathlib.Omega.{arith}
-use lib.ListN.{length, getD, set, length-set}
+use lib.ListN.{length, set, length-set}
 use lib.Seq.{getD-set-same, getD-set-other, drop-set-lt}
 use borrow.Author.Count.{below-more}
 use Rattle.rules.specs.Refusal.{cells}
@@ -15,6 +15,9 @@ use Rattle.engine.specs.Cells.{one, Both, cellAt, Place, Kept, Put, Row,
 pub both-at : {f : Bool → ℕ} {r : Ends} → Both f r → (up : Bool) → one up r ≡ f up
 both-at b false = b .low
 both-at b true = b .high
+
+pub both-as : {f g : Bool → ℕ} {r : Ends} → ((up : Bool) → f up ≡ g up) → Both f r → Both g r
+both-as same b = record { low = b .low ∙ same false; high = b .high ∙ same true }
 
 pub kept-none : {t : List ℕ} → Kept t t
 kept-none = record { long = refl; rest = refl }

@@ -118,7 +118,7 @@ needed-more rule i =
 -- what is entered
 module _ {rule : Rule} {survival : List ℕ} {s : Known} {i : ℕ} {t : List ℕ} (y : Enterable rule survival s i t) where
   pub enter-place : Place i t
-  enter-place = record { low = omega (arith, y .some, y .holds .ready .rated .size); room = y .holds .ready .room }
+  enter-place = record { low = omega (arith, y .some, y .holds .prepared .rated .size); room = y .holds .prepared .room }
 
   pub enter-none : rule .kind ≡ 5 → {r : Ends} → Both (λ up. cellAt t up i) r → Both (λ up. valueOf up rule survival (s .lead) i (enterOf rule)) r
   unfolding enterOf neededOf
@@ -151,8 +151,8 @@ module _ {rule : Rule} {survival : List ℕ} {n last i : ℕ} {t₀ t : List ℕ
   bringable = record {
     holds = v .holds;
     left = v .left;
-    most = omega (arith, v .size, needed-le rule i (v .holds .ready .rated .some));
-    small = omega (arith, v .size, v .holds .ready .rated .size);
+    most = omega (arith, v .size, needed-le rule i (v .holds .prepared .rated .some));
+    small = omega (arith, v .size, v .holds .prepared .rated .size);
   }
 
   module _ {t' : List ℕ} {r : Known} (b : Reached rule survival (front n i last) (neededOf rule i) t t' r) where
@@ -163,18 +163,18 @@ module _ {rule : Rule} {survival : List ℕ} {n last i : ℕ} {t₀ t : List ℕ
       pub widenable : Widenable survival i opened entered
       widenable = record {
         some = omega (arith, v .size);
-        unit = v .holds .ready .rated .units i;
+        unit = v .holds .prepared .rated .units i;
         opened-small = record {
-          low = rw (v .ends .low) (open-le false rule survival i (v .holds .ready .rated .units));
-          high = rw (v .ends .high) (open-le true rule survival i (v .holds .ready .rated .units));
+          low = rw (v .ends .low) (open-le false rule survival i (v .holds .prepared .rated .units));
+          high = rw (v .ends .high) (open-le true rule survival i (v .holds .prepared .rated .units));
         };
-        entered-small = within-values rule survival (r .lead) i (enterOf rule) (v .holds .ready .rated .units) inner;
+        entered-small = within-values rule survival (r .lead) i (enterOf rule) (v .holds .prepared .rated .units) inner;
       }
 
       stepped : (up : Bool) → widened up rule (getD survival i 0) (openAt up rule survival i) (valueOf up rule survival (r .lead) i (enterOf rule)) ≡ openAt up rule survival (i + 1)
       stepped up =
           let l : last ≡ limitOf rule - 1 = omega (arith, v .most) in
-          rw (b .lead, add-one, l, v .size) (sym (open-step up survival i rule (v .ringed) (v .holds .ready .rated .some) (rw (v .size) at (v .from)) (omega (arith, v .size))))
+          rw (b .lead, add-one, l, v .size) (sym (open-step up survival i rule (v .ringed) (v .holds .prepared .rated .some) (rw (v .size) at (v .from)) (omega (arith, v .size))))
 
       pub opened-more : {wider : Ends} → Both (λ up. widened up rule (getD survival i 0) (one up opened) (one up entered)) wider → Opened rule survival n last t₀ t' r (i + 1) wider
       opened-more w = record {

@@ -15,14 +15,14 @@ use Rattle.rules.specs.State.{S, numberOf}
 use Rattle.rules.specs.Figure.{mixed, rounded, value}
 use Rattle.rules.proofs.Reading.{by-test}
 use Rattle.rules.specs.Refusal.{cells}
-use Rattle.memory.specs.Step.{limitOf, heavierOf, workedAt, failedAt, endOf, to}
+use Rattle.memory.specs.Step.{limitOf, heavierOf, workedAt, failedAt, endOf, to, leadOf}
 use Rattle.engine.specs.declared.Ends.{Ends}
 use Rattle.engine.specs.declared.Known.{Known}
 use Rattle.engine.specs.Cells.{one, Both, cellAt, Place, Within, Put, Written}
 use Rattle.engine.specs.Rated.{Rated}
-use Rattle.engine.specs.Runs.{valueOf, ran, before, settled, Ready, Holds, Steppable, Running, Passable, Reached}
+use Rattle.engine.specs.Runs.{valueOf, ran, before, settled, Prepared, Holds, Steppable, Running, Passable, Reached}
 use Rattle.rules.proofs.Rounding.{step-le}
-use Rattle.engine.proofs.Cells.{both-at, row-none, row-other, row-more, room-kept}
+use Rattle.engine.proofs.Cells.{both-at, both-as, row-none, row-other, row-more, room-kept}
 use Rattle.engine.proofs.Values.{nothing, unchanged, value-small, value-dead}
 
 module _ (rule : Rule) (late : 3 < rule .kind) (some : 0 < limitOf rule) where
@@ -116,12 +116,12 @@ module _ (rule : Rule) (late : 3 < rule .kind) (some : 0 < limitOf rule) where
     decided lead zero m l = rw (end-early lead m (omega arith), lt-ltb (lead + m) (limitOf rule) (omega arith))
     decided lead (suc i) m l =
         rw (early-worked early m (omega arith), early-failed early m (omega arith) 0, ran-short (suc m) (omega arith), decided lead i 0 (omega arith), decided lead i (suc m) (omega arith))
-        (unchanged up (getD survival i 0) (units i))
+        (unchanged up (getD survival i 0) S (units i))
 
     settled-early : (i : ℕ) → settled up rule survival i ≡ S
     unfolding settled before
     settled-early zero = refl
-    settled-early (suc i) = rw (early, settled-early i) (unchanged up (getD survival i 0) (units i))
+    settled-early (suc i) = rw (early, settled-early i) (unchanged up (getD survival i 0) S (units i))
 
   -- the run of a failed component that the components cut short where the memory works, of either sort
   pub cut-works : (up : Bool) (survival : List ℕ) (lead i : ℕ) → ((k : ℕ) → getD survival k 0 ≤ S) → suc i < limitOf rule → endOf rule (to lead (suc i)) ≡ true
@@ -157,17 +157,15 @@ within-values rule survival lead i at units b =
 -- memory 0 as the table holds it
 module _ {rule : Rule} {survival : List ℕ} {s : Known} {t : List ℕ} (y : Holds rule survival s t) where
   pub none-at : (i : ℕ) → i ≤ s .left → {r : Ends} → Both (λ up. cellAt t up i) r → Both (λ up. valueOf up rule survival (s .lead) i 0) r
-  none-at i l b =
-      let z = zero-add i in
-      record { low = b .low ∙ rw z at (y .none .is false i (omega arith)); high = b .high ∙ rw z at (y .none .is true i (omega arith)) }
+  none-at i l = both-as (λ up. rw (zero-add i) at (y .none .is up i (omega arith)))
 
 -- one turn of a run
 module _ {rule : Rule} {survival : List ℕ} {s : Known} {from upto : ℕ} {end : Ends} {t : List ℕ} (y : Running rule survival s from upto end t) (i : ℕ) (later : from ≤ i) where
   abbrev rated : Rated rule survival
-  rated = y .holds .ready .rated
+  rated = y .holds .prepared .rated
 
   pub run-place : i < upto → Place i t
-  run-place l = record { low = omega (arith, y .most, rated .size); room = y .holds .ready .room }
+  run-place l = record { low = omega (arith, y .most, rated .size); room = y .holds .prepared .room }
 
   module _ (l : i < upto) {none run : Ends} (n : Both (λ up. cellAt t up i) none) (v : Both (λ up. valueOf up rule survival (s .lead) i (ran rule (suc upto - i))) run) where
     known : rule .kind ≤ 5 → Both (λ up. valueOf up rule survival (s .lead) i 0) none
@@ -182,7 +180,7 @@ module _ {rule : Rule} {survival : List ℕ} {s : Known} {from upto : ℕ} {end 
     }
 
     pub run-more : {r : Ends} → Both (λ up. before up rule (getD survival i 0) (one up none) (one up run)) r → Both (λ up. valueOf up rule survival (s .lead) (i + 1) (ran rule (suc upto - (i + 1)))) r
-    run-more b = record { low = b .low ∙ turned false; high = b .high ∙ turned true }
+    run-more = both-as turned
       where
         turned : (up : Bool) → before up rule (getD survival i 0) (one up none) (one up run) ≡ valueOf up rule survival (s .lead) (i + 1) (ran rule (suc upto - (i + 1)))
         turned up =
@@ -192,8 +190,8 @@ module _ {rule : Rule} {survival : List ℕ} {s : Known} {from upto : ℕ} {end 
             let short : upto - i < limitOf rule = omega (arith, y .short) in
             before-none up rule (getD survival i 0) _ _ _ (λ early. both-at (known early) up)
             ∙ ap (before up rule (getD survival i 0) (valueOf up rule survival (s .lead) i 0)) (both-at v up ∙ ap (λ x. valueOf up rule survival (s .lead) i (ran rule x)) c)
-            ∙ sym (run-before rule (y .holds .ready .late) (rated .some) up survival (s .lead) i (upto - i) (omega arith) short)
-            ∙ rw (a, b, ran-short rule (y .holds .ready .late) (rated .some) (upto - i) short)
+            ∙ sym (run-before rule (y .holds .prepared .late) (rated .some) up survival (s .lead) i (upto - i) (omega arith) short)
+            ∙ rw (a, b, ran-short rule (y .holds .prepared .late) (rated .some) (upto - i) short)
 
 -- the end of a run
 pub run-over : (rule : Rule) (survival : List ℕ) (lead i upto : ℕ) {r : Ends} → Rated rule survival → i ≡ upto
@@ -231,30 +229,30 @@ unfolding settled
 settled-first rule survival b = b
 
 pub settled-all : {rule : Rule} {survival t₀ t : List ℕ} {i : ℕ} → Rated rule survival → 3 < rule .kind → cells ≤ length t₀ → i ≡ length survival
-    → Written (λ up k. settled up rule survival k) i 600 t₀ t → Ready rule survival t
+    → Written (λ up k. settled up rule survival k) i 600 t₀ t → Prepared rule survival t
 settled-all rated late room e w = record { rated = rated; late = late; room = room-kept (w .kept) room; settled = rw e at (w .row) }
 
 -- a failed component passed
 module _ {rule : Rule} {survival : List ℕ} {s : Known} {i : ℕ} {t : List ℕ} (y : Passable rule survival s i t) where
-  abbrev ready : Ready rule survival t
-  ready = y .holds .ready
+  abbrev prepared : Prepared rule survival t
+  prepared = y .holds .prepared
 
   pub cut-place : Place (600 + i) t
-  cut-place = record { low = omega (arith, y .some, ready .rated .size); room = ready .room }
+  cut-place = record { low = omega (arith, y .some, prepared .rated .size); room = prepared .room }
 
   pub cut-settled : suc i < limitOf rule → endOf rule (to (s .lead) (i + 1)) ≡ true → {r : Ends} → Both (λ up. cellAt t up (600 + i)) r → Both (λ up. valueOf up rule survival (s .lead) i 1) r
-  cut-settled l works b = record { low = b .low ∙ is false; high = b .high ∙ is true }
+  cut-settled l works = both-as is
     where
       is : (up : Bool) → cellAt t up (600 + i) ≡ valueOf up rule survival (s .lead) i 1
-      is up = ready .settled .is up i (y .some) ∙ sym (cut-works rule (ready .late) (ready .rated .some) up survival (s .lead) i (ready .rated .units) l (let e : i + 1 ≡ suc i = omega arith in rw e at works))
+      is up = prepared .settled .is up i (y .some) ∙ sym (cut-works rule (prepared .late) (prepared .rated .some) up survival (s .lead) i (prepared .rated .units) l (let e : i + 1 ≡ suc i = omega arith in rw e at works))
 
   pub cut-dead : 5 < rule .kind → suc i < limitOf rule → endOf rule (to (s .lead) (i + 1)) ≡ false → {r : Ends} → Both (λ up. 0) r → Both (λ up. valueOf up rule survival (s .lead) i 1) r
-  cut-dead late l fails b = record { low = b .low ∙ sym (is false); high = b .high ∙ sym (is true) }
+  cut-dead late l fails = both-as (λ up. sym (is up))
     where
       is : (up : Bool) → valueOf up rule survival (s .lead) i 1 ≡ 0
       is up =
           let e : 1 + i ≡ i + 1 = omega arith in
-          cut-late rule (ready .late) (ready .rated .some) (lt-leb (rule .kind) 5 late) up survival (s .lead) i 1 (omega arith) (omega arith) ∙ rw (e, fails)
+          cut-late rule (prepared .late) (prepared .rated .some) (lt-leb (rule .kind) 5 late) up survival (s .lead) i 1 (omega arith) (omega arith) ∙ rw (e, fails)
 
   pub cut-running : rule .kind ≤ 5 → suc i < limitOf rule → endOf rule (to (s .lead) (i + 1)) ≡ false → {r : Ends} → Both (λ up. 0) r → Running rule survival s 0 i r t
   unfolding value
@@ -264,21 +262,21 @@ module _ {rule : Rule} {survival : List ℕ} {s : Known} {i : ℕ} {t : List ℕ
     most = omega (arith, y .some);
     short = omega arith;
     none = y .none;
-    last = record { low = b .low ∙ sym (is false); high = b .high ∙ sym (is true) };
+    last = both-as (λ up. sym (is up)) b;
   }
     where
       is : (up : Bool) → valueOf up rule survival (s .lead) 0 (ran rule (suc i - 0)) ≡ 0
-      is up = let e : suc i - 0 ≡ i + 1 = omega arith in rw (e, ran-short rule (ready .late) (ready .rated .some) (i + 1) (omega arith), fails)
+      is up = let e : suc i - 0 ≡ i + 1 = omega arith in rw (e, ran-short rule (prepared .late) (prepared .rated .some) (i + 1) (omega arith), fails)
 
   pub whole-running : (from : ℕ) → from + limitOf rule ≡ suc i → {r : Ends} → Both (λ up. cond (leb (rule .kind) 5) 0 (cellAt t up from)) r → Running rule survival s from i r t
   unfolding ran
   whole-running from e b = record {
     holds = y .holds;
-    order = omega (arith, ready .rated .some);
+    order = omega (arith, prepared .rated .some);
     most = omega (arith, y .some);
     short = omega arith;
     none = y .none;
-    last = record { low = b .low ∙ is false; high = b .high ∙ is true };
+    last = both-as is b;
   }
     where
       known : (up : Bool) → cellAt t up from ≡ valueOf up rule survival (s .lead) from 0
@@ -294,31 +292,31 @@ module _ {rule : Rule} {survival : List ℕ} {s : Known} {i : ℕ} {t : List ℕ
 -- memory 0 with one component more
 module _ {rule : Rule} {survival : List ℕ} {s : Known} {t : List ℕ} (y : Holds rule survival s t) (l : s .left < length survival) where
   pub more-passable : Passable rule survival s (s .left) t
-  more-passable = record { holds = y; some = l; near = omega (arith, y .ready .rated .some); none = λ _. omega arith }
+  more-passable = record { holds = y; some = l; near = omega (arith, y .prepared .rated .some); none = λ _. omega arith }
 
   pub none-place : (i : ℕ) → i ≤ length survival → Place i t
-  none-place i h = record { low = omega (arith, y .ready .rated .size); room = y .ready .room }
+  none-place i h = record { low = omega (arith, y .prepared .rated .size); room = y .prepared .room }
 
   module _ {none run : Ends} (n : Both (λ up. cellAt t up (s .left)) none) (v : Both (λ up. valueOf up rule survival (s .lead) (s .left) 1) run) where
     none-is : Both (λ up. valueOf up rule survival (s .lead) (s .left) 0) none
     none-is = none-at y (s .left) (omega arith) n
 
     pub none-within : Within none × Within run
-    none-within = (within-values rule survival (s .lead) (s .left) 0 (y .ready .rated .units) none-is, within-values rule survival (s .lead) (s .left) 1 (y .ready .rated .units) v)
+    none-within = (within-values rule survival (s .lead) (s .left) 0 (y .prepared .rated .units) none-is, within-values rule survival (s .lead) (s .left) 1 (y .prepared .rated .units) v)
 
     pub holds-more : {t' : List ℕ} {e : Ends} → Both (λ up. rounded up S (mixed S (getD survival (s .left) 0) (one up none) (one up run))) e → Put (s .left + 1) e t t'
         → Reached rule survival (s .lead) (suc (s .left)) t t' (record { lead = s .lead; left = s .left + 1 })
     holds-more {t'} {e} b p = record {
       holds = record {
-        ready = record {
-          rated = y .ready .rated;
-          late = y .ready .late;
-          room = room-kept (p .kept) (y .ready .room);
-          settled = row-other p (omega (arith, y .ready .rated .size)) (λ k h q. omega (arith, y .ready .rated .size)) (y .ready .settled);
+        prepared = record {
+          rated = y .prepared .rated;
+          late = y .prepared .late;
+          room = room-kept (p .kept) (y .prepared .room);
+          settled = row-other p (omega (arith, y .prepared .rated .size)) (λ k h q. omega (arith, y .prepared .rated .size)) (y .prepared .settled);
         };
         lead = y .lead;
         left = omega arith;
-        none = let a : suc (s .left + 1) ≡ suc (s .left) + 1 = omega arith in rw a (row-more p (omega arith) (omega (arith, y .ready .rated .size)) turned (y .none));
+        none = let a : suc (s .left + 1) ≡ suc (s .left) + 1 = omega arith in rw a (row-more p (omega arith) (omega (arith, y .prepared .rated .size)) turned (y .none));
       };
       lead = refl;
       left = omega arith;
@@ -329,18 +327,24 @@ module _ {rule : Rule} {survival : List ℕ} {s : Known} {t : List ℕ} (y : Hol
         step up =
             ap (λ x. rounded up S (mixed S (getD survival (s .left) 0) x (one up run))) (both-at none-is up)
             ∙ ap (λ x. rounded up S (mixed S (getD survival (s .left) 0) (valueOf up rule survival (s .lead) (s .left) 0) x)) (both-at v up)
-            ∙ sym (none-before rule (y .ready .late) (y .ready .rated .some) up survival (s .lead) (s .left))
+            ∙ sym (none-before rule (y .prepared .late) (y .prepared .rated .some) up survival (s .lead) (s .left))
 
         turned : Both (λ up. valueOf up rule survival (s .lead) (suc (s .left)) 0) e
-        turned = record { low = b .low ∙ step false; high = b .high ∙ step true }
+        turned = both-as step b
+
+pub lead-small : (rule : Rule) → limitOf rule ≤ 120 → leadOf rule < 1000
+unfolding leadOf limitOf
+lead-small rule l =
+    by-test (λ x. x < 1000) (leb (rule .kind) 5) 0 (rule .second - 1) (λ e. omega arith)
+    (λ e. let k : 5 < rule .kind = leb-false _ _ e in omega (arith, rw (ne-eqb (rule .kind) 3 (λ q. omega arith), e) at l))
 
 -- memory 0 with no components left
-pub holds-begun : {rule : Rule} {survival : List ℕ} {lead : ℕ} {t t' : List ℕ} {works : Bool} {e : Ends} → Ready rule survival t → lead < 1000 → works ≡ endOf rule (to lead 0)
+pub holds-begun : {rule : Rule} {survival : List ℕ} {lead : ℕ} {t t' : List ℕ} {works : Bool} {e : Ends} → Prepared rule survival t → lead < 1000 → works ≡ endOf rule (to lead 0)
     → Both (λ up. cond works S 0) e → Put 0 e t t' → Reached rule survival lead 0 t t' (record { lead = lead; left = 0 })
 unfolding value
 holds-begun y small end b p = record {
   holds = record {
-    ready = record {
+    prepared = record {
       rated = y .rated;
       late = y .late;
       room = room-kept (p .kept) (y .room);

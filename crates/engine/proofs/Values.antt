@@ -1,7 +1,7 @@
--- Values of the program's memory: within the unit; the unit and 0 mixed with themselves; and 0 of a memory at its limit or past it, which stays there.
+-- Values of the program's memory: within the unit; mixed with themselves, where they stay; and 0 of a memory at its limit or past it, which is dead.
 -- Assumes nothing.
-use Prim.Native.Nat.{ℕ, zero, suc, _*_, _≤_}
-use mathlib.Core.Path.{_≡_}
+use Prim.Native.Nat.{ℕ, zero, suc, _+_, _-_, _*_, _≤_}
+use mathlib.Core.Path.{_≡_, ap}
 use mathlib.Core.Bool.{Bool, false}
 use mathlib.Core.List.{List}
 use native.Mathlib.Omega.{arith}
@@ -18,8 +18,15 @@ use Rattle.engine.specs.Rated.{valueAt}
 pub nothing : (up : Bool) (p : ℕ) → rounded up S (mixed S p 0 0) ≡ 0
 nothing up p = let e : mixed S p 0 0 ≡ 0 * S = omega arith in rw e (whole up S 0 (omega arith))
 
-pub unchanged : (up : Bool) (p : ℕ) → p ≤ S → rounded up S (mixed S p S S) ≡ S
-unchanged up p l = let e : mixed S p S S ≡ S * S = omega arith in rw e (whole up S S (omega arith))
+-- a value mixed with itself
+mixed-same : (u p v : ℕ) → p ≤ u → mixed u p v v ≡ v * u
+mixed-same u p v l =
+    let q = u - p in
+    let e : p + q ≡ u = omega arith in
+    omega (arith, ap (λ x. x * v) e)
+
+pub unchanged : (up : Bool) (p v : ℕ) → p ≤ S → rounded up S (mixed S p v v) ≡ v
+unchanged up p v l = rw (mixed-same S p v l) (whole up S v (omega arith))
 
 pub numbers-le : (survival : List ℕ) → ((k : ℕ) → getD survival k 0 ≤ S) → (i : ℕ) → numberOf survival i ≤ S
 unfolding numberOf

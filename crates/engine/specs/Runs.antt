@@ -34,7 +34,7 @@ settled up rule survival zero = S
 settled up rule survival (suc i) = before up rule (getD survival i 0) S (settled up rule survival i)
 
 -- the settled runs stand in the table, from place 600 on
-pub record Ready (rule : Rule) (survival t : List ℕ) : Type 0 where
+pub record Prepared (rule : Rule) (survival t : List ℕ) : Type 0 where
   pub rated : Rated rule survival
   pub late : 3 < rule .kind
   pub room : cells ≤ length t
@@ -42,7 +42,7 @@ pub record Ready (rule : Rule) (survival t : List ℕ) : Type 0 where
 
 -- and memory 0's values of one lead, from place 0 on, with up to s .left components left
 pub record Holds (rule : Rule) (survival : List ℕ) (s : Known) (t : List ℕ) : Type 0 where
-  pub ready : Ready rule survival t
+  pub prepared : Prepared rule survival t
   pub lead : s .lead < 1000
   pub left : s .left ≤ length survival
   pub none : Row (λ up k. valueOf up rule survival (s .lead) k 0) t 0 (suc (s .left))

@@ -1,7 +1,7 @@
 // A ring: the open memory, one lead at a time.
 ghost use mathlib.Core.Path.{_≡_};
 ghost use mathlib.Core.Bool.{true, false};
-ghost use Prim.Native.Nat.{_≤_, _<_, min};
+ghost use Prim.Native.Nat.{_≤_, _<_};
 ghost use lib.ListN.{length, getD};
 ghost use Rattle.rules.specs.Refusal.{cells};
 ghost use Rattle.memory.specs.Step.{limitOf};
@@ -11,6 +11,7 @@ ghost use Rattle.engine.specs.Runs.{valueOf, Reached};
 ghost use Rattle.engine.specs.Open.{Ringed, enterOf, neededOf, openAt, Bringable, Enterable, Widenable, widened, leftOf, firstOpen};
 use crate::Ends;
 use crate::Known;
+use crate::lesser;
 use crate::pair;
 use crate::runs;
 use rules::Rule;
@@ -93,12 +94,6 @@ fn open_ends(rule: Rule) -> Ends
         return pair::worth(false);
     }
     pair::worth(true)
-}
-
-fn lesser(a: usize, b: usize) -> usize
-    ensures { λ r. ⌜ r ≡ min a b ⌝ }
-{
-    if a <= b { a } else { b }
 }
 
 // A ring: the open memory from its first known value up to all n, one lead at a time.

@@ -7,7 +7,7 @@ ghost use Rattle.rules.specs.Refusal.{cells};
 ghost use Rattle.memory.specs.Step.{limitOf};
 ghost use Rattle.engine.specs.Cells.{Both, Kept, Place, one, cellAt};
 ghost use Rattle.engine.specs.Rated.{Rated};
-ghost use Rattle.engine.specs.Runs.{valueOf, before, Ready, Holds, Steppable, Running, Passable, Reached};
+ghost use Rattle.engine.specs.Runs.{valueOf, before, Prepared, Holds, Steppable, Running, Passable, Reached};
 use crate::Ends;
 use crate::Known;
 use crate::pair;
@@ -32,7 +32,7 @@ fn step_before(rule: Rule, survival: &[u32], i: usize, none: Ends, run: Ends) ->
 // The settled runs, from place 600 on.
 pub fn settle(rule: Rule, survival: &[u32], table: &mut [u64])
     requires { ⌜ Rated rule (now survival) × (3 < rule .kind) × (cells ≤ length (now table)) ⌝ }
-    ensures { λ r. ⌜ Ready rule (now (survival .entry)) (now (table .exit)) × Kept (now (table .entry)) (now (table .exit)) ⌝ }
+    ensures { λ r. ⌜ Prepared rule (now (survival .entry)) (now (table .exit)) × Kept (now (table .entry)) (now (table .exit)) ⌝ }
 {
     let mut run = pair::worth(true);
     let mut i: usize = 0;
@@ -150,7 +150,7 @@ pub fn reach(rule: Rule, survival: &[u32], s: Known, upto: usize, table: &mut [u
 
 // Memory 0 of a lead with no components left.
 pub fn begin(rule: Rule, survival: &[u32], lead: u64, table: &mut [u64]) -> Known
-    requires { ⌜ Ready rule (now survival) (now table) × (lead < 1000) ⌝ }
+    requires { ⌜ Prepared rule (now survival) (now table) × (lead < 1000) ⌝ }
     ensures { λ r. ⌜ Reached rule (now (survival .entry)) lead 0 (now (table .entry)) (now (table .exit)) r ⌝ }
 {
     let none = Memory { lead, at: 0 };

@@ -70,7 +70,7 @@ lesser-requires c κs = search needs
 needed-requires : tie.Need-needed-requires Inv-loop μ-loop
 needed-requires c κs =
     let v = c .before .before .loop .inv in
-    (omega (arith, v .size, v .holds .ready .rated .size, c .before .loop-test .taken), v .holds .ready .rated .limit)
+    (omega (arith, v .size, v .holds .prepared .rated .size, c .before .loop-test .taken), v .holds .prepared .rated .limit)
 
 bring-requires : tie.Need-bring-requires Inv-loop μ-loop
 bring-requires c κs = rw (c .before .needed .ensures, c .before .before .lesser .ensures) (bringable (c .before .before .before .before .loop .inv) (c .before .before .before .loop-test .taken))

@@ -12,7 +12,7 @@ past-requires : tie.Need-past-requires
 past-requires c κs = search needs
 
 sub-t12 : tie.Need-sub-t12
-sub-t12 c = let pre = c .before .before .before .before .before .pre in omega (arith, c .before .before .chance .ensures, pre .0 .ready .rated .units (c .before .before .before .before .before .args .s .left))
+sub-t12 c = let pre = c .before .before .before .before .before .pre in omega (arith, c .before .before .chance .ensures, pre .0 .prepared .rated .units (c .before .before .before .before .before .args .s .left))
 
 read-requires : tie.Need-read-requires
 read-requires c κs = search needs
@@ -22,7 +22,7 @@ step-requires c κs =
     let pre = c .before .before .before .before .before .before .before .pre in
     let p = c .before .before .before .before .chance .ensures in
     let w = none-within (pre .0) (pre .1) (c .read .ensures) (c .before .before .past .ensures) in
-    record { survival = rw p (pre .0 .ready .rated .units _); rest = rw p; left = w .0; right = w .1 }
+    record { survival = rw p (pre .0 .prepared .rated .units _); rest = rw p; left = w .0; right = w .1 }
 
 add-write : tie.Need-add-write
 add-write c = search needs

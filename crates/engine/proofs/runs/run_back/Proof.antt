@@ -45,7 +45,7 @@ returns : tie.Need-returns Inv-loop μ-loop
 returns c =
     let pre = c .before .before .before .before .pre in
     let v = c .before .loop .inv in
-    run-over _ _ _ _ _ (pre .holds .ready .rated) (omega (arith, v .1, c .loop-test .left)) (v .2 _ pre)
+    run-over _ _ _ _ _ (pre .holds .prepared .rated) (omega (arith, v .1, c .loop-test .left)) (v .2 _ pre)
 
 pub run-back-spec : {M : Type 1} → statement M
 run-back-spec =
