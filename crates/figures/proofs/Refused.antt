@@ -22,7 +22,7 @@ use Rattle.rules.proofs.Accepted as accepted
 use Rattle.rules.proofs.Accepted.{first-same, first-after, in-stretch, stretch-length, stretch-sound, unread-range, unread-answer}
 use Rattle.refusals.specs.Shared.{weightsOut, rangeOut, ratedRefusal, after}
 use Rattle.refusals.proofs.Laws.{range-total, range-other, weights-sound}
-use Rattle.engine.specs.Level.{Sound}
+use Rattle.engine.specs.Rated.{Sound}
 use Rattle.engine.proofs.Whole.{limited}
 use Rattle.figures.specs.Outcome.{ratedOf}
 
@@ -141,9 +141,13 @@ module _ (rule : Rule) (a b : ℕ) (survival weights table : List ℕ) where
           rated = record {
             limit = limit .1;
             some = limit .0;
+            two = limit .2;
             size = short;
             units = λ k. below-unit part (sound .1 .units) (suc k);
-            weighed = λ two. ⊎-elim (λ s. ap length (s .0) ∙ weights-long (s .1) ∙ sym size) (λ k. absurd (k two)) (rated-read rule n weights a b (sound .1 .weighed));
+          };
+          weighed = record {
+            each = λ two. ⊎-elim (λ s. ap length (s .0) ∙ weights-long (s .1) ∙ sym size) (λ k. absurd (k two)) (rated-read rule n weights a b (sound .1 .weighed));
+            light = light;
           };
           some = omega (arith, size);
           range = in-range;

@@ -3,7 +3,7 @@ ghost use mathlib.Core.Path.{_≡_};
 ghost use mathlib.Core.Bool.{false};
 ghost use Rattle.rules.specs.Refusal.{badStretch, aboveUnit, stretchRefusal};
 ghost use Rattle.rules.specs.Answer.{cleared, range};
-ghost use Rattle.engine.specs.Level.{Sound};
+ghost use Rattle.engine.specs.Rated.{Sound};
 ghost use Rattle.figures.specs.Outcome.{ratedOf, Stretched, Listed};
 use rules::Rating;
 use rules::Rule;
