@@ -6,5 +6,7 @@ pub mod Early
 pub mod Sides
 pub mod Levels
 pub mod Running
+pub mod Dying
+pub mod Cleaning
 pub mod Opening
 pub mod Whole

@@ -133,8 +133,8 @@ module _ {rule : Rule} {survival : List ℕ} {s : Known} {i : ℕ} {t : List ℕ
   enter-passable other = record {
     holds = y .holds;
     some = y .some;
+    late = ⊎-elim (λ five. absurd (other five)) (λ seven. omega arith) (y .kinds);
     near = let left : s .left ≡ suc i - limitOf rule = rw (ne-eqb (rule .kind) 5 other) at (y .left) in omega arith;
-    none = λ early. ⊎-elim (λ five. absurd (other five)) (λ seven. omega arith) (y .kinds);
   }
 
   pub enter-past : (rule .kind ≡ 5 → ⊥) → {r : Ends} → Both (λ up. valueOf up rule survival (s .lead) i 1) r → Both (λ up. valueOf up rule survival (s .lead) i (enterOf rule)) r
@@ -152,7 +152,7 @@ module _ {rule : Rule} {survival : List ℕ} {n last i : ℕ} {t₀ t : List ℕ
     holds = v .holds;
     left = v .left;
     most = omega (arith, v .size, needed-le rule i (v .holds .prepared .rated .some));
-    small = omega (arith, v .size, v .holds .prepared .rated .size);
+    small = omega (arith, v .most);
   }
 
   module _ {t' : List ℕ} {r : Known} (b : Reached rule survival (front n i last) (neededOf rule i) t t' r) where

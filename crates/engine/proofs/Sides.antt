@@ -41,21 +41,33 @@ module _ {f : Bool → ℕ → ℕ} {p q width weight from m : ℕ} {t₀ t : Li
   fails-is : (up : Bool) → cellAt t up (from + m + weight) ≡ cellAt t₀ up (from + m + weight)
   fails-is up = rw further (unread up (m + weight) (omega arith))
 
-  pub works-place : Place (from + m) t
-  works-place = record { low = omega (arith, side-near (y .side), y .narrow); room = room-kept (w .kept) (y .room) }
+  works-at : Place (from + m) t
+  works-at = record { low = omega (arith, side-near (y .side), y .narrow); room = room-kept (w .kept) (y .room) }
 
-  pub fails-place : Place (from + m + weight) t
-  fails-place = record { low = omega (arith, side-near (y .side), y .narrow); room = room-kept (w .kept) (y .room) }
+  fails-at : Place (from + m + weight) t
+  fails-at = record { low = omega (arith, side-near (y .side), y .narrow); room = room-kept (w .kept) (y .room) }
 
   pub write-place : Place (600 - from + m) t
   write-place = record { low = omega (arith, side-near (y .side), y .narrow); room = room-kept (w .kept) (y .room) }
 
+  works-small : (up : Bool) → cellAt t up (from + m) ≤ S
+  works-small up = rw (works-is up) (y .within up m (omega arith))
+
+  fails-small : (up : Bool) → cellAt t up (from + m + weight) ≤ S
+  fails-small up = rw (fails-is up, further) (y .within up (m + weight) (omega arith))
+
+  pub works-place : Place (from + m) t × ((up : Bool) → cellAt t up (from + m) ≤ S)
+  works-place = (works-at, works-small)
+
+  pub fails-place : Place (from + m + weight) t × ((up : Bool) → cellAt t up (from + m + weight) ≤ S)
+  fails-place = (fails-at, fails-small)
+
   module _ {a b : Ends} (works : Both (λ up. cellAt t up (from + m)) a) (fails : Both (λ up. cellAt t up (from + m + weight)) b) where
     works-le : (up : Bool) → one up a ≤ S
-    works-le up = rw (both-at works up, works-is up) (y .within up m (omega arith))
+    works-le up = rw (both-at works up) (works-small up)
 
     fails-le : (up : Bool) → one up b ≤ S
-    fails-le up = rw (both-at fails up, fails-is up, further) (y .within up (m + weight) (omega arith))
+    fails-le up = rw (both-at fails up) (fails-small up)
 
     pub step-steady : Steady p q a b
     step-steady = record {

@@ -47,7 +47,7 @@ pub record Bringable (rule : Rule) (survival : List ℕ) (s : Known) (front upto
   pub holds : Holds rule survival s t
   pub left : s .left ≤ upto
   pub most : upto ≤ length survival
-  pub small : front < 1000
+  pub small : front < limitOf rule
 
 -- what is entered with i left
 pub record Enterable (rule : Rule) (survival : List ℕ) (s : Known) (i : ℕ) (t : List ℕ) : Type 0 where

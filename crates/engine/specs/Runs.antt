@@ -13,7 +13,7 @@ use Rattle.rules.specs.Refusal.{cells}
 use Rattle.memory.specs.Step.{limitOf}
 use Rattle.engine.specs.declared.Ends.{Ends}
 use Rattle.engine.specs.declared.Known.{Known}
-use Rattle.engine.specs.Cells.{Both, Place, Within, Row, Kept}
+use Rattle.engine.specs.Cells.{Within, Row, Kept}
 use Rattle.engine.specs.Rated.{valueAt, Rated}
 
 -- the value of the memory (lead, at) with i components left: only kind 2 reads weights
@@ -24,51 +24,30 @@ valueOf up rule survival lead i at = valueAt up rule survival [] lead i at
 unfoldable pub ran : Rule → ℕ → ℕ
 ran rule m = cond (ltb m (limitOf rule)) m (cond (leb (rule .kind) 5) (limitOf rule) 0)
 
--- the value of a run before a component, out of those after it: of the run gone on, and of memory 0 (`none`), which ends a run of failed ones
-unfoldable pub before : (up : Bool) → Rule → (p none run : ℕ) → ℕ
-before up rule p none run = rounded up S (cond (leb (rule .kind) 5) (mixed S p none run) (mixed S p run 0))
+-- the value before a run of working components, so many from component from + 1 on, out of the value x after it: a failed one among them is worth 0
+unfoldable pub worked : (up : Bool) (survival : List ℕ) (from many x : ℕ) → ℕ
+worked up survival from zero x = x
+worked up survival from (suc k) x = rounded up S (mixed S (getD survival (from + k) 0) (worked up survival from k x) 0)
 
--- the value of a run that is shorter than the limit where the components end, in a memory that works
-unfoldable pub settled : (up : Bool) → Rule → (survival : List ℕ) → ℕ → ℕ
-settled up rule survival zero = S
-settled up rule survival (suc i) = before up rule (getD survival i 0) S (settled up rule survival i)
-
--- the settled runs stand in the table, from place 600 on
+-- a list of kinds 4 to 7, and a table that holds, for kinds 6 and 7, the runs up to the last component, from place 600 on
 pub record Prepared (rule : Rule) (survival t : List ℕ) : Type 0 where
   pub rated : Rated rule survival
   pub late : 3 < rule .kind
   pub room : cells ≤ length t
-  pub settled : Row (λ up k. settled up rule survival k) t 600 (length survival)
+  pub clean : 5 < rule .kind → Row (λ up k. worked up survival 0 k S) t 600 (length survival)
 
 -- and memory 0's values of one lead, from place 0 on, with up to s .left components left
 pub record Holds (rule : Rule) (survival : List ℕ) (s : Known) (t : List ℕ) : Type 0 where
   pub prepared : Prepared rule survival t
-  pub lead : s .lead < 1000
+  pub lead : s .lead < limitOf rule
   pub left : s .left ≤ length survival
   pub none : Row (λ up k. valueOf up rule survival (s .lead) k 0) t 0 (suc (s .left))
 
--- what one step before a run is handed
-pub record Steppable (rule : Rule) (survival : List ℕ) (i : ℕ) (none run : Ends) : Type 0 where
-  pub some : i < length survival
-  pub unit : getD survival i 0 ≤ S
-  pub none-small : rule .kind ≤ 5 → Within none
-  pub run-small : Within run
-
--- a run over the components from `from` to `upto`, and the value of what it comes to there
-pub record Running (rule : Rule) (survival : List ℕ) (s : Known) (from upto : ℕ) (end : Ends) (t : List ℕ) : Type 0 where
+-- what is brought on to `upto` components left
+pub record Reachable (rule : Rule) (survival : List ℕ) (s : Known) (upto : ℕ) (t : List ℕ) : Type 0 where
   pub holds : Holds rule survival s t
-  pub order : from ≤ upto
+  pub order : s .left ≤ upto
   pub most : upto ≤ length survival
-  pub short : suc upto ≤ from + limitOf rule
-  pub none : rule .kind ≤ 5 → upto ≤ suc (s .left)
-  pub last : Both (λ up. valueOf up rule survival (s .lead) from (ran rule (suc upto - from))) end
-
--- a failed component passed with i left: memory 0 is known wherever its run may come to it
-pub record Passable (rule : Rule) (survival : List ℕ) (s : Known) (i : ℕ) (t : List ℕ) : Type 0 where
-  pub holds : Holds rule survival s t
-  pub some : i < length survival
-  pub near : suc i ≤ s .left + limitOf rule
-  pub none : rule .kind ≤ 5 → i ≤ suc (s .left)
 
 -- memory 0 known with up to so many left
 pub record Reached (rule : Rule) (survival : List ℕ) (front upto : ℕ) (t₀ t : List ℕ) (r : Known) : Type 0 where
@@ -76,3 +55,42 @@ pub record Reached (rule : Rule) (survival : List ℕ) (front upto : ℕ) (t₀ 
   pub lead : r .lead ≡ front
   pub left : r .left ≡ upto
   pub kept : Kept t₀ t
+
+-- the same as far as runs are short: either `upto` is reached, or the next run, `ahead` longer, is as long as the limit
+pub record Onward (rule : Rule) (survival : List ℕ) (front upto ahead : ℕ) (t₀ t : List ℕ) (r : Known) : Type 0 where
+  pub holds : Holds rule survival r t
+  pub lead : r .lead ≡ front
+  pub most : r .left ≤ upto
+  pub done : r .left < upto → limitOf rule ≤ suc (r .left) + ahead
+  pub kept : Kept t₀ t
+
+-- a run of failed components, from the one after `from` up to `upto`, that is worth nothing where it ends
+pub record Failing (rule : Rule) (survival : List ℕ) (s : Known) (from upto : ℕ) (t : List ℕ) : Type 0 where
+  pub holds : Holds rule survival s t
+  pub early : rule .kind ≤ 5
+  pub order : from ≤ upto
+  pub most : upto ≤ suc (s .left)
+  pub size : upto ≤ length survival
+  pub short : upto ≤ from + limitOf rule
+  pub dead : (up : Bool) → valueOf up rule survival (s .lead) from (ran rule (upto - from)) ≡ 0
+
+-- memory 0 of kind 4 or 5 where the next run can be as long as the limit
+pub record Mortal (rule : Rule) (survival : List ℕ) (s : Known) (t : List ℕ) : Type 0 where
+  pub holds : Holds rule survival s t
+  pub early : rule .kind ≤ 5
+  pub some : s .left < length survival
+  pub far : limitOf rule ≤ suc (s .left) + s .lead
+
+-- a run of working components
+pub record Working (survival : List ℕ) (from upto : ℕ) (end : Ends) : Type 0 where
+  pub order : from ≤ upto
+  pub size : upto ≤ length survival
+  pub units : (k : ℕ) → getD survival k 0 ≤ S
+  pub small : Within end
+
+-- a failed component passed with i left: memory 0 is known where a run of working ones brings it back
+pub record Passable (rule : Rule) (survival : List ℕ) (s : Known) (i : ℕ) (t : List ℕ) : Type 0 where
+  pub holds : Holds rule survival s t
+  pub late : 5 < rule .kind
+  pub some : i < length survival
+  pub near : suc i ≤ s .left + limitOf rule

@@ -2,16 +2,18 @@
 //
 // A value's two ends stand in the table 1,200 cells apart, low ends in the first 1,200 cells: such a pair of cells is a place. Kinds 1 to 3 keep two
 // rows of memories, from place 0 and from place 600, and work one out of the other. Kinds 4 to 7 keep memory 0 alone, from place 0 on for each number
-// of components left, and the settled runs from place 600 on.
+// of components left; kinds 6 and 7 also the runs of working components up to the last one, from place 600 on.
+mod clean; // clean.rt: kinds 6 and 7, memory 0 of one lead
+mod dead; // dead.rt: kinds 4 and 5, memory 0 of one lead
 mod line; // line.rt: kinds 4 and 6
 mod pair; // pair.rt: the two ends of a value, in the table and in a rounded step
 mod ring; // ring.rt: kinds 5 and 7
 mod rows; // rows.rt: kinds 1 to 3, the rows of the table
-mod runs; // runs.rt: kinds 4 to 7, memory 0 of one lead
+mod runs; // runs.rt: kinds 4 to 7, what lines and rings share
 mod turns; // turns.rt: kinds 1 to 3, a component at a time
 
 ghost use mathlib.Core.Path.{_≡_};
-ghost use Prim.Native.Nat.{min};
+ghost use Prim.Native.Nat.{_-_, min};
 ghost use Rattle.rules.specs.State.{S};
 ghost use Rattle.rules.specs.Figure.{figure};
 ghost use Rattle.engine.specs.Cells.{Both, Kept};
@@ -41,6 +43,13 @@ fn lesser(a: usize, b: usize) -> usize
     ensures { λ r. ⌜ r ≡ min a b ⌝ }
 {
     if a <= b { a } else { b }
+}
+
+// a less b, or 0.
+fn rest(a: usize, b: usize) -> usize
+    ensures { λ r. ⌜ r ≡ a - b ⌝ }
+{
+    if a <= b { 0 } else { a - b }
 }
 
 // Low and high of a sound list, worked in the table.

@@ -29,7 +29,7 @@ pub fn line(rule: Rule, survival: &[u32], table: &mut [u64]) -> Ends
     ensures { λ r. ⌜ Both (λ up. valueOf up rule (now (survival .entry)) (leadOf rule) (length (now (survival .entry))) 0) r × Kept (now (table .entry)) (now (table .exit)) ⌝ }
 {
     let n = survival.len();
-    runs::settle(rule, survival, table);
+    runs::prepare(rule, survival, table);
     let none = runs::begin(rule, survival, line_lead(rule), table);
     runs::reach(rule, survival, none, n, table);
     pair::read(table, n)

@@ -1,7 +1,7 @@
 // The two ends of a value: where they stand in the table, and one rounded step of both.
 ghost use mathlib.Core.Path.{_≡_};
-ghost use mathlib.Core.Bool.{cond};
-ghost use Prim.Native.Nat.{_<_};
+ghost use mathlib.Core.Bool.{Bool, cond};
+ghost use Prim.Native.Nat.{_<_, _≤_};
 ghost use lib.ListN.{length, getD};
 ghost use Rattle.rules.specs.State.{S};
 ghost use Rattle.rules.specs.Figure.{rounded, mixed};
@@ -19,6 +19,18 @@ pub fn read(table: &[u64], at: usize) -> Ends
     Ends {
         low: table[at],
         high: table[1200 + at],
+    }
+}
+
+// The same, where both are within the unit: the compiler sees that they fit 32 bits.
+pub fn read_small(table: &[u64], at: usize) -> Ends
+    requires { ⌜ Place at (now table) × ((up : Bool) → cellAt (now table) up at ≤ S) ⌝ }
+    ensures { λ r. ⌜ Both (λ up. cellAt (now (table .entry)) up at) r ⌝ }
+{
+    let ends = read(table, at);
+    Ends {
+        low: units::narrow(ends.low),
+        high: units::narrow(ends.high),
     }
 }
 

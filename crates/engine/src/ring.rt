@@ -11,8 +11,10 @@ ghost use Rattle.engine.specs.Runs.{valueOf, Reached};
 ghost use Rattle.engine.specs.Open.{Ringed, enterOf, neededOf, openAt, Bringable, Enterable, Widenable, widened, leftOf, firstOpen};
 use crate::Ends;
 use crate::Known;
+use crate::clean;
 use crate::lesser;
 use crate::pair;
+use crate::rest;
 use crate::runs;
 use rules::Rule;
 use units::Failure;
@@ -46,11 +48,7 @@ fn needed(rule: Rule, i: usize) -> usize
     if rule.kind == 5 {
         return i;
     }
-    let limit = memory::limit(rule) as usize;
-    if i + 1 < limit {
-        return 0;
-    }
-    i + 1 - limit
+    rest(i + 1, memory::limit(rule) as usize)
 }
 
 // A lead entered with i left: at memory 0 under kind 5, past the first failed component under kind 7.
@@ -61,7 +59,7 @@ fn enter(rule: Rule, survival: &[u32], s: Known, i: usize, table: &[u64]) -> End
     if rule.kind == 5 {
         return pair::read(table, i);
     }
-    runs::past(rule, survival, s, i, table)
+    clean::past(rule, survival, s, i, table)
 }
 
 // The open memory with one component more: under kind 5 it stays open where the component fails, under kind 7 where it works.
@@ -103,7 +101,7 @@ pub fn ring(rule: Rule, survival: &[u32], table: &mut [u64]) -> Ends
 {
     let n = survival.len();
     let most = memory::limit(rule) as usize - 1;
-    runs::settle(rule, survival, table);
+    runs::prepare(rule, survival, table);
     let mut s = runs::begin(rule, survival, most as u64, table);
     let mut i = open_left(rule, n);
     let mut opened = open_ends(rule);

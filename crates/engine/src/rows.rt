@@ -21,8 +21,8 @@ pub fn row(p: Survival, q: Failure, width: usize, weight: usize, from: usize, ta
         let ends = pair::step(
             p,
             q,
-            pair::read(table, from + m),
-            pair::read(table, from + m + weight),
+            pair::read_small(table, from + m),
+            pair::read_small(table, from + m + weight),
         );
         pair::write(table, to + m, ends);
         m += 1;

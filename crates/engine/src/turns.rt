@@ -94,7 +94,8 @@ fn turn(rule: Rule, survival: &[u32], weights: &[u16], s: Sweep, table: &mut [u6
     let reach = s.reach - w;
     let p = pair::chance(survival, left);
     let width = lesser(memory::limit(rule) as usize, reach);
-    rows::row(Survival(p), Failure(UNIT - p), width, w, from, table);
+    let q = units::narrow(UNIT - p);
+    rows::row(Survival(p), Failure(q), width, w, from, table);
     Sweep {
         reach,
         left: left + 1,

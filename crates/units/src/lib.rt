@@ -13,8 +13,8 @@ pub struct Survival(pub u64);
 
 pub struct Failure(pub u64);
 
-// A number within the unit. The compiler sees that it fits 32 bits, and multiplies two at a time.
-fn narrow(x: u64) -> u64
+// A number within the unit, of which the compiler then sees that it fits 32 bits: it multiplies two of them at a time.
+pub fn narrow(x: u64) -> u64
     requires { ⌜ x ≤ S ⌝ }
     ensures { λ r. ⌜ r ≡ x ⌝ }
 {
@@ -26,7 +26,7 @@ fn mix(p: Survival, q: Failure, works: u64, fails: u64) -> u64
     requires { ⌜ Parts (p .0) (q .0) works fails ⌝ }
     ensures { λ r. ⌜ (r ≡ mixed S (p .0) works fails) × (r ≤ S * S) ⌝ }
 {
-    narrow(p.0) * narrow(works) + narrow(q.0) * narrow(fails)
+    p.0 * works + q.0 * fails
 }
 
 // The mix over the unit, rounded down.

@@ -7,14 +7,14 @@ use Rattle.engine.proofs.Running.{none-at, lead-small}
 use Rattle.engine.proofs.line.line.Statement.{statement}
 use Rattle.engine.proofs.line.line.Tie as tie
 
-settle-requires : tie.Need-settle-requires
-settle-requires c κs = search needs
+prepare-requires : tie.Need-prepare-requires
+prepare-requires c κs = search needs
 
 line-lead-requires : tie.Need-line-lead-requires
 line-lead-requires c κs = search needs
 
 begin-requires : tie.Need-begin-requires
-begin-requires c κs = (c .before .before .before .before .settle .ensures .0, rw (c .before .line-lead .ensures) (lead-small _ (c .before .before .before .before .before .before .before .before .pre .0 .limit)))
+begin-requires c κs = (c .before .before .before .before .prepare .ensures .0, rw (c .before .line-lead .ensures) (lead-small _ (c .before .before .before .before .before .before .before .before .pre .0 .some)))
 
 reach-requires : tie.Need-reach-requires
 reach-requires c κs = search needs
@@ -27,7 +27,7 @@ same-length c = search needs
 
 returns : tie.Need-returns
 returns c =
-    let s = c .before .before .before .before .before .before .before .before .before .before .before .before .before .settle .ensures in
+    let s = c .before .before .before .before .before .before .before .before .before .before .before .before .before .prepare .ensures in
     let b = c .before .before .before .before .before .before .before .before .begin .ensures in
     let r = c .before .before .before .before .reach .ensures in
     let lead = r .lead ∙ b .lead ∙ c .before .before .before .before .before .before .before .before .before .before .line-lead .ensures in (
@@ -39,7 +39,7 @@ pub line-spec : {M : Type 1} → statement M
 line-spec =
     tie.close
     (tie.spec
-    settle-requires
+    prepare-requires
     line-lead-requires
     begin-requires
     reach-requires

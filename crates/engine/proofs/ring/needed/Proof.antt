@@ -1,4 +1,4 @@
--- `needed` takes the test of `neededOf`, and cuts its difference off at 0. Assumes nothing.
+-- `needed` takes the test of `neededOf`. Assumes nothing.
 use borrow.Author.Needs.{needs}
 use borrow.Author.Tests.{eq-eqb, ne-eqb}
 use native.Mathlib.Omega.{arith}
@@ -10,26 +10,18 @@ returns : tie.Need-returns
 unfolding neededOf
 returns c = simp (eq-eqb _ _ (c .if1 .taken))
 
+add-rest : tie.Need-add-rest
+add-rest c = search needs
+
 limit-requires : tie.Need-limit-requires
 limit-requires c κs = search needs
 
-add-if2 : tie.Need-add-if2
-add-if2 c = search needs
+rest-requires : tie.Need-rest-requires
+rest-requires c κs = search needs
 
 returns-2 : tie.Need-returns-2
 unfolding neededOf
-returns-2 c = rw (ne-eqb _ _ (c .before .before .if1 .left)) (omega (arith, c .before .limit .ensures, c .if2 .taken))
-
-add-result : tie.Need-add-result
-add-result c = search needs
-
-sub-result : tie.Need-sub-result
-sub-result c = search needs
-
-returns-3 : tie.Need-returns-3
-unfolding neededOf
-returns-3 c = rw (ne-eqb _ _ (c .before .before .if1 .left)) (omega (arith, c .before .limit .ensures, c .if2 .left))
+returns-2 c = rw (ne-eqb _ _ (c .before .before .if1 .left)) (omega (arith, c .rest .ensures, c .before .limit .ensures))
 
 pub needed-spec : {M : Type 1} → statement M
-needed-spec =
-    tie.close (tie.spec returns limit-requires add-if2 returns-2 add-result sub-result returns-3)
+needed-spec = tie.close (tie.spec returns add-rest limit-requires rest-requires returns-2)

@@ -23,13 +23,13 @@ limit-requires c κs = search needs
 sub-most : tie.Need-sub-most Inv-loop μ-loop
 sub-most c = omega (arith, c .limit .ensures, c .before .before .before .pre .0 .some)
 
-settle-requires : tie.Need-settle-requires Inv-loop μ-loop
-settle-requires c κs =
+prepare-requires : tie.Need-prepare-requires Inv-loop μ-loop
+prepare-requires c κs =
     let pre = c .before .before .before .before .pre in
     (pre .0, ringed-late (pre .1), pre .2)
 
 begin-requires : tie.Need-begin-requires Inv-loop μ-loop
-begin-requires c κs = (c .before .before .before .settle .ensures .0, omega (arith, c .before .before .before .before .before .limit .ensures, c .before .before .before .before .before .before .before .before .pre .0 .limit))
+begin-requires c κs = (c .before .before .before .prepare .ensures .0, omega (arith, c .before .before .before .before .before .limit .ensures, c .before .before .before .before .before .before .before .before .pre .0 .limit))
 
 open-left-requires : tie.Need-open-left-requires Inv-loop μ-loop
 open-left-requires c κs = (c .before .before .before .before .before .before .before .before .before .before .before .pre .1 .fits, c .before .before .before .before .before .before .before .before .before .before .before .pre .0 .limit)
@@ -94,14 +94,14 @@ loop-again c =
     opened-more (c .before .before .before .before .before .before .before .before .before .before .loop .inv) (c .before .before .before .before .before .before .before .before .before .loop-test .taken) (rw (c .before .before .before .before .before .before .before .needed .ensures, c .before .before .before .before .before .before .before .before .lesser .ensures) at (c .before .before .before .before .before .bring .ensures)) (c .before .enter .ensures) (c .widen .ensures)
 
 same-length : tie.Need-same-length Inv-loop μ-loop
-same-length c = kept-trans (c .before .before .before .before .before .before .before .before .before .before .settle .ensures .1) (kept-trans (c .before .before .before .before .before .before .begin .ensures .kept) (c .before .loop .inv .kept)) .long
+same-length c = kept-trans (c .before .before .before .before .before .before .before .before .before .before .prepare .ensures .1) (kept-trans (c .before .before .before .before .before .before .begin .ensures .kept) (c .before .loop .inv .kept)) .long
 
 returns : tie.Need-returns Inv-loop μ-loop
 returns c =
     let v = c .before .loop .inv in
     let e : c .before .loop .i ≡ length (c .before .before .before .before .before .before .before .before .before .before .before .before .before .before .before .args .survival .now) = omega (arith, v .upto, v .size, c .loop-test .left) in (
       record { low = v .ends .low ∙ ap (openAt false _ _) e; high = v .ends .high ∙ ap (openAt true _ _) e },
-      kept-trans (c .before .before .before .before .before .before .before .before .before .before .settle .ensures .1) (kept-trans (c .before .before .before .before .before .before .begin .ensures .kept) (v .kept)),
+      kept-trans (c .before .before .before .before .before .before .before .before .before .before .prepare .ensures .1) (kept-trans (c .before .before .before .before .before .before .begin .ensures .kept) (v .kept)),
     )
 
 pub ring-spec : {M : Type 1} → statement M
@@ -112,7 +112,7 @@ ring-spec =
     μ-loop
     limit-requires
     sub-most
-    settle-requires
+    prepare-requires
     begin-requires
     open-left-requires
     open-ends-requires

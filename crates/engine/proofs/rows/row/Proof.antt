@@ -22,26 +22,26 @@ sub-to c = omega (arith, side-near (c .before .pre .side))
 loop-holds : tie.Need-loop-holds Inv-loop μ-loop
 loop-holds c = (omega arith, refl, c .before .pre, written-none)
 
-add-read : tie.Need-add-read Inv-loop μ-loop
-add-read c = let v = c .before .before .loop .inv in omega (arith, works-place (v .2) (c .before .loop-test .taken) (v .3) .low)
+add-read-small : tie.Need-add-read-small Inv-loop μ-loop
+add-read-small c = let v = c .before .before .loop .inv in omega (arith, works-place (v .2) (c .before .loop-test .taken) (v .3) .0 .low)
 
-read-requires : tie.Need-read-requires Inv-loop μ-loop
-read-requires c κs = let v = c .before .before .loop .inv in works-place (v .2) (c .before .loop-test .taken) (v .3)
+read-small-requires : tie.Need-read-small-requires Inv-loop μ-loop
+read-small-requires c κs = let v = c .before .before .loop .inv in works-place (v .2) (c .before .loop-test .taken) (v .3)
 
-add-read-2 : tie.Need-add-read-2 Inv-loop μ-loop
-add-read-2 c = let o = c .before .before .before in let v = o .before .loop .inv in omega (arith, works-place (v .2) (o .loop-test .taken) (v .3) .low)
+add-read-small-2 : tie.Need-add-read-small-2 Inv-loop μ-loop
+add-read-small-2 c = let o = c .before .before .before in let v = o .before .loop .inv in omega (arith, works-place (v .2) (o .loop-test .taken) (v .3) .0 .low)
 
-add-read-3 : tie.Need-add-read-3 Inv-loop μ-loop
-add-read-3 c = let o = c .before .before .before in let v = o .before .loop .inv in omega (arith, fails-place (v .2) (o .loop-test .taken) (v .3) .low)
+add-read-small-3 : tie.Need-add-read-small-3 Inv-loop μ-loop
+add-read-small-3 c = let o = c .before .before .before in let v = o .before .loop .inv in omega (arith, fails-place (v .2) (o .loop-test .taken) (v .3) .0 .low)
 
-read-requires-2 : tie.Need-read-requires-2 Inv-loop μ-loop
-read-requires-2 c κs = let o = c .before .before .before in let v = o .before .loop .inv in fails-place (v .2) (o .loop-test .taken) (v .3)
+read-small-requires-2 : tie.Need-read-small-requires-2 Inv-loop μ-loop
+read-small-requires-2 c κs = let o = c .before .before .before in let v = o .before .loop .inv in fails-place (v .2) (o .loop-test .taken) (v .3)
 
 step-requires : tie.Need-step-requires Inv-loop μ-loop
 step-requires c κs =
     let o = c .before .before .before .before in
     let v = o .before .loop .inv in
-    step-steady (v .2) (o .loop-test .taken) (v .3) (c .before .before .read .ensures) (c .read2 .ensures)
+    step-steady (v .2) (o .loop-test .taken) (v .3) (c .before .before .read-small .ensures) (c .read-small2 .ensures)
 
 add-write : tie.Need-add-write Inv-loop μ-loop
 add-write c =
@@ -67,7 +67,7 @@ loop-again c =
     let o = i .before .before .before .before .before in
     let v = o .before .loop .inv in
     let l = o .loop-test .taken in
-    let b = step-both (v .2) l (v .3) (i .before .before .before .read .ensures) (i .before .read2 .ensures) (i .step .ensures) in
+    let b = step-both (v .2) l (v .3) (i .before .before .before .read-small .ensures) (i .before .read-small2 .ensures) (i .step .ensures) in
     (omega arith, v .1, v .2, written-more (c .before .before .write .ensures) (omega (arith, v .1)) (write-place (v .2) l (v .3) .low) b (v .3))
 
 same-length : tie.Need-same-length Inv-loop μ-loop
@@ -87,11 +87,11 @@ row-spec =
     μ-loop
     sub-to
     loop-holds
-    add-read
-    read-requires
-    add-read-2
-    add-read-3
-    read-requires-2
+    add-read-small
+    read-small-requires
+    add-read-small-2
+    add-read-small-3
+    read-small-requires-2
     step-requires
     add-write
     write-requires

@@ -1,10 +1,5 @@
 -- `begin` writes the end of memory 0 at place 0. Assumes nothing.
 use borrow.Author.Needs.{needs}
-use mathlib.Core.Path.{refl, _∙_, ap}
-use mathlib.Core.Bool.{cond}
-use native.Mathlib.Omega.{arith}
-use Rattle.rules.specs.State.{S}
-use Rattle.rules.specs.Figure.{value}
 use Rattle.engine.proofs.Running.{holds-begun}
 use Rattle.engine.proofs.runs.begin.Statement.{statement}
 use Rattle.engine.proofs.runs.begin.Tie as tie
@@ -22,9 +17,7 @@ same-length : tie.Need-same-length
 same-length c = search needs
 
 returns : tie.Need-returns
-returns c =
-    let pre = c .before .before .before .before .before .before .before .before .pre in
-    holds-begun (pre .0) (pre .1) (c .before .before .before .before .end .ensures) (c .before .before .before .worth .ensures) (c .before .before .write .ensures)
+returns c = let pre = c .before .before .before .before .before .before .before .before .pre in holds-begun (pre .0) (pre .1) (c .before .before .before .before .end .ensures) (c .before .before .before .worth .ensures) (c .before .before .write .ensures)
 
 pub begin-spec : {M : Type 1} → statement M
 begin-spec = tie.close (tie.spec end-requires worth-requires write-requires same-length returns)

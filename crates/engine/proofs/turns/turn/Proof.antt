@@ -1,6 +1,6 @@
 -- `turn` makes the row on the other side, or leaves it for a component of no weight: the laws of a turn take the level on. Assumes nothing.
 use borrow.Author.Needs.{needs}
-use mathlib.Core.Path.{refl, sym, _∙_}
+use mathlib.Core.Path.{sym, _∙_}
 use native.Mathlib.Omega.{arith}
 use native.Mathlib.Numerals.{add-one}
 use Rattle.engine.proofs.Cells.{kept-none}
@@ -12,8 +12,8 @@ use Rattle.engine.proofs.turns.turn.Tie as tie
 weight-requires : tie.Need-weight-requires
 weight-requires c κs = let pre = c .before .before .before .pre in λ two. omega (arith, pre .more, pre .level .weighed .each two)
 
-add-t13 : tie.Need-add-t13
-add-t13 c = search needs
+add-t14 : tie.Need-add-t14
+add-t14 c = search needs
 
 returns : tie.Need-returns
 returns c =
@@ -40,28 +40,31 @@ limit-requires c κs = search needs
 lesser-requires : tie.Need-lesser-requires
 lesser-requires c κs = search needs
 
-sub-t14 : tie.Need-sub-t14
-sub-t14 c = rw (c .before .before .chance .ensures) (c .before .before .before .before .before .before .before .before .before .pre .level .rated .units _)
+sub-narrow : tie.Need-sub-narrow
+sub-narrow c = rw (c .before .before .chance .ensures) (c .before .before .before .before .before .before .before .before .before .pre .level .rated .units _)
+
+narrow-requires : tie.Need-narrow-requires
+narrow-requires c κs = search needs
 
 row-requires : tie.Need-row-requires
 row-requires c κs =
-    let w = c .before .before .before .before .before .before in
+    let w = c .before .before .before .before .before .before .before in
     let pre = w .before .before .before .before .pre in
-    rw (c .before .lesser .ensures, c .before .before .limit .ensures, w .weight .ensures)
-    (turn-ready (pre .level) (pre .more) _ _ (c .before .before .before .chance .ensures) refl)
+    rw (c .before .before .lesser .ensures, c .before .before .before .limit .ensures, w .weight .ensures)
+    (turn-ready (pre .level) (pre .more) _ _ (c .before .before .before .before .chance .ensures) (c .before .narrow .ensures))
 
-add-t15 : tie.Need-add-t15
-add-t15 c = search needs
+add-t16 : tie.Need-add-t16
+add-t16 c = search needs
 
-sub-t21 : tie.Need-sub-t21
-sub-t21 c = omega (arith, side-near (c .before .before .before .before .before .before .before .before .before .before .before .before .before .pre .level .side))
+sub-t22 : tie.Need-sub-t22
+sub-t22 c = omega (arith, side-near (c .before .before .before .before .before .before .before .before .before .before .before .before .before .before .pre .level .side))
 
 same-length : tie.Need-same-length
 same-length c = search needs
 
 returns-2 : tie.Need-returns-2
 returns-2 c =
-    let l = c .before .before .before .before in
+    let l = c .before .before .before .before .before in
     let w = l .before .before .before .before .before in
     let pre = w .before .before .before .before .pre in
     let made = rw (l .lesser .ensures, l .before .limit .ensures, w .weight .ensures, l .before .before .chance .ensures) at (c .before .before .row .ensures) in
@@ -76,15 +79,16 @@ turn-spec =
     tie.close
     (tie.spec
     weight-requires
-    add-t13
+    add-t14
     returns
     sub-reach
     chance-requires
     limit-requires
     lesser-requires
-    sub-t14
+    sub-narrow
+    narrow-requires
     row-requires
-    add-t15
-    sub-t21
+    add-t16
+    sub-t22
     same-length
     returns-2)
