@@ -82,15 +82,15 @@ module _ (rule : Rule) (late : 3 < rule .kind) (some : 0 < limitOf rule) (later 
   end-is lead at pos l = rw (alive rule late some at l, ne-eqb (rule .kind) 3 (λ e. omega arith), not3 rule late some, by-five, ne-eqb at 0 (λ e. omega arith))
 
   pub cut-run : (up : Bool) (survival : List ℕ) (lead i : ℕ) → 1 + i < limitOf rule
-      → valueOf up rule survival lead i 1 ≡ cond (leb (limitOf rule) (lead + i + 1)) (worked up survival 0 i S) 0
+      → valueOf up rule survival lead i 1 ≡ cond (leb (limitOf rule - 1 - lead) i) (worked up survival 0 i S) 0
   unfolding value
   cut-run up survival lead i l =
       ap (λ x. valueOf up rule survival lead x 1) (sym (zero-add i))
       ∙ run-is up survival lead 0 i 1 (omega arith) (omega arith) (omega arith)
       ∙ rw (ran-short rule late some (1 + i) l, end-is lead (1 + i) (omega arith) l)
-      (by-test (λ x. worked up survival 0 i (cond (leb (limitOf rule - (1 + i)) lead) S 0) ≡ x) (leb (limitOf rule) (lead + i + 1)) _ _
-      (λ e. let h = leb-true (limitOf rule) (lead + i + 1) e in rw (le-leb (limitOf rule - (1 + i)) lead (omega arith)))
-      (λ e. let h = leb-false (limitOf rule) (lead + i + 1) e in rw (lt-leb (limitOf rule - (1 + i)) lead (omega arith)) (worked-none up survival 0 i)))
+      (by-test (λ x. worked up survival 0 i (cond (leb (limitOf rule - (1 + i)) lead) S 0) ≡ x) (leb (limitOf rule - 1 - lead) i) _ _
+      (λ e. let h = leb-true (limitOf rule - 1 - lead) i e in rw (le-leb (limitOf rule - (1 + i)) lead (omega arith)))
+      (λ e. let h = leb-false (limitOf rule - 1 - lead) i e in rw (lt-leb (limitOf rule - (1 + i)) lead (omega arith)) (worked-none up survival 0 i)))
 
 -- the loops over runs
 module _ {survival : List ℕ} {from upto : ℕ} {end : Ends} (y : Working survival from upto end) where
@@ -144,10 +144,10 @@ module _ {rule : Rule} {survival : List ℕ} {s : Known} {i : ℕ} {t : List ℕ
   abbrev rated : Rated rule survival
   rated = y .holds .prepared .rated
 
-  pub past-cut : suc i < limitOf rule → {r : Ends} → Both (λ up. cond (leb (limitOf rule) (s .lead + i + 1)) (cellAt t up (600 + i)) 0) r → Both (λ up. valueOf up rule survival (s .lead) i 1) r
+  pub past-cut : suc i < limitOf rule → {r : Ends} → Both (λ up. cond (leb (limitOf rule - 1 - s .lead) i) (cellAt t up (600 + i)) 0) r → Both (λ up. valueOf up rule survival (s .lead) i 1) r
   past-cut l =
       both-as (λ up.
-        ap (λ x. cond (leb (limitOf rule) (s .lead + i + 1)) x 0) (y .holds .prepared .clean (y .late) .is up i (y .some))
+        ap (λ x. cond (leb (limitOf rule - 1 - s .lead) i) x 0) (y .holds .prepared .clean (y .late) .is up i (y .some))
         ∙ sym (cut-run rule (y .holds .prepared .late) (rated .some) (y .late) up survival (s .lead) i (omega arith)))
 
   module _ (from : ℕ) (e : from + limitOf rule ≡ suc i) where
@@ -217,7 +217,7 @@ abbrev pub Wanted : (survival : List ℕ) (i : ℕ) (none fails : Ends) (t : Lis
 Wanted survival i none fails t = (i < 100) × (i < length survival) × (getD survival i 0 ≤ S) × Within none × Within fails × (cells ≤ length t)
 
 -- by a run that is cut short
-module _ {rule : Rule} {survival : List ℕ} {s : Known} {none fails : Ends} {t : List ℕ} (y : Stands rule survival s none t) (l : s .left < length survival) (short : suc (s .left) < limitOf rule) (b : Both (λ up. cond (leb (limitOf rule) (s .lead + s .left + 1)) (cellAt t up (600 + s .left)) 0) fails) where
+module _ {rule : Rule} {survival : List ℕ} {s : Known} {none fails : Ends} {t : List ℕ} (y : Stands rule survival s none t) (l : s .left < length survival) (short : suc (s .left) < limitOf rule) (b : Both (λ up. cond (leb (limitOf rule - 1 - s .lead) (s .left)) (cellAt t up (600 + s .left)) 0) fails) where
   pub cut-wanted : Wanted survival (s .left) none fails t
   cut-wanted = more-wanted y l (past-cut (stands-passable y l) short b)
 

@@ -59,12 +59,12 @@ fn run(survival: &[u32], from: usize, upto: usize, end: Ends) -> Ends
     run
 }
 
-// The run of a failed component with i left, where the components end first: it works if it and the lead are as long as the limit.
-fn cut_short(limit: usize, lead: usize, i: usize, table: &[u64]) -> Ends
-    requires { ⌜ (lead < 1000) × (i < 100) × (cells ≤ length (now table)) ⌝ }
-    ensures { λ r. ⌜ Both (λ up. cond (leb limit (lead + i + 1)) (cellAt (now (table .entry)) up (600 + i)) 0) r ⌝ }
+// The run of a failed component with i left, where the components end first: it works if i is no less than what the lead is short of.
+fn cut_short(short: usize, i: usize, table: &[u64]) -> Ends
+    requires { ⌜ (i < 100) × (cells ≤ length (now table)) ⌝ }
+    ensures { λ r. ⌜ Both (λ up. cond (leb short i) (cellAt (now (table .entry)) up (600 + i)) 0) r ⌝ }
 {
-    if limit <= lead + i + 1 {
+    if short <= i {
         return pair::read(table, 600 + i);
     }
     pair::worth(false)
@@ -77,7 +77,7 @@ pub fn past(rule: Rule, survival: &[u32], s: Known, i: usize, table: &[u64]) -> 
 {
     let limit = memory::limit(rule) as usize;
     if i + 1 < limit {
-        return cut_short(limit, s.lead as usize, i, table);
+        return cut_short(limit - 1 - s.lead as usize, i, table);
     }
     let from = i + 1 - limit;
     run(survival, from, i, pair::read(table, from))
@@ -102,10 +102,11 @@ fn reach_cut(rule: Rule, survival: &[u32], s: Known, upto: usize, table: &mut [u
     let limit = memory::limit(rule) as usize;
     let last = lesser(upto, limit - 1);
     let lead = s.lead;
+    let short = limit - 1 - lead as usize;
     let mut left = s.left;
     let mut none = pair::read(table, left);
     while left < last {
-        let fails = cut_short(limit, lead as usize, left, table);
+        let fails = cut_short(short, left, table);
         none = more(survival, left, none, fails, table);
         left += 1;
     }

@@ -1,14 +1,8 @@
--- `cut_short` takes the test of the limit. Assumes nothing.
+-- `cut_short` takes the test of what the lead is short of. Assumes nothing.
 use borrow.Author.Needs.{needs}
 use borrow.Author.Tests.{le-leb, lt-leb}
 use Rattle.engine.proofs.clean.cut_short.Statement.{statement}
 use Rattle.engine.proofs.clean.cut_short.Tie as tie
-
-add-if1 : tie.Need-add-if1
-add-if1 c = search needs
-
-add-if1-2 : tie.Need-add-if1-2
-add-if1-2 c = search needs
 
 add-read : tie.Need-add-read
 add-read c = search needs
@@ -26,5 +20,4 @@ returns-2 : tie.Need-returns-2
 returns-2 c = let e = lt-leb _ _ (c .before .if1 .left) in record { low = rw e (c .worth .ensures .low); high = rw e (c .worth .ensures .high) }
 
 pub cut-short-spec : {M : Type 1} → statement M
-cut-short-spec =
-    tie.close (tie.spec add-if1 add-if1-2 add-read read-requires returns worth-requires returns-2)
+cut-short-spec = tie.close (tie.spec add-read read-requires returns worth-requires returns-2)

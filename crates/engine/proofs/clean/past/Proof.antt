@@ -11,6 +11,12 @@ limit-requires c κs = search needs
 add-if1 : tie.Need-add-if1
 add-if1 c = search needs
 
+sub-cut-short : tie.Need-sub-cut-short
+sub-cut-short c = search needs
+
+sub-cut-short-2 : tie.Need-sub-cut-short-2
+sub-cut-short-2 c = search needs
+
 cut-short-requires : tie.Need-cut-short-requires
 cut-short-requires c κs = search needs
 
@@ -38,6 +44,8 @@ past-spec =
     (tie.spec
     limit-requires
     add-if1
+    sub-cut-short
+    sub-cut-short-2
     cut-short-requires
     returns
     add-from
