@@ -41,6 +41,16 @@ def weights(n):
     return tuple(reversed((WEIGHTS + (0,) * n)[:n]))
 
 
+def laden(n):
+    """No component weighs nothing, and the one read first is the heaviest: no other weights have the library work more memories."""
+    return (1,) * (n - 1) + (HEAVIEST - n + 1,)
+
+
+def even(n):
+    """As even as may be."""
+    return tuple(HEAVIEST // n + (i < HEAVIEST % n) for i in range(n))
+
+
 def rules(kind, n):
     """Every rule of a kind; a few of kind 2."""
     if kind == 2:
@@ -52,14 +62,13 @@ def rules(kind, n):
     return [Rule(kind, k, 0) for k in range(1, n + 1)]
 
 
-def steps(rule, n):
+def steps(rule, heavy):
     """How many pairs of a component and a living memory a reading can come to."""
     row = ROWS[rule.kind]
-    heavy = weights(n)
     here, pairs = {row.start}, 0
-    for component in range(n, 0, -1):
+    for weight in reversed(heavy):
         pairs += len(here)
-        after = {row.working(rule, m) for m in here} | {row.failed(rule, m, heavy[component - 1]) for m in here}
+        after = {row.working(rule, m) for m in here} | {row.failed(rule, m, weight) for m in here}
         here = after - {DEAD}
     return pairs
 
@@ -68,11 +77,11 @@ def worst(kind, n):
     """The rule with the most steps: of kind 3, where all rules have as many, the one that the papers' recurrence works longest at."""
     if kind == 3:
         return Rule(3, n // 2, n)
-    return max(rules(kind, n), key=lambda rule: steps(rule, n))
+    return max(rules(kind, n), key=lambda rule: steps(rule, weights(n)))
 
 
-def case(rule, n, list_of=drawn):
-    return Case(rule, list_of(n), weights(n))
+def case(rule, n, list_of=drawn, weights_of=weights):
+    return Case(rule, list_of(n), weights_of(n))
 
 
 def worst_cases():
@@ -82,7 +91,8 @@ def worst_cases():
 def agreed_cases():
     """Small lists under every rule, short rings and survival numbers 0 among them; longer ones under a short and a middling rule."""
     small = [case(rule, n, list_of) for n in (8, 16) for kind in KINDS for rule in rules(kind, n) for list_of in (drawn, edges)]
-    return small + [case(rule, n) for n in (32, 64) for rule in middling(n)]
+    heavy = [case(rule, n, drawn, weights_of) for n in (8, 16, 64) for rule in rules(2, n) for weights_of in (laden, even)]
+    return small + heavy + [case(rule, n) for n in (32, 64) for rule in middling(n)]
 
 
 def middling(n):
@@ -90,6 +100,8 @@ def middling(n):
 
 
 def longest_cases():
-    """Every rule over the longest list, to find what costs the library most; of kind 3, whose rules all cost it the same, two."""
+    """Every rule over the longest list, to find what costs the library most; of kind 3, whose rules all cost it the same, two; of kind 2 a few,
+    with other weights too."""
     most = SIZES[-1]
-    return [case(rule, most) for kind in KINDS for rule in (rules(kind, most) if kind != 3 else (Rule(3, 0, 0), worst(3, most)))]
+    heavy = [case(rule, most, drawn, weights_of) for rule in rules(2, most) for weights_of in (laden, even)]
+    return [case(rule, most) for kind in KINDS for rule in (rules(kind, most) if kind != 3 else (Rule(3, 0, 0), worst(3, most)))] + heavy

@@ -7,7 +7,7 @@ import sys
 from datetime import date
 from typing import NamedTuple
 
-from cases import KINDS, SIZES, agreed_cases, longest_cases, steps, worst_cases
+from cases import KINDS, SIZES, agreed_cases, longest_cases, steps, weights, worst_cases
 
 # A double that has gone through n rounded steps is this near, in units of 2^-30.
 NEAR = 0.001
@@ -90,6 +90,11 @@ def asked(rule):
     return f"r {rule.second}" if rule.kind > 5 else f"k {rule.first}"
 
 
+def laid(case):
+    """Other weights than those of the table above."""
+    return f", weights {case.weights[0]} to {case.weights[-1]}" if case.weights != weights(len(case.weights)) else ""
+
+
 def table(heads, rows):
     lines = ["| " + " | ".join(heads) + " |", "|" + "---|" * len(heads)]
     return "\n".join(lines + ["| " + " | ".join(row) + " |" for row in rows]) + "\n"
@@ -139,7 +144,7 @@ class Results:
         return self.cases[self.at[kind, n]].rule
 
     def steps(self, kind, n=SIZES[-1]):
-        return steps(self.rule(kind, n), n)
+        return steps(self.rule(kind, n), self.cases[self.at[kind, n]].weights)
 
     def row(self, kind, n):
         ours, work = self.cost("library", kind, n), self.steps(kind, n)
@@ -156,8 +161,8 @@ class Results:
         rows = []
         for place, case in enumerate(self.dearest):
             ours, plain, directed = (self.dearest_costs[way][place] for way in ("library", "plain", "directed"))
-            work = steps(case.rule, SIZES[-1])
-            rows.append([str(case.rule.kind), asked(case.rule), comma(work), comma(ours), comma(plain), comma(directed), f"{ours / work:.1f}"])
+            work = steps(case.rule, case.weights)
+            rows.append([str(case.rule.kind), asked(case.rule) + laid(case), comma(work), comma(ours), comma(plain), comma(directed), f"{ours / work:.1f}"])
         return table(["kind", "rule", "steps", "library", "(a)", "(b)", "library a step"], rows)
 
     def whole_table(self):
@@ -183,9 +188,10 @@ class Results:
             yield f"kind {kind}: 50 times fewer than {NAMES[self.exact]}", self.cost("library", kind), self.cost(self.exact, kind) // 50
         for kind in RINGS:
             yield f"kind {kind}: twice its steps at kind 1's cost a step", self.cost("library", kind), 2 * self.steps(kind) * self.a_step()
+        yield "kind 2 at its dearest weights: no more than (a)", self.dearest_costs["library"][1], self.dearest_costs["plain"][1]
         for kind in RINGS:
             case, ours = self.dearest[kind - 1], self.dearest_costs["library"][kind - 1]
-            yield f"the same at its dearest rule, {asked(case.rule)}", ours, 2 * steps(case.rule, SIZES[-1]) * self.a_step()
+            yield f"the same at its dearest rule, {asked(case.rule)}", ours, 2 * steps(case.rule, case.weights) * self.a_step()
         for kind in KINDS if "whole" in self.ways else ():
             yield f"kind {kind}: whole call 20,000 over the rating", self.over(kind), 20000
 

@@ -114,9 +114,9 @@ pub worked-next : (survival : List ℕ) (from i : ℕ) (x : Bool → ℕ) → fr
 unfolding worked
 worked-next survival from i x later v =
     both-as (λ up.
-      let e : i + 1 - from ≡ suc (i - from) = omega arith in
-      let d : from + (i - from) ≡ i = omega arith in
-      rw (e, d, both-at v up))
+    let e : i + 1 - from ≡ suc (i - from) = omega arith in
+    let d : from + (i - from) ≡ i = omega arith in
+    rw (e, d, both-at v up))
 
 pub run-first : (survival : List ℕ) (from : ℕ) (end : Ends) → Both (λ up. worked up survival from (from - from) (one up end)) end
 unfolding worked
@@ -147,8 +147,8 @@ module _ {rule : Rule} {survival : List ℕ} {s : Known} {i : ℕ} {t : List ℕ
   pub past-cut : suc i < limitOf rule → {r : Ends} → Both (λ up. cond (leb (limitOf rule - 1 - s .lead) i) (cellAt t up (600 + i)) 0) r → Both (λ up. valueOf up rule survival (s .lead) i 1) r
   past-cut l =
       both-as (λ up.
-        ap (λ x. cond (leb (limitOf rule - 1 - s .lead) i) x 0) (y .holds .prepared .clean (y .late) .is up i (y .some))
-        ∙ sym (cut-run rule (y .holds .prepared .late) (rated .some) (y .late) up survival (s .lead) i (omega arith)))
+      ap (λ x. cond (leb (limitOf rule - 1 - s .lead) i) x 0) (y .holds .prepared .clean (y .late) .is up i (y .some))
+      ∙ sym (cut-run rule (y .holds .prepared .late) (rated .some) (y .late) up survival (s .lead) i (omega arith)))
 
   module _ (from : ℕ) (e : from + limitOf rule ≡ suc i) where
     pub past-place : Place from t
@@ -169,9 +169,9 @@ module _ {rule : Rule} {survival : List ℕ} {s : Known} {i : ℕ} {t : List ℕ
       pub past-run : {r : Ends} → Both (λ up. worked up survival from (i - from) (one up none)) r → Both (λ up. valueOf up rule survival (s .lead) i 1) r
       past-run =
           both-as (λ up.
-            let d : i - from ≡ limitOf rule - 1 = omega (arith, rated .some) in
-            let f : i ≡ from + (limitOf rule - 1) = omega (arith, rated .some) in
-            rw (both-at known up, d) (sym (whole-run rule (y .holds .prepared .late) (rated .some) (y .late) up survival (s .lead) from (rated .two (y .late))) ∙ ap (λ x. valueOf up rule survival (s .lead) x 1) (sym f)))
+          let d : i - from ≡ limitOf rule - 1 = omega (arith, rated .some) in
+          let f : i ≡ from + (limitOf rule - 1) = omega (arith, rated .some) in
+          rw (both-at known up, d) (sym (whole-run rule (y .holds .prepared .late) (rated .some) (y .late) up survival (s .lead) from (rated .two (y .late))) ∙ ap (λ x. valueOf up rule survival (s .lead) x 1) (sym f)))
 
 -- memory 0 in the table and at hand
 pub record Stands (rule : Rule) (survival : List ℕ) (s : Known) (none : Ends) (t : List ℕ) : Type 0 where

@@ -23,12 +23,7 @@ fn must_work(survival: &[u32], i: usize, run: Ends) -> Ends
     ensures { λ r. ⌜ Both (λ up. rounded up S (mixed S (getD (now (survival .entry)) i 0) (one up run) 0)) r ⌝ }
 {
     let p = pair::chance(survival, i);
-    pair::step(
-        Survival(p),
-        Failure(UNIT - p),
-        run,
-        pair::worth(false),
-    )
+    pair::step(Survival(p), Failure(UNIT - p), run, pair::worth(false))
 }
 
 // The runs up to the last component, from place 600 on.
@@ -128,5 +123,8 @@ pub fn reach(rule: Rule, survival: &[u32], s: Known, upto: usize, table: &mut [u
         none = more(survival, left, none, fails, table);
         left += 1;
     }
-    Known { lead: cut.lead, left }
+    Known {
+        lead: cut.lead,
+        left,
+    }
 }

@@ -36,12 +36,7 @@ fn run(rule: Rule, survival: &[u32], s: Known, from: usize, upto: usize, table: 
     let mut i = from;
     while i < upto {
         let p = pair::chance(survival, i);
-        run = pair::step(
-            Survival(p),
-            Failure(UNIT - p),
-            pair::read(table, i),
-            run,
-        );
+        run = pair::step(Survival(p), Failure(UNIT - p), pair::read(table, i), run);
         i += 1;
     }
     run

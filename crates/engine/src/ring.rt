@@ -22,14 +22,7 @@ use units::Survival;
 use units::UNIT;
 
 // Memory 0 of a lead, known with up to `upto` left: gone on with, or begun anew.
-fn bring(
-    rule: Rule,
-    survival: &[u32],
-    s: Known,
-    lead: u64,
-    upto: usize,
-    table: &mut [u64],
-) -> Known
+fn bring(rule: Rule, survival: &[u32], s: Known, lead: u64, upto: usize, table: &mut [u64]) -> Known
     requires { ⌜ Bringable rule (now survival) s lead upto (now table) ⌝ }
     ensures { λ r. ⌜ Reached rule (now (survival .entry)) lead upto (now (table .entry)) (now (table .exit)) r ⌝ }
 {
