@@ -6,21 +6,20 @@ use mathlib.Core.Bool.{Bool, true, false, cond}
 use mathlib.Core.List.{List, []}
 use native.Mathlib.Omega.{arith}
 use native.Mathlib.Nat.{add-zero, zero-add}
-use lib.Dec.{leb, ltb, eqb}
+use lib.Dec.{leb}
 use lib.ListN.{length, getD}
-use borrow.Author.Tests.{leb-true, leb-false, le-leb, lt-leb, lt-ltb, le-ltb, ne-eqb}
+use borrow.Author.Tests.{leb-true, leb-false, le-leb, lt-leb, le-ltb, ne-eqb}
 use Rattle.rules.specs.declared.Rule.{Rule}
 use Rattle.rules.specs.State.{S, numberOf}
 use Rattle.rules.specs.Figure.{mixed, rounded, value}
-use Rattle.rules.specs.Refusal.{cells}
 use Rattle.rules.proofs.Reading.{by-test}
 use Rattle.rules.proofs.Rounding.{step-le}
 use Rattle.memory.specs.Step.{limitOf, workedAt, failedAt, endOf, to}
 use Rattle.engine.specs.declared.Ends.{Ends}
 use Rattle.engine.specs.declared.Known.{Known}
-use Rattle.engine.specs.Cells.{one, Both, cellAt, Place, Within, Put}
+use Rattle.engine.specs.Cells.{one, Both, cellAt, Place, Put}
 use Rattle.engine.specs.Rated.{Rated}
-use Rattle.engine.specs.Runs.{valueOf, ran, worked, Holds, Working, Passable}
+use Rattle.engine.specs.Runs.{valueOf, ran, worked, Holds, Settling, Working, Passable, Stepping}
 use Rattle.engine.proofs.Cells.{both-at, both-as}
 use Rattle.engine.proofs.Values.{nothing, value-dead}
 use Rattle.engine.proofs.Running.{alive, not3, none-before, ran-short, within-values, none-at, holds-more}
@@ -127,13 +126,16 @@ pub settled-first : (survival : List ℕ) {r : Ends} → Both (λ up. S) r → B
 unfolding worked
 settled-first survival b = b
 
-pub settled-working : {survival : List ℕ} {upto : ℕ} → Working survival 0 upto (record { low = S; high = S }) → (i : ℕ) → i < upto → {run : Ends} → Both (λ up. worked up survival 0 i S) run → Working survival i (suc i) run
-settled-working {survival} y i l v =
-    working-next y i (omega arith) l (both-as (λ up. let d : i ≡ i - 0 = omega arith in ap (λ k. worked up survival 0 k S) d ∙ ap (worked up survival 0 (i - 0)) (is up)) v)
-  where
-    is : (up : Bool) → S ≡ one up (record { low = S; high = S })
-    is true = refl
-    is false = refl
+pub settled-working : {survival t : List ℕ} → Settling survival t → (i : ℕ) → i < length survival → {run : Ends} → Both (λ up. worked up survival 0 i S) run → Working survival i (suc i) run
+settled-working {survival} y i l v = record {
+  order = omega arith;
+  size = l;
+  units = y .units;
+  small = record {
+    low = rw (v .low) (worked-small false survival 0 i S (y .units) (omega arith));
+    high = rw (v .high) (worked-small true survival 0 i S (y .units) (omega arith));
+  };
+}
 
 pub settled-next : (survival : List ℕ) (i : ℕ) {run r : Ends} → Both (λ up. worked up survival 0 i S) run → Both (λ up. rounded up S (mixed S (getD survival i 0) (one up run) 0)) r
     → Both (λ up. worked up survival 0 (i + 1) S) r
@@ -188,15 +190,15 @@ module _ {rule : Rule} {survival : List ℕ} {s : Known} {none : Ends} {t : List
     abbrev units : (k : ℕ) → getD survival k 0 ≤ S
     units = y .holds .prepared .rated .units
 
-    pub more-wanted : (s .left < 100) × (s .left < length survival) × (getD survival (s .left) 0 ≤ S) × Within none × Within fails × (cells ≤ length t)
-    more-wanted = (
-      omega (arith, y .holds .prepared .rated .size),
-      l,
-      units (s .left),
-      within-values rule survival (s .lead) (s .left) 0 units (y .value),
-      within-values rule survival (s .lead) (s .left) 1 units v,
-      y .holds .prepared .room,
-    )
+    pub stands-stepping : Stepping survival (s .left) none fails t
+    stands-stepping = record {
+      some = l;
+      size = y .holds .prepared .rated .size;
+      unit = units (s .left);
+      none-small = within-values rule survival (s .lead) (s .left) 0 units (y .value);
+      fails-small = within-values rule survival (s .lead) (s .left) 1 units v;
+      room = y .holds .prepared .room;
+    }
 
     pub stands-more : {t' : List ℕ} {e : Ends} → Both (λ up. rounded up S (mixed S (getD survival (s .left) 0) (one up none) (one up fails))) e → Put (s .left + 1) e t t'
         → Stands rule survival (record { lead = s .lead; left = s .left + 1 }) e t'
@@ -212,14 +214,10 @@ module _ {rule : Rule} {survival : List ℕ} {s : Known} {none : Ends} {t : List
 pub stands-read : {rule : Rule} {survival : List ℕ} {s : Known} {t : List ℕ} → Holds rule survival s t → 5 < rule .kind → {r : Ends} → Both (λ up. cellAt t up (s .left)) r → Stands rule survival s r t
 stands-read y later b = record { holds = y; later = later; value = none-at y _ (omega arith) b }
 
--- what memory 0's step wants
-abbrev pub Wanted : (survival : List ℕ) (i : ℕ) (none fails : Ends) (t : List ℕ) → Type 0
-Wanted survival i none fails t = (i < 100) × (i < length survival) × (getD survival i 0 ≤ S) × Within none × Within fails × (cells ≤ length t)
-
 -- by a run that is cut short
 module _ {rule : Rule} {survival : List ℕ} {s : Known} {none fails : Ends} {t : List ℕ} (y : Stands rule survival s none t) (l : s .left < length survival) (short : suc (s .left) < limitOf rule) (b : Both (λ up. cond (leb (limitOf rule - 1 - s .lead) (s .left)) (cellAt t up (600 + s .left)) 0) fails) where
-  pub cut-wanted : Wanted survival (s .left) none fails t
-  cut-wanted = more-wanted y l (past-cut (stands-passable y l) short b)
+  pub cut-stepping : Stepping survival (s .left) none fails t
+  cut-stepping = stands-stepping y l (past-cut (stands-passable y l) short b)
 
   pub cut-more : {t' : List ℕ} {e : Ends} → Both (λ up. rounded up S (mixed S (getD survival (s .left) 0) (one up none) (one up fails))) e → Put (s .left + 1) e t t'
       → Stands rule survival (record { lead = s .lead; left = s .left + 1 }) e t'
@@ -235,8 +233,8 @@ module _ {rule : Rule} {survival : List ℕ} {s : Known} {none : Ends} {t : List
     run-working = past-working (stands-passable y l) from e n
 
     module _ {fails : Ends} (b : Both (λ up. worked up survival from (s .left - from) (one up back)) fails) where
-      pub run-wanted : Wanted survival (s .left) none fails t
-      run-wanted = more-wanted y l (past-run (stands-passable y l) from e n b)
+      pub run-stepping : Stepping survival (s .left) none fails t
+      run-stepping = stands-stepping y l (past-run (stands-passable y l) from e n b)
 
       pub run-more : {t' : List ℕ} {r : Ends} → Both (λ up. rounded up S (mixed S (getD survival (s .left) 0) (one up none) (one up fails))) r → Put (s .left + 1) r t t'
           → Stands rule survival (record { lead = s .lead; left = s .left + 1 }) r t'

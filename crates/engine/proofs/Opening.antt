@@ -21,8 +21,8 @@ use Rattle.memory.specs.Step.{limitOf}
 use Rattle.memory.proofs.Same.{pair5, pair7}
 use Rattle.engine.specs.declared.Ends.{Ends}
 use Rattle.engine.specs.declared.Known.{Known}
-use Rattle.engine.specs.Cells.{one, Both, Within, Place, cellAt}
-use Rattle.engine.specs.Runs.{valueOf, Holds, Passable, Reached}
+use Rattle.engine.specs.Cells.{one, Both, Place, cellAt}
+use Rattle.engine.specs.Runs.{valueOf, Passable, Reached}
 use Rattle.engine.specs.Open.{openOf, ringOf, openAt, enterOf, neededOf, widened, leftOf, firstOpen, Ringed, Bringable, Enterable, Widenable, Opened}
 use Rattle.engine.proofs.Cells.{kept-trans}
 use Rattle.engine.proofs.Values.{nothing, numbers-le}

@@ -1,7 +1,7 @@
 -- The open memory of a ring: "lead t" and "clean x" need no place in the table, since with i components left there is only one of them.
 use Prim.Native.Nat.{ℕ, suc, _-_, _<_, _≤_, _+_, min}
 use mathlib.Core.Path.{_≡_}
-use mathlib.Core.Bool.{Bool, true, false, cond}
+use mathlib.Core.Bool.{Bool, cond}
 use mathlib.Core.Logic.{_⊎_}
 use mathlib.Core.List.{List}
 use lib.Dec.{eqb}
@@ -10,10 +10,12 @@ use Rattle.rules.specs.declared.Rule.{Rule}
 use Rattle.rules.specs.State.{S, numberOf}
 use Rattle.rules.specs.Memory.{Machine, Memory, live, machineOf, below, Ring, lead, row5, row7}
 use Rattle.rules.specs.Figure.{rounded, mixed, value}
+use Rattle.rules.specs.Refusal.{cells}
 use Rattle.memory.specs.Step.{limitOf}
 use Rattle.engine.specs.declared.Ends.{Ends}
 use Rattle.engine.specs.declared.Known.{Known}
 use Rattle.engine.specs.Cells.{Both, Within, Kept}
+use Rattle.engine.specs.Rated.{Rated}
 use Rattle.engine.specs.Runs.{Holds}
 
 -- kind 5 with i left: lead n - i, dead from k on. Kind 7: clean n - i, at most r - 1.
@@ -33,6 +35,12 @@ pub record Ringed (rule : Rule) (survival : List ℕ) : Type 0 where
   pub kinds : (rule .kind ≡ 5) ⊎ (rule .kind ≡ 7)
   pub fits : limitOf rule ≤ length survival
   pub two : rule .kind ≡ 7 → 2 ≤ limitOf rule
+
+-- a ring, and a table to work in
+pub record Circled (rule : Rule) (survival t : List ℕ) : Type 0 where
+  pub rated : Rated rule survival
+  pub ringed : Ringed rule survival
+  pub room : cells ≤ length t
 
 -- where a lead is entered: at 0 past a lead of failed ones, at 1 past the first failed one
 unfoldable pub enterOf : Rule → ℕ

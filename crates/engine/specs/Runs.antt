@@ -29,7 +29,13 @@ unfoldable pub worked : (up : Bool) (survival : List ℕ) (from many x : ℕ) �
 worked up survival from zero x = x
 worked up survival from (suc k) x = rounded up S (mixed S (getD survival (from + k) 0) (worked up survival from k x) 0)
 
--- a list of kinds 4 to 7, and a table that holds, for kinds 6 and 7, the runs up to the last component, from place 600 on
+-- a list of kinds 4 to 7, and a table to work in
+pub record Asked (rule : Rule) (survival t : List ℕ) : Type 0 where
+  pub rated : Rated rule survival
+  pub late : 3 < rule .kind
+  pub room : cells ≤ length t
+
+-- the same with a table that holds, for kinds 6 and 7, the runs up to the last component, from place 600 on
 pub record Prepared (rule : Rule) (survival t : List ℕ) : Type 0 where
   pub rated : Rated rule survival
   pub late : 3 < rule .kind
@@ -81,6 +87,12 @@ pub record Mortal (rule : Rule) (survival : List ℕ) (s : Known) (t : List ℕ)
   pub some : s .left < length survival
   pub far : limitOf rule ≤ suc (s .left) + s .lead
 
+-- what the runs up to the last component are worked out of
+pub record Settling (survival t : List ℕ) : Type 0 where
+  pub size : length survival ≤ 64
+  pub units : (k : ℕ) → getD survival k 0 ≤ S
+  pub room : cells ≤ length t
+
 -- a run of working components
 pub record Working (survival : List ℕ) (from upto : ℕ) (end : Ends) : Type 0 where
   pub order : from ≤ upto
@@ -94,3 +106,12 @@ pub record Passable (rule : Rule) (survival : List ℕ) (s : Known) (i : ℕ) (t
   pub late : 5 < rule .kind
   pub some : i < length survival
   pub near : suc i ≤ s .left + limitOf rule
+
+-- what a step of memory 0 with i left is handed: its own value, and the one past a failed component
+pub record Stepping (survival : List ℕ) (i : ℕ) (none fails : Ends) (t : List ℕ) : Type 0 where
+  pub some : i < length survival
+  pub size : length survival ≤ 64
+  pub unit : getD survival i 0 ≤ S
+  pub none-small : Within none
+  pub fails-small : Within fails
+  pub room : cells ≤ length t

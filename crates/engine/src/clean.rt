@@ -1,13 +1,12 @@
 // Kinds 6 and 7: memory 0, which a run of working components as long as the limit less one brings back after a failed one.
 ghost use mathlib.Core.Bool.{cond};
-ghost use Prim.Native.Nat.{suc, _+_, _-_, _<_, _≤_};
+ghost use Prim.Native.Nat.{suc, _+_, _-_, _<_};
 ghost use lib.Dec.{leb};
 ghost use lib.ListN.{length, getD};
 ghost use Rattle.rules.specs.State.{S};
 ghost use Rattle.rules.specs.Figure.{rounded, mixed};
-ghost use Rattle.rules.specs.Refusal.{cells};
-ghost use Rattle.engine.specs.Cells.{Both, Put, Within, Written, cellAt, one};
-ghost use Rattle.engine.specs.Runs.{valueOf, worked, Reachable, Reached, Onward, Working, Passable};
+ghost use Rattle.engine.specs.Cells.{Both, Place, Put, Written, cellAt, one};
+ghost use Rattle.engine.specs.Runs.{valueOf, worked, Reachable, Reached, Onward, Settling, Working, Passable, Stepping};
 use crate::Ends;
 use crate::Known;
 use crate::lesser;
@@ -28,7 +27,7 @@ fn must_work(survival: &[u32], i: usize, run: Ends) -> Ends
 
 // The runs up to the last component, from place 600 on.
 pub fn settle(survival: &[u32], table: &mut [u64])
-    requires { ⌜ (length (now survival) ≤ 64) × Working (now survival) 0 (length (now survival)) (record { low = S; high = S }) × (cells ≤ length (now table)) ⌝ }
+    requires { ⌜ Settling (now survival) (now table) ⌝ }
     ensures { λ r. ⌜ Written (λ up k. worked up (now (survival .entry)) 0 k S) (length (now (survival .entry))) 600 (now (table .entry)) (now (table .exit)) ⌝ }
 {
     let mut run = pair::worth(true);
@@ -56,7 +55,7 @@ fn run(survival: &[u32], from: usize, upto: usize, end: Ends) -> Ends
 
 // The run of a failed component with i left, where the components end first: it works if i is no less than what the lead is short of.
 fn cut_short(short: usize, i: usize, table: &[u64]) -> Ends
-    requires { ⌜ (i < 100) × (cells ≤ length (now table)) ⌝ }
+    requires { ⌜ Place (600 + i) (now table) ⌝ }
     ensures { λ r. ⌜ Both (λ up. cond (leb short i) (cellAt (now (table .entry)) up (600 + i)) 0) r ⌝ }
 {
     if short <= i {
@@ -80,7 +79,7 @@ pub fn past(rule: Rule, survival: &[u32], s: Known, i: usize, table: &[u64]) -> 
 
 // Memory 0 with one component more, out of its value and the one past a failed component.
 fn more(survival: &[u32], i: usize, none: Ends, fails: Ends, table: &mut [u64]) -> Ends
-    requires { ⌜ (i < 100) × (i < length (now survival)) × (getD (now survival) i 0 ≤ S) × Within none × Within fails × (cells ≤ length (now table)) ⌝ }
+    requires { ⌜ Stepping (now survival) i none fails (now table) ⌝ }
     ensures { λ r. ⌜ Both (λ up. rounded up S (mixed S (getD (now (survival .entry)) i 0) (one up none) (one up fails))) r × Put (i + 1) r (now (table .entry)) (now (table .exit)) ⌝ }
 {
     let p = pair::chance(survival, i);

@@ -1,12 +1,10 @@
 // A line of runs: memory 0 of its one lead, with all components left.
 ghost use mathlib.Core.Path.{_≡_};
-ghost use Prim.Native.Nat.{_≤_, _<_};
+ghost use Prim.Native.Nat.{_<_};
 ghost use lib.ListN.{length};
-ghost use Rattle.rules.specs.Refusal.{cells};
 ghost use Rattle.memory.specs.Step.{limitOf, leadOf};
 ghost use Rattle.engine.specs.Cells.{Both, Kept};
-ghost use Rattle.engine.specs.Rated.{Rated};
-ghost use Rattle.engine.specs.Runs.{valueOf};
+ghost use Rattle.engine.specs.Runs.{valueOf, Asked};
 use crate::Ends;
 use crate::pair;
 use crate::runs;
@@ -25,7 +23,7 @@ fn line_lead(rule: Rule) -> u64
 
 // Low and high of a line of kind 4 or 6.
 pub fn line(rule: Rule, survival: &[u32], table: &mut [u64]) -> Ends
-    requires { ⌜ Rated rule (now survival) × (3 < rule .kind) × (cells ≤ length (now table)) ⌝ }
+    requires { ⌜ Asked rule (now survival) (now table) ⌝ }
     ensures { λ r. ⌜ Both (λ up. valueOf up rule (now (survival .entry)) (leadOf rule) (length (now (survival .entry))) 0) r × Kept (now (table .entry)) (now (table .exit)) ⌝ }
 {
     let n = survival.len();

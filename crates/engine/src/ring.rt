@@ -3,12 +3,10 @@ ghost use mathlib.Core.Path.{_≡_};
 ghost use mathlib.Core.Bool.{true, false};
 ghost use Prim.Native.Nat.{_≤_, _<_};
 ghost use lib.ListN.{length, getD};
-ghost use Rattle.rules.specs.Refusal.{cells};
 ghost use Rattle.memory.specs.Step.{limitOf};
 ghost use Rattle.engine.specs.Cells.{Both, Kept, one};
-ghost use Rattle.engine.specs.Rated.{Rated};
 ghost use Rattle.engine.specs.Runs.{valueOf, Reached};
-ghost use Rattle.engine.specs.Open.{Ringed, enterOf, neededOf, openAt, Bringable, Enterable, Widenable, widened, leftOf, firstOpen};
+ghost use Rattle.engine.specs.Open.{Circled, enterOf, neededOf, openAt, Bringable, Enterable, Widenable, widened, leftOf, firstOpen};
 use crate::Ends;
 use crate::Known;
 use crate::clean;
@@ -89,7 +87,7 @@ fn open_ends(rule: Rule) -> Ends
 
 // A ring: the open memory from its first known value up to all n, one lead at a time.
 pub fn ring(rule: Rule, survival: &[u32], table: &mut [u64]) -> Ends
-    requires { ⌜ Rated rule (now survival) × Ringed rule (now survival) × (cells ≤ length (now table)) ⌝ }
+    requires { ⌜ Circled rule (now survival) (now table) ⌝ }
     ensures { λ r. ⌜ Both (λ up. openAt up rule (now (survival .entry)) (length (now (survival .entry)))) r × Kept (now (table .entry)) (now (table .exit)) ⌝ }
 {
     let n = survival.len();

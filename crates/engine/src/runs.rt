@@ -1,11 +1,8 @@
 // Kinds 4 to 7: memory 0 of one lead, known for more and more components left.
-ghost use Prim.Native.Nat.{_<_, _≤_};
-ghost use lib.ListN.{length};
-ghost use Rattle.rules.specs.Refusal.{cells};
+ghost use Prim.Native.Nat.{_<_};
 ghost use Rattle.memory.specs.Step.{limitOf};
 ghost use Rattle.engine.specs.Cells.{Kept};
-ghost use Rattle.engine.specs.Rated.{Rated};
-ghost use Rattle.engine.specs.Runs.{Prepared, Reachable, Reached};
+ghost use Rattle.engine.specs.Runs.{Asked, Prepared, Reachable, Reached};
 use crate::Known;
 use crate::clean;
 use crate::dead;
@@ -15,7 +12,7 @@ use rules::Rule;
 
 // What all leads share, put into the table.
 pub fn prepare(rule: Rule, survival: &[u32], table: &mut [u64])
-    requires { ⌜ Rated rule (now survival) × (3 < rule .kind) × (cells ≤ length (now table)) ⌝ }
+    requires { ⌜ Asked rule (now survival) (now table) ⌝ }
     ensures { λ r. ⌜ Prepared rule (now (survival .entry)) (now (table .exit)) × Kept (now (table .entry)) (now (table .exit)) ⌝ }
 {
     if 5 < rule.kind {

@@ -1,6 +1,6 @@
 // The memory of a reading as the program holds it: a lead that stays, and a number that moves one component at a time.
 ghost use mathlib.Core.Path.{_≡_};
-ghost use Prim.Native.Nat.{_<_, _≤_};
+ghost use Prim.Native.Nat.{_<_};
 ghost use Rattle.memory.specs.Step.{limitOf, heavierOf, workedOf, failedOf, endOf};
 use rules::Rule;
 

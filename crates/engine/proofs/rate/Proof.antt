@@ -21,7 +21,7 @@ returns c =
 ring-requires : tie.Need-ring-requires
 ring-requires c κs =
     let s = c .before .before .before .before .before .before .before .before .pre in
-    (s .rated, ringed _ _ _ (inl (c .before .if2 .taken)) (s .range), s .room)
+    record { rated = s .rated; ringed = ringed _ _ _ (inl (c .before .if2 .taken)) (s .range); room = s .room }
 
 same-length-2 : tie.Need-same-length-2
 same-length-2 c = search needs
@@ -36,7 +36,7 @@ returns-2 c =
 ring-requires-2 : tie.Need-ring-requires-2
 ring-requires-2 c κs =
     let s = c .before .before .before .before .before .before .before .before .before .before .pre in
-    (s .rated, ringed _ _ _ (inr (c .before .if3 .taken)) (s .range), s .room)
+    record { rated = s .rated; ringed = ringed _ _ _ (inr (c .before .if3 .taken)) (s .range); room = s .room }
 
 same-length-3 : tie.Need-same-length-3
 same-length-3 c = search needs

@@ -1,10 +1,7 @@
 -- `must_work` is a rounded step with nothing on its failed side. Assumes nothing.
 use borrow.Author.Needs.{needs}
-use mathlib.Core.Path.{ap, _∙_}
-use mathlib.Core.Bool.{true, false}
 use native.Mathlib.Omega.{arith}
-use Rattle.rules.specs.State.{S}
-use Rattle.rules.specs.Figure.{rounded, mixed}
+use Rattle.rules.specs.Figure.{rounded}
 use Rattle.engine.proofs.clean.must_work.Statement.{statement}
 use Rattle.engine.proofs.clean.must_work.Tie as tie
 

@@ -1,14 +1,14 @@
 -- `reach` goes on while runs are cut short, then by runs as long as the limit; of which rule the values are, the table tells. Assumes nothing.
 use borrow.Author.Needs.{needs}
 use Prim.Native.Nat.{suc, _≤_, _<_, _-_}
-use mathlib.Core.Path.{_≡_, refl, sym, _∙_}
+use mathlib.Core.Path.{_≡_, sym}
 use native.Mathlib.Omega.{arith}
 use Rattle.rules.specs.declared.Rule.{Rule}
 use Rattle.memory.specs.Step.{limitOf}
 use Rattle.engine.specs.Cells.{Kept}
 use Rattle.engine.proofs.Cells.{kept-none, kept-trans}
 use Rattle.engine.proofs.Running.{none-place}
-use Rattle.engine.proofs.Cleaning.{Stands, stands-read, run-place, run-working, run-wanted, run-more}
+use Rattle.engine.proofs.Cleaning.{Stands, stands-read, run-place, run-working, run-stepping, run-more}
 use Rattle.engine.proofs.clean.reach.Statement.{statement}
 use Rattle.engine.proofs.clean.reach.Tie as tie
 
@@ -62,7 +62,7 @@ more-requires c κs =
     let v = c .before .before .before .before .before .loop .inv in
     let t = c .before .before .before .before .loop-test .taken in
     let y = v .3 _ (sym (c .before .before .before .before .before .before .before .before .before .before .before .before .limit .ensures)) (stands-read (c .before .before .before .before .before .before .before .before .before .before .reach-cut .ensures .holds) (pre .1) (c .before .before .before .before .before .before .read .ensures)) in
-    run-wanted y (omega (arith, t, pre .0 .most)) _ (omega (arith, v .1 t, c .before .before .before .before .before .before .before .before .before .before .before .before .limit .ensures)) (c .before .before .read2 .ensures) (c .before .run .ensures)
+    run-stepping y (omega (arith, t, pre .0 .most)) _ (omega (arith, v .1 t, c .before .before .before .before .before .before .before .before .before .before .before .before .limit .ensures)) (c .before .before .read2 .ensures) (c .before .run .ensures)
 
 add-left : tie.Need-add-left Inv-loop μ-loop
 add-left c = let pre = c .before .before .before .before .before .before .before .before .before .before .before .before .before .before .before .before .before .before .pre .0 in omega (arith, c .before .before .before .before .before .before .before .loop-test .taken, pre .most, pre .holds .prepared .rated .size)

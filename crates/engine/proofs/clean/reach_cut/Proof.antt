@@ -8,7 +8,7 @@ use Rattle.memory.specs.Step.{limitOf}
 use Rattle.engine.specs.Cells.{Kept}
 use Rattle.engine.proofs.Cells.{kept-none, kept-trans, room-kept}
 use Rattle.engine.proofs.Running.{none-place}
-use Rattle.engine.proofs.Cleaning.{Stands, stands-read, cut-wanted, cut-more}
+use Rattle.engine.proofs.Cleaning.{Stands, stands-read, cut-stepping, cut-more}
 use Rattle.engine.proofs.clean.reach_cut.Statement.{statement}
 use Rattle.engine.proofs.clean.reach_cut.Tie as tie
 
@@ -45,7 +45,7 @@ cut-short-requires : tie.Need-cut-short-requires Inv-loop μ-loop
 cut-short-requires c κs =
     let pre = c .before .before .before .before .before .before .before .before .before .pre .0 in
     let h = pre .holds in
-    (omega (arith, c .before .loop-test .taken, c .before .before .before .before .before .lesser .ensures, pre .most, h .prepared .rated .size), room-kept (c .before .before .loop .inv .1) (h .prepared .room))
+    record { low = omega (arith, c .before .loop-test .taken, c .before .before .before .before .before .lesser .ensures, pre .most, h .prepared .rated .size); room = room-kept (c .before .before .loop .inv .1) (h .prepared .room) }
 
 more-requires : tie.Need-more-requires Inv-loop μ-loop
 more-requires c κs =
@@ -55,7 +55,7 @@ more-requires c κs =
     let t = c .before .before .before .loop-test .taken in
     let last = c .before .before .before .before .before .before .before .lesser .ensures in
     let limit = c .before .before .before .before .before .before .before .before .limit .ensures in
-    cut-wanted y (omega (arith, t, last, pre .0 .most)) (omega (arith, t, last, limit)) (rw (v .2, limit) at (c .before .cut-short .ensures))
+    cut-stepping y (omega (arith, t, last, pre .0 .most)) (omega (arith, t, last, limit)) (rw (v .2, limit) at (c .before .cut-short .ensures))
 
 add-left : tie.Need-add-left Inv-loop μ-loop
 add-left c = search needs

@@ -30,10 +30,10 @@ add-write c = search needs
 write-requires : tie.Need-write-requires Inv-loop μ-loop
 write-requires c κs =
     let pre = c .before .before .before .before .before .before .pre in
-    record { low = omega (arith, pre .0, c .before .loop-test .taken); room = room-kept (c .before .before .loop .inv .2 .kept) (pre .2) }
+    record { low = omega (arith, pre .size, c .before .loop-test .taken); room = room-kept (c .before .before .loop .inv .2 .kept) (pre .room) }
 
 must-work-requires : tie.Need-must-work-requires Inv-loop μ-loop
-must-work-requires c κs = settled-working (c .before .before .before .before .before .before .before .before .before .pre .1) _ (c .before .before .before .before .loop-test .taken) (c .before .before .before .before .before .loop .inv .1)
+must-work-requires c κs = settled-working (c .before .before .before .before .before .before .before .before .before .pre) _ (c .before .before .before .before .loop-test .taken) (c .before .before .before .before .before .loop .inv .1)
 
 add-i : tie.Need-add-i Inv-loop μ-loop
 add-i c = search needs
@@ -46,7 +46,7 @@ loop-again c =
     let pre = c .before .before .before .before .before .before .before .before .before .before .pre in
     let v = c .before .before .before .before .before .before .loop .inv in
     let l = c .before .before .before .before .before .loop-test .taken in
-    (omega arith, settled-next _ _ (v .1) (c .must-work .ensures), written-more (c .before .before .before .write .ensures) refl (omega (arith, pre .0)) (v .1) (v .2))
+    (omega arith, settled-next _ _ (v .1) (c .must-work .ensures), written-more (c .before .before .before .write .ensures) refl (omega (arith, pre .size)) (v .1) (v .2))
 
 same-length : tie.Need-same-length Inv-loop μ-loop
 same-length c = c .before .loop .inv .2 .kept .long

@@ -1,7 +1,5 @@
 -- `more` is a run back to the next component. Assumes nothing.
 use borrow.Author.Needs.{needs}
-use mathlib.Core.Path.{refl}
-use native.Mathlib.Omega.{arith}
 use Rattle.engine.proofs.Dying.{mortal-failing, mortal-more}
 use Rattle.engine.proofs.dead.more.Statement.{statement}
 use Rattle.engine.proofs.dead.more.Tie as tie

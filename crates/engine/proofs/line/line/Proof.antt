@@ -14,7 +14,7 @@ line-lead-requires : tie.Need-line-lead-requires
 line-lead-requires c κs = search needs
 
 begin-requires : tie.Need-begin-requires
-begin-requires c κs = (c .before .before .before .before .prepare .ensures .0, rw (c .before .line-lead .ensures) (lead-small _ (c .before .before .before .before .before .before .before .before .pre .0 .some)))
+begin-requires c κs = (c .before .before .before .before .prepare .ensures .0, rw (c .before .line-lead .ensures) (lead-small _ (c .before .before .before .before .before .before .before .before .pre .rated .some)))
 
 reach-requires : tie.Need-reach-requires
 reach-requires c κs = search needs

@@ -1,5 +1,4 @@
 -- `enter` reads memory 0 under kind 5, and passes a failed component under kind 7. Assumes nothing.
-use borrow.Author.Needs.{needs}
 use Rattle.engine.proofs.Opening.{enter-place, enter-none, enter-passable, enter-past}
 use Rattle.engine.proofs.ring.enter.Statement.{statement}
 use Rattle.engine.proofs.ring.enter.Tie as tie

@@ -6,7 +6,7 @@ use mathlib.Core.Path.{_≡_, refl, sym, ap, _∙_}
 use native.Mathlib.Omega.{arith}
 use lib.ListN.{length}
 use Rattle.engine.specs.Open.{openAt, Opened}
-use Rattle.engine.proofs.Cells.{kept-none, kept-trans, room-kept}
+use Rattle.engine.proofs.Cells.{kept-none, kept-trans}
 use Rattle.engine.proofs.Opening.{open-first, left-le, ringed-late, bringable, enterable, widenable, opened-more}
 use Rattle.engine.proofs.ring.ring.Statement.{statement}
 use Rattle.engine.proofs.ring.ring.Tie as tie
@@ -21,18 +21,18 @@ limit-requires : tie.Need-limit-requires Inv-loop μ-loop
 limit-requires c κs = search needs
 
 sub-most : tie.Need-sub-most Inv-loop μ-loop
-sub-most c = omega (arith, c .limit .ensures, c .before .before .before .pre .0 .some)
+sub-most c = omega (arith, c .limit .ensures, c .before .before .before .pre .rated .some)
 
 prepare-requires : tie.Need-prepare-requires Inv-loop μ-loop
 prepare-requires c κs =
     let pre = c .before .before .before .before .pre in
-    (pre .0, ringed-late (pre .1), pre .2)
+    record { rated = pre .rated; late = ringed-late (pre .ringed); room = pre .room }
 
 begin-requires : tie.Need-begin-requires Inv-loop μ-loop
-begin-requires c κs = (c .before .before .before .prepare .ensures .0, omega (arith, c .before .before .before .before .before .limit .ensures, c .before .before .before .before .before .before .before .before .pre .0 .limit))
+begin-requires c κs = (c .before .before .before .prepare .ensures .0, omega (arith, c .before .before .before .before .before .limit .ensures, c .before .before .before .before .before .before .before .before .pre .rated .limit))
 
 open-left-requires : tie.Need-open-left-requires Inv-loop μ-loop
-open-left-requires c κs = (c .before .before .before .before .before .before .before .before .before .before .before .pre .1 .fits, c .before .before .before .before .before .before .before .before .before .before .before .pre .0 .limit)
+open-left-requires c κs = (c .before .before .before .before .before .before .before .before .before .before .before .pre .ringed .fits, c .before .before .before .before .before .before .before .before .before .before .before .pre .rated .limit)
 
 open-ends-requires : tie.Need-open-ends-requires Inv-loop μ-loop
 open-ends-requires c κs = search needs
@@ -45,15 +45,15 @@ loop-holds c =
     let left = c .before .open-left .ensures in
     record {
       holds = s .holds;
-      ringed = pre .1;
+      ringed = pre .ringed;
       left = omega (arith, s .left);
       from = omega (arith, left);
       upto = rw left (left-le _ _);
       size = refl;
-      most = omega (arith, limit, pre .0 .some);
+      most = omega (arith, limit, pre .rated .some);
       ends = record {
-        low = c .open-ends .ensures .low ∙ sym (ap (openAt false _ _) left ∙ open-first false _ _ (pre .1));
-        high = c .open-ends .ensures .high ∙ sym (ap (openAt true _ _) left ∙ open-first true _ _ (pre .1));
+        low = c .open-ends .ensures .low ∙ sym (ap (openAt false _ _) left ∙ open-first false _ _ (pre .ringed));
+        high = c .open-ends .ensures .high ∙ sym (ap (openAt true _ _) left ∙ open-first true _ _ (pre .ringed));
       };
       kept = kept-none;
     }
