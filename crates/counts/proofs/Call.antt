@@ -16,7 +16,8 @@ use Rattle.rules.specs.Refusal.{countRefusal}
 use Rattle.rules.specs.Answer.{unless, countingOf, roomAfter}
 use Rattle.rules.proofs.Seven.{seven}
 use Rattle.refusals.specs.Shared.{after, ruleRefusal}
-use Rattle.refusals.proofs.Laws.{count-after, unless-none, unless-some, accepted}
+use Rattle.rules.proofs.Unless.{unless-none, unless-some}
+use Rattle.refusals.proofs.Laws.{count-after, accepted}
 use Rattle.counts.specs.Fill.{refusalOf, Fillable, Filled, Line}
 use Rattle.counts.specs.Outcome.{Outcome}
 use Rattle.counts.proofs.Cells.{outside-drop, written-list}

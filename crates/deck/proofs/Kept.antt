@@ -1,35 +1,26 @@
 -- What the reader hands on: its answer on a refused file and on one that is not, and that the first n or m entries of its arrays are the deck
 -- that the file holds. Assumes nothing.
-use mathlib.Core.Path.{_≡_, refl, sym, _∙_}
+use mathlib.Core.Path.{_≡_, sym, _∙_}
 use mathlib.Core.List.{List}
-use Prim.Native.Nat.{ℕ, zero, suc, _+_, _*_, _<_}
+use Prim.Native.Nat.{ℕ, _+_, _*_, _<_}
 use lib.ListN.{getD, take}
 use Rattle.rules.specs.declared.System.{System}
-use Rattle.rules.specs.Answer.{unless}
 use Rattle.rules.specs.File.{Deck, numberAt, fansIn, systemsIn, systemAt, survivalOffset, systemsOffset, fileOf, deckIn, fileRefusal}
 use Rattle.deck.specs.Read.{noDeck, arraysOf, keptDeck, readOf}
 use Rattle.deck.specs.Bounds.{Bounds}
 use Rattle.rules.proofs.Lists.{below-length}
+use Rattle.rules.proofs.Unless.{unless-some, unless-none}
 use Rattle.deck.proofs.Lists.{padded-take, padded-get}
 use Rattle.deck.proofs.File.{file-accepted, deck-back}
-
-pub unless-refused : {A : Type 0} (r : ℕ) (x y : A) → (r ≡ 0 → ⊥) → unless r (λ n. x) y ≡ x
-unfolding unless
-unless-refused zero x y h = absurd (h refl)
-unless-refused (suc r) x y h = refl
-
-pub unless-none : {A : Type 0} (r : ℕ) (x y : A) → r ≡ 0 → unless r (λ n. x) y ≡ y
-unfolding unless
-unless-none r x y e = rw e
 
 module _ (bytes : List ℕ) where
   pub read-refused : (fileRefusal bytes ≡ 0 → ⊥) → readOf bytes ≡ record { refusal = fileRefusal bytes; deck = noDeck }
   unfolding readOf
-  read-refused h = λ x. record { refusal = fileRefusal bytes; deck = unless-refused (fileRefusal bytes) noDeck (keptDeck bytes) h x }
+  read-refused h = λ x. record { refusal = fileRefusal bytes; deck = unless-some (fileRefusal bytes) (λ n. noDeck) (keptDeck bytes) h x }
 
   pub read-kept : fileRefusal bytes ≡ 0 → readOf bytes ≡ record { refusal = 0; deck = keptDeck bytes }
   unfolding readOf
-  read-kept e = λ x. record { refusal = e x; deck = unless-none (fileRefusal bytes) noDeck (keptDeck bytes) e x }
+  read-kept e = λ x. record { refusal = e x; deck = unless-none (fileRefusal bytes) (λ n. noDeck) (keptDeck bytes) e x }
 
   pub kept-survival : take (fansIn bytes) (keptDeck bytes .survival) ≡ deckIn bytes .survival
   unfolding keptDeck deckIn

@@ -11,7 +11,8 @@ use Rattle.deck.specs.declared.Deck.{Deck}
 use Rattle.deck.specs.Read.{keptDeck}
 use Rattle.deck.proofs.Sound.{sound}
 use Rattle.loading.specs.Parts.{ratedAt}
-use Rattle.loading.proofs.Answers.{unless-some, unless-none, kept-rated, kept-held}
+use Rattle.rules.proofs.Unless.{unless-some, unless-none}
+use Rattle.loading.proofs.Answers.{kept-rated, kept-held}
 use Rattle.decklist.specs.Lines.{text, pairText, refusedText, lineText, linesText, listText}
 use Rattle.decklist.specs.Added.{Added, Listable, Listed}
 

@@ -1,31 +1,23 @@
 -- What a file and a system number answer, case by case, in terms of the deck that the reader hands on. Assumes nothing.
-use mathlib.Core.Path.{_≡_, refl, sym, ap, ap₂, _∙_}
+use mathlib.Core.Path.{_≡_, sym, ap, ap₂, _∙_}
 use mathlib.Core.Bool.{true, false}
 use mathlib.Core.List.{List}
-use Prim.Native.Nat.{ℕ, zero, suc, _+_, _-_, _*_, _<_}
+use Prim.Native.Nat.{ℕ, _+_, _-_, _*_, _<_}
 use native.Mathlib.Omega.{arith}
 use lib.ListN.{getD, replicate, length-append}
 use borrow.Author.Tests.{not-false}
 use Rattle.rules.specs.declared.Rating.the-variants.{Refused}
 use Rattle.rules.specs.Refusal.{cells}
-use Rattle.rules.specs.Answer.{unless, stretchOf}
+use Rattle.rules.specs.Answer.{stretchOf}
 use Rattle.rules.specs.File.{fansIn, systemsIn, systemAt, systemsOffset, deckIn, fileRefusal, systemOf, badNumber, loadingOf}
 use Rattle.rules.proofs.Seven.{within-true}
+use Rattle.rules.proofs.Unless.{unless-some, unless-none}
 use Rattle.rules.proofs.Lists.{below-length}
 use Rattle.deck.specs.declared.Read.{Read}
 use Rattle.deck.specs.Read.{padded, noSystem, keptDeck, readOf}
 use Rattle.deck.proofs.Kept.{read-kept, kept-survival, kept-weights, kept-system}
 use Rattle.deck.proofs.Sound.{sound}
 use Rattle.loading.specs.Parts.{ratedAt, Held}
-
-pub unless-some : {A : Type 0} (r : ℕ) (refused : ℕ → A) (answer : A) → (r ≡ 0 → ⊥) → unless r refused answer ≡ refused r
-unfolding unless
-unless-some zero refused answer h = absurd (h refl)
-unless-some (suc r) refused answer h = refl
-
-pub unless-none : {A : Type 0} (r : ℕ) (refused : ℕ → A) (answer : A) → r ≡ 0 → unless r refused answer ≡ answer
-unfolding unless
-unless-none r refused answer e = rw e
 
 -- what the reader hands on, by its refusal
 module _ (bytes : List ℕ) (r : Read) (is : r ≡ readOf bytes) where

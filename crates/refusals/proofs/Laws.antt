@@ -13,7 +13,6 @@ use borrow.Author.Tests.{ltb-false, eqb-true, eq-eqb, not-false}
 use Rattle.rules.specs.declared.Rule.{Rule}
 use Rattle.rules.specs.Below.{total, within, rowOf}
 use Rattle.rules.specs.Refusal.{rangeOne, rangeTwo, badKind, badSize, badWeights, inRange, firstOf, highOne, shortTable, shortRoom, verdictRefusal, countRefusal}
-use Rattle.rules.specs.Answer.{unless}
 use Rattle.rules.proofs.Seven.{both, within-true}
 use Rattle.refusals.specs.Shared.{weightsOut, ranges, rangeOut, ratedRefusal, ruleRefusal, after}
 use Rattle.refusals.specs.Accepted.{Accepted, One, Ends, Two}
@@ -29,16 +28,6 @@ pub after-some : (r next : ℕ) → (r ≡ 0 → ⊥) → after r next ≡ r
 unfolding after
 after-some zero next h = absurd (h refl)
 after-some (suc r) next h = refl
-
-pub unless-none : {A : Type 0} (r : ℕ) (refused : ℕ → A) (answer : A) → r ≡ 0 → unless r refused answer ≡ answer
-unfolding unless
-unless-none zero refused answer e = refl
-unless-none (suc r) refused answer e = absurd (omega arith)
-
-pub unless-some : {A : Type 0} (r : ℕ) (refused : ℕ → A) (answer : A) → (r ≡ 0 → ⊥) → unless r refused answer ≡ refused r
-unfolding unless
-unless-some zero refused answer h = absurd (h refl)
-unless-some (suc r) refused answer h = refl
 
 rule-first : (a b c d : Bool) (rest : List (ℕ × Bool))
     → firstOf ((1, a) ∷ (2, b) ∷ (5, c) ∷ (6, d) ∷ rest)

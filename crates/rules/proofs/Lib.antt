@@ -8,6 +8,7 @@ pub mod Split
 pub mod Rounding
 pub mod Enclosure
 pub mod Monotone
+pub mod Unless
 pub mod Reading
 pub mod Simulation
 pub mod Windows

@@ -12,7 +12,7 @@ use borrow.Author.Tests.{lt-ltb, le-ltb, ltb-true}
 use Rattle.rules.specs.Below.{some}
 use Rattle.rules.specs.State.{starts}
 use Rattle.rules.specs.Verdict.{someWindow}
-use Rattle.rules.proofs.Windows.{some-none}
+use Rattle.rules.proofs.Windows.{some-found}
 use Rattle.verdict.specs.First.{first, firstWindow}
 
 module _ (p : ℕ → Bool) where
@@ -24,13 +24,6 @@ module _ (p : ℕ → Bool) where
   unfolding some
   passed a e f = rw (add-one a, e, f)
 
-  there : (k a : ℕ) → a < k → p a ≡ true → some p k ≡ true
-  there k a l e = go (some p k) refl
-    where
-      go : (b : Bool) → some p k ≡ b → some p k ≡ true
-      go true h = h
-      go false h = absurd (some-none p k .0 h a l e)
-
   pub found : (k a : ℕ) → a < k → some p a ≡ false → p a ≡ true → first p k ≡ a
   unfolding first
   found zero a l none e = absurd (omega arith)
@@ -38,7 +31,7 @@ module _ (p : ℕ → Bool) where
     where
       go : (a < k → some p a ≡ false → p a ≡ true → first p k ≡ a) → (a ≡ k) ⊎ (a < k) → first p (suc k) ≡ a
       go ih (inl q) = rw (← q, none, e)
-      go ih (inr m) = rw (there k a m e) (ih m none e)
+      go ih (inr m) = rw (some-found p k a m e) (ih m none e)
 
   pub nowhere : (k : ℕ) → some p k ≡ false → first p k ≡ k
   unfolding first some

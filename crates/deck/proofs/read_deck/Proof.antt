@@ -2,7 +2,7 @@
 use mathlib.Core.Path.{sym, _∙_}
 use borrow.Author.Needs.{needs}
 use Rattle.deck.specs.Read.{noDeck, readOf}
-use Rattle.deck.proofs.Kept.{unless-refused, unless-none}
+use Rattle.rules.proofs.Unless.{unless-some, unless-none}
 use Rattle.deck.proofs.read_deck.Statement.{statement}
 use Rattle.deck.proofs.read_deck.Tie as tie
 
@@ -16,7 +16,7 @@ returns : tie.Need-returns
 unfolding readOf
 returns c =
     let e = c .before .before .file-refusal .ensures in
-    let none = c .no-deck .ensures ∙ sym (unless-refused _ noDeck _ (λ z. c .before .if1 .taken (e ∙ z))) in
+    let none = c .no-deck .ensures ∙ sym (unless-some _ (λ n. noDeck) _ (λ z. c .before .if1 .taken (e ∙ z))) in
     λ x. record { refusal = e x; deck = none x }
 
 kept-deck-requires : tie.Need-kept-deck-requires
@@ -26,7 +26,7 @@ returns-2 : tie.Need-returns-2
 unfolding readOf
 returns-2 c =
     let e = c .before .before .file-refusal .ensures in
-    let kept = c .kept-deck .ensures ∙ sym (unless-none _ noDeck _ (sym e ∙ c .before .if1 .left)) in
+    let kept = c .kept-deck .ensures ∙ sym (unless-none _ (λ n. noDeck) _ (sym e ∙ c .before .if1 .left)) in
     λ x. record { refusal = e x; deck = kept x }
 
 pub read-deck-spec : {M : Type 1} → statement M

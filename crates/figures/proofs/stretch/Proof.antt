@@ -4,7 +4,7 @@ use mathlib.Core.Path.{sym, ap, _∙_}
 use native.Mathlib.Omega.{arith}
 use Rattle.rules.specs.declared.Rating.the-variants.{Refused}
 use Rattle.rules.specs.Answer.{stretchOf}
-use Rattle.refusals.proofs.Laws.{unless-none, unless-some}
+use Rattle.rules.proofs.Unless.{unless-none, unless-some}
 use Rattle.figures.proofs.Refused.{part-is, inside, fits, part-sound, part-answer}
 use Rattle.figures.proofs.stretch.Statement.{statement}
 use Rattle.figures.proofs.stretch.Tie as tie

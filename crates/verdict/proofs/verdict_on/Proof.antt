@@ -13,7 +13,8 @@ use Rattle.rules.specs.Refusal.{highOne}
 use Rattle.rules.specs.Answer.{verdictOf, unless}
 use Rattle.refusals.specs.Accepted.{Accepted}
 use Rattle.refusals.specs.Shared.{ruleRefusal}
-use Rattle.refusals.proofs.Laws.{verdict-after, after-none, after-some, unless-some, accepted}
+use Rattle.rules.proofs.Unless.{unless-some}
+use Rattle.refusals.proofs.Laws.{verdict-after, after-none, after-some, accepted}
 use Rattle.verdict.proofs.verdict_on.Statement.{statement}
 use Rattle.verdict.proofs.verdict_on.Tie as tie
 

@@ -1,0 +1,13 @@
+-- A call's answer by its refusal: where one applies, and where none does. Assumes nothing.
+use mathlib.Core.Path.{_≡_, refl}
+use Prim.Native.Nat.{ℕ, zero, suc}
+use Rattle.rules.specs.Answer.{unless}
+
+pub unless-some : {A : Type 0} (r : ℕ) (refused : ℕ → A) (answer : A) → (r ≡ 0 → ⊥) → unless r refused answer ≡ refused r
+unfolding unless
+unless-some zero refused answer h = absurd (h refl)
+unless-some (suc r) refused answer h = refl
+
+pub unless-none : {A : Type 0} (r : ℕ) (refused : ℕ → A) (answer : A) → r ≡ 0 → unless r refused answer ≡ answer
+unfolding unless
+unless-none r refused answer e = rw e
