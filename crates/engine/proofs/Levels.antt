@@ -17,11 +17,11 @@ use Rattle.engine.specs.declared.Ends.{Ends}
 use Rattle.engine.specs.declared.Sweep.{Sweep}
 use Rattle.engine.specs.Cells.{Both, cellAt, Written}
 use Rattle.engine.specs.Rated.{valueAt}
-use Rattle.engine.specs.Level.{weightOf, loadOf, gapOf, Summed, endsOf, Side, stepAt, Ready, Level}
+use Rattle.engine.specs.Level.{weightOf, carriedOf, loadOf, gapOf, Summed, endsOf, Side, stepAt, Ready, Level}
 use Rattle.engine.proofs.Cells.{both-as, room-kept, row-same, row-as}
 use Rattle.engine.proofs.Loads.{gap-le, load-more, load-upto, weight-le}
 use Rattle.engine.proofs.Values.{value-small, value-dead}
-use Rattle.engine.proofs.Early.{value-more, value-light}
+use Rattle.engine.proofs.Early.{carried-le, value-more, value-light}
 use Rattle.engine.proofs.Sides.{other-side}
 
 module _ {rule : Rule} {survival weights : List ℕ} {s : Sweep} {t : List ℕ} (y : Level rule survival weights s t) where
@@ -59,6 +59,12 @@ module _ {rule : Rule} {survival weights : List ℕ} {s : Sweep} {t : List ℕ} 
     abbrev heavy : ℕ
     heavy = weightOf rule weights (s .left)
 
+    abbrev far : ℕ
+    far = carriedOf rule weights (s .left)
+
+    near : far ≤ heavy
+    near = carried-le rule weights (s .left) (y .early) (y .rated .some)
+
     -- the memories that the turn makes are reached with the component's weight to spare
     pub spare : heavy < s .reach
     spare = omega (arith, y .reach, load-upto rule weights (s .left) (length survival) more)
@@ -66,25 +72,25 @@ module _ {rule : Rule} {survival weights : List ℕ} {s : Sweep} {t : List ℕ} 
     reach-on : s .reach - heavy + loadOf rule weights (suc (s .left)) ≡ 1 + loadOf rule weights (length survival)
     reach-on = omega (arith, y .reach, spare, load-more rule weights (s .left))
 
-    read-is : (up : Bool) (k : ℕ) → k < min (limitOf rule) (s .reach - heavy) + heavy → cellAt t up (s .from + k) ≡ valueAt up rule survival weights 0 (s .left) k
-    read-is up k l = known up k (omega (arith, spare)) (omega (arith, weight-le rule weights (y .weighed) (s .left)))
+    read-is : (up : Bool) (k : ℕ) → k < min (limitOf rule) (s .reach - heavy) + far → cellAt t up (s .from + k) ≡ valueAt up rule survival weights 0 (s .left) k
+    read-is up k l = known up k (omega (arith, spare, near)) (omega (arith, near, weight-le rule weights (y .weighed) (s .left)))
 
-    pub turn-ready : (p q : ℕ) → p ≡ getD survival (s .left) 0 → q ≡ failure S p → Ready p q (min (limitOf rule) (s .reach - heavy)) heavy (s .from) t
+    pub turn-ready : (p q : ℕ) → p ≡ getD survival (s .left) 0 → q ≡ failure S p → Ready p q (min (limitOf rule) (s .reach - heavy)) far (s .from) t
     turn-ready p q e d = record {
       survival = rw e (y .rated .units (s .left));
       rest = d;
       side = y .side;
-      narrow = omega (arith, y .rated .limit, gap-le rule, weight-le rule weights (y .weighed) (s .left));
+      narrow = omega (arith, y .rated .limit, near, gap-le rule, weight-le rule weights (y .weighed) (s .left));
       room = y .room;
       within = λ up k l. rw (read-is up k l) (value-small up rule survival weights 0 (s .left) k (y .rated .units));
     }
 
-    stepped : (up : Bool) (m : ℕ) → m < min (limitOf rule) (s .reach - heavy) → stepAt (getD survival (s .left) 0) heavy (s .from) t up m ≡ valueAt up rule survival weights 0 (suc (s .left)) m
+    stepped : (up : Bool) (m : ℕ) → m < min (limitOf rule) (s .reach - heavy) → stepAt (getD survival (s .left) 0) far (s .from) t up m ≡ valueAt up rule survival weights 0 (suc (s .left)) m
     stepped up m l =
-        let d : s .from + m + heavy ≡ s .from + (m + heavy) = omega arith in
-        rw (d, read-is up m (omega arith), read-is up (m + heavy) (omega arith)) (value-more up rule survival weights (y .early) (s .left) m (omega arith))
+        let d : s .from + m + far ≡ s .from + (m + far) = omega arith in
+        rw (d, read-is up m (omega arith), read-is up (m + far) (omega arith)) (value-more up rule survival weights (y .early) (s .left) m (omega arith))
 
-    pub level-turned : {t' : List ℕ} → Written (stepAt (getD survival (s .left) 0) heavy (s .from) t) (min (limitOf rule) (s .reach - heavy)) (600 - s .from) t t'
+    pub level-turned : {t' : List ℕ} → Written (stepAt (getD survival (s .left) 0) far (s .from) t) (min (limitOf rule) (s .reach - heavy)) (600 - s .from) t t'
         → Level rule survival weights (record { reach = s .reach - heavy; left = suc (s .left); from = 600 - s .from }) t'
     level-turned w =
         let lim = y .rated .limit in

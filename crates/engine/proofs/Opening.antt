@@ -1,6 +1,6 @@
 -- The open memory of a ring, one component more at a time: it stays open on one side of the step and enters its lead on the other.
 -- Assumes nothing.
-use Prim.Native.Nat.{ℕ, zero, suc, _+_, _-_, _≤_, _<_, min}
+use Prim.Native.Nat.{ℕ, suc, _+_, _-_, _≤_, _<_, min}
 use mathlib.Core.Path.{_≡_, refl, sym, subst, _∙_}
 use mathlib.Core.Bool.{Bool, true, false}
 use mathlib.Core.Logic.{⊎-elim}
@@ -25,7 +25,7 @@ use Rattle.engine.specs.Cells.{one, Both, Place, cellAt}
 use Rattle.engine.specs.Runs.{valueOf, Passable, Reached}
 use Rattle.engine.specs.Open.{openOf, ringOf, openAt, enterOf, neededOf, widened, leftOf, firstOpen, Ringed, Bringable, Enterable, Widenable, Opened}
 use Rattle.engine.proofs.Cells.{kept-trans}
-use Rattle.engine.proofs.Values.{nothing, numbers-le}
+use Rattle.engine.proofs.Values.{numbers-le, value-still}
 use Rattle.engine.proofs.Running.{none-at, within-values}
 
 pub open-le : (up : Bool) (rule : Rule) (survival : List ℕ) (i : ℕ) → ((k : ℕ) → getD survival k 0 ≤ S) → openAt up rule survival i ≤ S
@@ -34,9 +34,8 @@ open-le up rule survival i units = value-le (ringOf rule) S (numberOf survival) 
 
 -- a dead memory of document 01's is worth 0
 value-gone : {A : Type 0} (up : Bool) (R : Row A) (P : ℕ → ℕ) (i : ℕ) → value (machineOf R) up S P i dead ≡ 0
-unfolding value moved ended
-value-gone up R P zero = refl
-value-gone up R P (suc i) = rw (value-gone up R P i) (nothing up (P (suc i)))
+unfolding moved ended
+value-gone up R = value-still (machineOf R) dead (λ k. refl) (λ k. refl) refl up
 
 capped : (a c : ℕ) → min (suc (min a c)) c ≡ min (suc a) c
 capped a c = omega arith

@@ -9,6 +9,7 @@ use lib.ListN.{getD}
 use borrow.Author.Tests.{le-leb}
 use Rattle.rules.specs.declared.Rule.{Rule}
 use Rattle.rules.specs.State.{S, numberOf}
+use Rattle.rules.specs.Memory.{Machine}
 use Rattle.rules.specs.Figure.{mixed, rounded, value}
 use Rattle.rules.proofs.Rounding.{whole}
 use Rattle.rules.proofs.Enclosure.{value-le}
@@ -37,6 +38,14 @@ pub value-small : (up : Bool) (rule : Rule) (survival weights : List ℕ) (lead 
 value-small up rule survival weights lead i at units =
     value-le (program rule weights) S (numberOf survival) (omega arith) up i (λ k l. numbers-le survival units k) _
 
+-- a memory that stays where it is and does not work at the end, of any machine
+pub value-still : {M : Type 0} (K : Machine M) (m : M) → ((i : ℕ) → K .worked i m ≡ m) → ((i : ℕ) → K .failed i m ≡ m) → K .ends m ≡ false
+    → (up : Bool) (P : ℕ → ℕ) (i : ℕ) → value K up S P i m ≡ 0
+unfolding value
+value-still K m worked failed ends up P zero = rw ends
+value-still K m worked failed ends up P (suc i) = rw (worked (suc i), failed (suc i), value-still K m worked failed ends up P i) (nothing up (P (suc i)))
+
+-- the program's dead ones
 module _ (rule : Rule) (at : ℕ) (gone : limitOf rule ≤ at) where
   worked-dead : workedAt rule at ≡ at
   unfolding workedAt
@@ -51,7 +60,5 @@ module _ (rule : Rule) (at : ℕ) (gone : limitOf rule ≤ at) where
   end-dead lead = rw (le-leb (limitOf rule) at gone)
 
   pub value-dead : (up : Bool) (survival weights : List ℕ) (lead i : ℕ) → valueAt up rule survival weights lead i at ≡ 0
-  unfolding value
-  value-dead up survival weights lead zero = rw (end-dead lead)
-  value-dead up survival weights lead (suc i) =
-      rw (worked-dead, failed-dead (numberOf weights (suc i)), value-dead up survival weights lead i) (nothing up (numberOf survival (suc i)))
+  value-dead up survival weights lead i =
+      value-still (program rule weights) (to lead at) (λ k. ap (to lead) worked-dead) (λ k. ap (to lead) (failed-dead (numberOf weights k))) (end-dead lead) up (numberOf survival) i

@@ -11,7 +11,7 @@ use Rattle.rules.specs.State.{S, failure}
 use Rattle.rules.specs.Below.{sumBelow}
 use Rattle.rules.specs.Figure.{rounded, mixed}
 use Rattle.rules.specs.Refusal.{cells}
-use Rattle.memory.specs.Step.{limitOf, endOf, to}
+use Rattle.memory.specs.Step.{limitOf, failedAt, endOf, to}
 use Rattle.engine.specs.declared.Sweep.{Sweep}
 use Rattle.engine.specs.Cells.{cellAt, Kept, Row}
 use Rattle.engine.specs.Rated.{valueAt, Rated, Weighed}
@@ -20,7 +20,11 @@ use Rattle.engine.specs.Rated.{valueAt, Rated, Weighed}
 unfoldable pub weightOf : Rule → (weights : List ℕ) (i : ℕ) → ℕ
 weightOf rule weights i = cond (eqb (rule .kind) 2) (getD weights i 0) 1
 
--- and the first n together
+-- where it takes memory 0, no further than the limit
+abbrev pub carriedOf : Rule → (weights : List ℕ) (i : ℕ) → ℕ
+carriedOf rule weights i = failedAt rule (weightOf rule weights i) 0
+
+-- the weight of the first n together
 abbrev pub loadOf : Rule → (weights : List ℕ) (n : ℕ) → ℕ
 loadOf rule weights n = sumBelow n (weightOf rule weights)
 

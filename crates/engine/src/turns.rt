@@ -10,6 +10,7 @@ use crate::Sweep;
 use crate::lesser;
 use crate::pair;
 use crate::rows;
+use memory::Memory;
 use rules::Rule;
 use units::Failure;
 use units::Survival;
@@ -94,8 +95,17 @@ fn turn(rule: Rule, survival: &[u32], weights: &[u16], s: Sweep, table: &mut [u6
     let reach = s.reach - w;
     let p = pair::chance(survival, left);
     let width = lesser(memory::limit(rule) as usize, reach);
+    // a failed component takes every memory as far as memory 0
+    let next = Memory { lead: 0, at: 0 }.failed(rule, w as u64);
     let q = units::narrow(UNIT - p);
-    rows::row(Survival(p), Failure(q), width, w, from, table);
+    rows::row(
+        Survival(p),
+        Failure(q),
+        width,
+        next.at as usize,
+        from,
+        table,
+    );
     Sweep {
         reach,
         left: left + 1,
