@@ -96,16 +96,9 @@ fn turn(rule: Rule, survival: &[u32], weights: &[u16], s: Sweep, table: &mut [u6
     let p = pair::chance(survival, left);
     let width = lesser(memory::limit(rule) as usize, reach);
     // a failed component takes every memory as far as memory 0
-    let next = Memory { lead: 0, at: 0 }.failed(rule, w as u64);
+    let next = Memory { lead: 0, at: 0 }.failed(rule, w as u64).at as usize;
     let q = units::narrow(UNIT - p);
-    rows::row(
-        Survival(p),
-        Failure(q),
-        width,
-        next.at as usize,
-        from,
-        table,
-    );
+    rows::row(Survival(p), Failure(q), width, next, from, table);
     Sweep {
         reach,
         left: left + 1,

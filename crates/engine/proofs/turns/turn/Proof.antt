@@ -64,8 +64,8 @@ row-requires c κs =
 add-t17 : tie.Need-add-t17
 add-t17 c = search needs
 
-sub-t24 : tie.Need-sub-t24
-sub-t24 c = omega (arith, side-near (c .before .before .before .before .before .before .before .before .before .before .before .before .before .before .before .pre .level .side))
+sub-t25 : tie.Need-sub-t25
+sub-t25 c = omega (arith, side-near (c .before .before .before .before .before .before .before .before .before .before .before .before .before .before .before .pre .level .side))
 
 same-length : tie.Need-same-length
 same-length c = search needs
@@ -99,6 +99,6 @@ turn-spec =
     narrow-requires
     row-requires
     add-t17
-    sub-t24
+    sub-t25
     same-length
     returns-2)
