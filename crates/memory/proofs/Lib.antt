@@ -1,2 +1,5 @@
--- Why the program's memory reads as document 01's.
-pub mod Same
+-- Why the program's memories read as document 01's.
+pub mod Sums
+pub mod Runs
+pub mod Owing
+pub mod Opening

@@ -1,2 +1,6 @@
--- The program's own memory: how it moves, and the machine that it is.
-pub mod Step
+-- The program's memories: how each moves, and the machine that it is; and the open memory of a ring.
+pub mod Living
+pub mod Sum
+pub mod Run
+pub mod Owed
+pub mod Open

@@ -1,3 +1,2 @@
--- What the shared refusals are called in contracts, and what an accepted rule is known by.
+-- What the shared refusals are called in contracts.
 pub mod Shared
-pub mod Accepted

@@ -12,11 +12,12 @@ use lib.Count.{ones}
 use borrow.Author.Tests.{ltb-true, ltb-false, lt-ltb, le-ltb, le-leb, lt-leb}
 use Rattle.rules.specs.Below.{sumBelow, held, within}
 use Rattle.rules.specs.State.{down, numberOf}
-use Rattle.rules.specs.Verdict.{fails1, fails2, fails3}
+use Rattle.rules.specs.Verdict.{weightDown, fails1, fails2, fails3}
 use Rattle.rules.specs.Memory.{run, live, moved, ended, machineOf, row1, row3}
 use Rattle.rules.proofs.Sums.{held-sum}
 use Rattle.rules.proofs.Bits.{ones-held}
-use Rattle.rules.proofs.Reading.{by-test, by-both, run-dead}
+use Rattle.rules.proofs.Tests.{by-test, by-both}
+use Rattle.rules.proofs.Dead.{row-run}
 
 -- what the failed ones among the places below i add
 abbrev added : (weight : ℕ → ℕ) (w i : ℕ) → ℕ
@@ -31,7 +32,7 @@ module _ (weight : ℕ → ℕ) (k w : ℕ) where
       by-both (λ m x. run (machineOf (row1 k weight)) i m w ≡ ltb (c + (added weight w i + x)) k) (down i w) _ _ _ _
       (λ d. by-test (λ m. run (machineOf (row1 k weight)) i m w ≡ ltb (c + (added weight w i + weight (suc i))) k) (ltb more k) _ _
       (λ e. weighed-run i more (ltb-true _ _ e) ∙ ap (λ x. ltb x k) (omega arith))
-      (λ e. run-dead (row1 k weight) w i ∙ sym (le-ltb _ k (omega (arith, ltb-false more k e)))))
+      (λ e. row-run (row1 k weight) i w ∙ sym (le-ltb _ k (omega (arith, ltb-false more k e)))))
       (λ d. rw add-zero (weighed-run i c l))
 
 counted-run : (l h w i c : ℕ) → run (machineOf (row3 l h)) i (live c) w ≡ not (within l (c + held (λ d. down d w) i) h)
@@ -56,6 +57,7 @@ kind1 n k w pos small =
     ∙ not-leb (ones w) k
 
 pub kind2 : (n k : ℕ) (weights : List ℕ) (w : ℕ) → 0 < k → run (machineOf (row1 k (numberOf weights))) n (live 0) w ≡ not (fails2 k n weights w)
+unfolding weightDown
 kind2 n k weights w pos = weighed-run (numberOf weights) k w n 0 pos ∙ ap (λ x. ltb x k) (zero-add _) ∙ not-leb _ k
 
 pub kind3 : (n l h w : ℕ) → w < 2 ^ n → run (machineOf (row3 l h)) n (live 0) w ≡ not (fails3 l h w)

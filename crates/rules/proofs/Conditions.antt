@@ -12,13 +12,14 @@ use native.Mathlib.Decide.{decLt}
 use borrow.Author.Tests.{lt-ltb}
 use Rattle.rules.specs.declared.Rule.{Rule}
 use Rattle.rules.specs.Below.{some}
-use Rattle.rules.specs.State.{S, numberOf}
+use Rattle.rules.specs.State.{S, ruleOf, numberOf}
 use Rattle.rules.specs.Verdict.{fails, works}
 use Rattle.rules.specs.Count.{countIf, countOf}
 use Rattle.rules.specs.Memory.{run, readingOf, machine}
 use Rattle.rules.specs.Figure.{low, high, exact, Third}
-use Rattle.rules.specs.Refusal.{inRange, aboveUnit}
-use Rattle.rules.proofs.Seven.{seven, both, within-true, ruleOf, range-kind}
+use Rattle.rules.specs.Refusal.{ranged, inRange, aboveUnit}
+use Rattle.rules.proofs.Seven.{seven, within-true, range-kind}
+use Rattle.rules.proofs.Tests.{both}
 use Rattle.rules.proofs.Windows.{some-none, not-lt}
 use Rattle.rules.proofs.Split.{exact-same, count-same}
 use Rattle.rules.proofs.Enclosure.{enclosed}
@@ -34,7 +35,7 @@ module _ (n : ℕ) (weights : List ℕ) (w : ℕ) (small : w < 2 ^ n) (first sec
       ≡ works (ruleOf kind first second) n weights w
 
   by-kind : (kind : ℕ) → 1 ≤ kind → kind ≤ 7 → Right kind
-  unfolding inRange readingOf fails
+  unfolding ranged readingOf fails
   by-kind =
       seven Right
       (λ e. kind1 n first w (within-true 1 first n (both _ _ e .0) .0) small)
@@ -57,17 +58,21 @@ pub count-by-reading : (rule : Rule) (n : ℕ) (weights : List ℕ) (j : ℕ) �
 count-by-reading rule n weights j e = count-same _ _ n j (λ w l. sym (reading-is-verdict rule n weights w e l))
 
 -- no P read is above S
-pub below-unit : (survival : List ℕ) → aboveUnit survival ≡ false → (i : ℕ) → numberOf survival i ≤ S
-unfolding aboveUnit numberOf
-below-unit survival e zero = omega arith
-below-unit survival e (suc i) = go (decLt i (length survival))
+pub units-in : (survival : List ℕ) → aboveUnit survival ≡ false → (i : ℕ) → getD survival i 0 ≤ S
+unfolding aboveUnit
+units-in survival e i = go (decLt i (length survival))
   where
     go : Dec (i < length survival) → getD survival i 0 ≤ S
     go (yes l) = not-lt _ _ (λ g. some-none (λ i. ltb S (getD survival i 0)) (length survival) .0 e i l (lt-ltb _ _ g))
     go (no l) = rw (List·getD-eq-default survival 0 (not-lt _ _ l)) (omega arith)
 
+pub below-unit : (survival : List ℕ) → ((i : ℕ) → getD survival i 0 ≤ S) → (i : ℕ) → numberOf survival i ≤ S
+unfolding numberOf
+below-unit survival units zero = omega arith
+below-unit survival units (suc i) = units i
+
 -- the third condition, of document 01's low, high and E. Of a stretch it is this, said of the stretch's own lists.
-pub third : (rule : Rule) (survival weights : List ℕ) → 1 ≤ length survival → aboveUnit survival ≡ false → inRange rule (length survival) weights ≡ true
+pub third : (rule : Rule) (survival weights : List ℕ) → 1 ≤ length survival → ((i : ℕ) → getD survival i 0 ≤ S) → inRange rule (length survival) weights ≡ true
     → Third S (length survival) (low S rule survival weights) (high S rule survival weights) (exact S rule survival weights)
 third rule survival weights some units range =
     let n = length survival in

@@ -9,12 +9,12 @@ use Rattle.rules.specs.declared.Verdict.the-variants.{Works, Fails}
 use Rattle.rules.specs.declared.Rating.{Rating}
 use Rattle.rules.specs.declared.Rating.the-variants.{Range}
 use Rattle.rules.specs.Below.{sumBelow, held, some, listBelow, total}
-use Rattle.rules.specs.State.{S, numberOf}
-use Rattle.rules.specs.Verdict.{someWindow, fails}
+use Rattle.rules.specs.State.{S, ruleOf, numberOf}
+use Rattle.rules.specs.Verdict.{weightDown, someWindow, fails}
 use Rattle.rules.specs.Count.{countIf, countsOf}
 use Rattle.rules.specs.Memory.{moved, ended, readingOf}
 use Rattle.rules.specs.Figure.{rounded, value}
-use Rattle.rules.specs.Refusal.{aboveUnit, badWeights, inRange, firstOf, verdictRefusal, figuresRefusal}
+use Rattle.rules.specs.Refusal.{cells, aboveUnit, weightsOut, ranged, firstOf, verdictRefusal, figuresRefusal}
 use Rattle.rules.specs.Answer.{unless, verdictOf, figuresOf}
 use lib.ListN.{replicate}
 
@@ -27,33 +27,30 @@ pub data Example : Type 0 where
 unfoldable pub Holds : Example → Type 0
 Holds (counts rule n weights printed) = countsOf rule n weights ≡ printed
 Holds (verdict rule n w printed) = verdictOf rule n [] w ≡ printed
-Holds (figures rule survival printed) = figuresOf rule survival [] (replicate 7800 0) ≡ printed
+Holds (figures rule survival printed) = figuresOf rule survival [] (replicate cells 0) ≡ printed
 
 unfoldable pub All : List Example → Type 0
 unfolding Holds
 All [] = Unit
 All (e ∷ es) = Holds e × All es
 
-abbrev pub rule : (kind first second : ℕ) → Rule
-rule kind first second = record { kind = kind; first = first; second = second }
-
 unfoldable pub table : List Example
 table =
-    counts (rule 6 2 3) 7 [] (1 ∷ 7 ∷ 10 ∷ 1 ∷ 0 ∷ 0 ∷ 0 ∷ 0 ∷ [])  -- A
-    ∷ counts (rule 7 2 3) 7 [] (1 ∷ 7 ∷ 7 ∷ 0 ∷ 0 ∷ 0 ∷ 0 ∷ 0 ∷ [])  -- B
-    ∷ counts (rule 4 2 0) 4 [] (1 ∷ 4 ∷ 3 ∷ 0 ∷ 0 ∷ [])  -- C
-    ∷ counts (rule 5 2 0) 4 [] (1 ∷ 4 ∷ 2 ∷ 0 ∷ 0 ∷ [])  -- D
-    ∷ counts (rule 3 1 2) 4 [] (1 ∷ 0 ∷ 0 ∷ 4 ∷ 1 ∷ [])  -- E
-    ∷ counts (rule 2 2 0) 3 (2 ∷ 1 ∷ 1 ∷ []) (1 ∷ 2 ∷ 0 ∷ 0 ∷ [])  -- F
-    ∷ verdict (rule 6 2 3) 7 9 Works  -- G
-    ∷ verdict (rule 6 2 3) 7 5 Fails
-    ∷ verdict (rule 6 2 3) 7 33 Works  -- H
-    ∷ verdict (rule 7 2 3) 7 33 Fails
-    ∷ figures (rule 1 1 0) (1 ∷ 1 ∷ []) (Range 0 1)  -- I
-    ∷ figures (rule 1 2 0) (1 ∷ 1 ∷ []) (Range 1 2)  -- J
-    ∷ figures (rule 1 1 0) (S ∷ []) (Range S S)  -- K
+    counts (ruleOf 6 2 3) 7 [] (1 ∷ 7 ∷ 10 ∷ 1 ∷ 0 ∷ 0 ∷ 0 ∷ 0 ∷ [])  -- A
+    ∷ counts (ruleOf 7 2 3) 7 [] (1 ∷ 7 ∷ 7 ∷ 0 ∷ 0 ∷ 0 ∷ 0 ∷ 0 ∷ [])  -- B
+    ∷ counts (ruleOf 4 2 0) 4 [] (1 ∷ 4 ∷ 3 ∷ 0 ∷ 0 ∷ [])  -- C
+    ∷ counts (ruleOf 5 2 0) 4 [] (1 ∷ 4 ∷ 2 ∷ 0 ∷ 0 ∷ [])  -- D
+    ∷ counts (ruleOf 3 1 2) 4 [] (1 ∷ 0 ∷ 0 ∷ 4 ∷ 1 ∷ [])  -- E
+    ∷ counts (ruleOf 2 2 0) 3 (2 ∷ 1 ∷ 1 ∷ []) (1 ∷ 2 ∷ 0 ∷ 0 ∷ [])  -- F
+    ∷ verdict (ruleOf 6 2 3) 7 9 Works  -- G
+    ∷ verdict (ruleOf 6 2 3) 7 5 Fails
+    ∷ verdict (ruleOf 6 2 3) 7 33 Works  -- H
+    ∷ verdict (ruleOf 7 2 3) 7 33 Fails
+    ∷ figures (ruleOf 1 1 0) (1 ∷ 1 ∷ []) (Range 0 1)  -- I
+    ∷ figures (ruleOf 1 2 0) (1 ∷ 1 ∷ []) (Range 1 2)  -- J
+    ∷ figures (ruleOf 1 1 0) (S ∷ []) (Range S S)  -- K
     ∷ []
 
 pub examples : All table
-unfolding All Holds table sumBelow held some listBelow total numberOf someWindow fails ones countIf countsOf moved ended readingOf rounded value aboveUnit badWeights inRange firstOf verdictRefusal figuresRefusal unless verdictOf figuresOf
+unfolding All Holds table sumBelow held some listBelow total numberOf someWindow fails weightDown ones countIf countsOf moved ended readingOf rounded value aboveUnit weightsOut ranged firstOf verdictRefusal figuresRefusal unless verdictOf figuresOf
 examples = (refl, (refl, (refl, (refl, (refl, (refl, (refl, (refl, (refl, (refl, (refl, (refl, (refl, tt)))))))))))))

@@ -1,5 +1,6 @@
 -- The theorems about document 01's definitions, from the ground up.
 pub mod Examples
+pub mod Tests
 pub mod Sums
 pub mod Lists
 pub mod Bits
@@ -9,6 +10,7 @@ pub mod Rounding
 pub mod Enclosure
 pub mod Monotone
 pub mod Unless
+pub mod Dead
 pub mod Reading
 pub mod Simulation
 pub mod Windows

@@ -1,21 +1,14 @@
 -- How a reading is reasoned about: by the state of the next component, and that a dead memory never works. Assumes nothing.
-use mathlib.Core.Path.{_≡_, refl, sym, _∙_}
+use mathlib.Core.Path.{_≡_, sym, _∙_}
 use mathlib.Core.Logic.{_↔_}
-use mathlib.Core.Bool.{Bool, true, false, cond, false≢true}
-use Prim.Native.Nat.{ℕ, zero, suc, _<_, _≤_}
+use mathlib.Core.Bool.{true, false, false≢true}
+use Prim.Native.Nat.{ℕ, suc, _<_, _≤_}
 use lib.Dec.{ltb}
 use borrow.Author.Tests.{ltb-true, ltb-false}
 use Rattle.rules.specs.State.{down}
-use Rattle.rules.specs.Memory.{run, Memory, live, dead, Row, moved, ended, machineOf, below}
-
-pub by-test : {A : Type 0} (P : A → Type 0) (b : Bool) (x y : A) → (b ≡ true → P x) → (b ≡ false → P y) → P (cond b x y)
-by-test P true x y g h = g refl
-by-test P false x y g h = h refl
-
-pub by-both : {A B : Type 0} (P : A → B → Type 0) (b : Bool) (x y : A) (x' y' : B) → (b ≡ true → P x x') → (b ≡ false → P y y')
-    → P (cond b x y) (cond b x' y')
-by-both P true x y x' y' g h = g refl
-by-both P false x y x' y' g h = h refl
+use Rattle.rules.specs.Memory.{run, Memory, live, dead, Row, moved, machineOf, below}
+use Rattle.rules.proofs.Tests.{by-test}
+use Rattle.rules.proofs.Dead.{row-run}
 
 module _ {A : Type 0} (R : Row A) (w : ℕ) where
   -- a memory is as good as P says if it is so by the next component's state
@@ -26,13 +19,8 @@ module _ {A : Type 0} (R : Row A) (w : ℕ) where
   unfolding run
   step i m P = by-test (λ x. (run (machineOf R) i x w ≡ true) ↔ P) (down i w) _ _
 
-  pub run-dead : (i : ℕ) → run (machineOf R) i dead w ≡ false
-  unfolding run moved ended
-  run-dead zero = refl
-  run-dead (suc i) = by-test (λ x. run (machineOf R) i x w ≡ false) (down i w) _ _ (λ _. run-dead i) (λ _. run-dead i)
-
   pub gone : (i : ℕ) (P : Type 0) → (P → ⊥) → (run (machineOf R) i dead w ≡ true) ↔ P
-  gone i P h = (λ t. absurd (false≢true (sym (run-dead i) ∙ t)), λ p. absurd (h p))
+  gone i P h = (λ t. absurd (false≢true (sym (row-run R i w) ∙ t)), λ p. absurd (h p))
 
   -- a memory that is dead from k on
   pub upto : (i c k : ℕ) (a : A) (P : Type 0) → (c < k → (run (machineOf R) i (live a) w ≡ true) ↔ P) → (k ≤ c → P → ⊥)

@@ -23,6 +23,17 @@ unfolding rounded
 whole false u c pos = mul-div-cancel c pos
 whole true u c pos = digits-div c (omega arith)
 
+-- nothing mixed with nothing, and a value with itself
+pub nothing : (up : Bool) (u p : ℕ) → 0 < u → rounded up u (mixed u p 0 0) ≡ 0
+nothing up u p pos = let e : mixed u p 0 0 ≡ 0 * u = omega arith in rw e (whole up u 0 pos)
+
+pub unchanged : (up : Bool) (u p v : ℕ) → 0 < u → p ≤ u → rounded up u (mixed u p v v) ≡ v
+unchanged up u p v pos l =
+    let q = u - p in
+    let e : p + q ≡ u = omega arith in
+    let d : mixed u p v v ≡ v * u = omega (arith, ap (λ x. x * v) e) in
+    rw d (whole up u v pos)
+
 -- values k apart are at most k + 1 apart after a step
 pub step-gap : (u p k h g l f : ℕ) → 0 < u → p ≤ u → h ≤ l + k → g ≤ f + k → rounded true u (mixed u p h g) ≤ rounded false u (mixed u p l f) + suc k
 unfolding rounded

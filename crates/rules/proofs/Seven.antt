@@ -1,6 +1,6 @@
 -- A statement about every kind from 1 to 7 is seven statements; a rule in range has such a kind. Assumes nothing.
-use mathlib.Core.Path.{_≡_, refl}
-use mathlib.Core.Bool.{Bool, true, false, _&&_, false≢true}
+use mathlib.Core.Path.{_≡_}
+use mathlib.Core.Bool.{true, false≢true}
 use mathlib.Core.List.{List}
 use Prim.Native.Nat.{ℕ, zero, suc, _≤_}
 use native.Mathlib.Omega.{arith}
@@ -8,7 +8,9 @@ use lib.Dec.{leb}
 use borrow.Author.Tests.{leb-true}
 use Rattle.rules.specs.declared.Rule.{Rule}
 use Rattle.rules.specs.Below.{within}
-use Rattle.rules.specs.Refusal.{inRange}
+use Rattle.rules.specs.State.{ruleOf}
+use Rattle.rules.specs.Refusal.{ranged, inRange}
+use Rattle.rules.proofs.Tests.{both}
 
 pub seven : (P : ℕ → Type 0) → P 1 → P 2 → P 3 → P 4 → P 5 → P 6 → P 7 → (kind : ℕ) → 1 ≤ kind → kind ≤ 7 → P kind
 seven P a b c d e f g zero l h = absurd (omega arith)
@@ -21,19 +23,12 @@ seven P a b c d e f g (suc (suc (suc (suc (suc (suc zero)))))) l h = f
 seven P a b c d e f g (suc (suc (suc (suc (suc (suc (suc zero))))))) l h = g
 seven P a b c d e f g (suc (suc (suc (suc (suc (suc (suc (suc kind)))))))) l h = absurd (omega arith)
 
-pub both : (a b : Bool) → a && b ≡ true → (a ≡ true) × (b ≡ true)
-both true b e = (refl, e)
-both false b e = absurd (false≢true e)
-
 -- a number that a range holds
 pub within-true : (a x b : ℕ) → within a x b ≡ true → (a ≤ x) × (x ≤ b)
 within-true a x b e = let h = both (leb a x) (leb x b) e in (leb-true _ _ (h .0), leb-true _ _ (h .1))
 
-abbrev pub ruleOf : (kind first second : ℕ) → Rule
-ruleOf kind first second = record { kind = kind; first = first; second = second }
-
 kind-in : (n : ℕ) (weights : List ℕ) (kind first second : ℕ) → inRange (ruleOf kind first second) n weights ≡ true → (1 ≤ kind) × (kind ≤ 7)
-unfolding inRange
+unfolding ranged
 kind-in n weights zero first second e = absurd (false≢true e)
 kind-in n weights (suc zero) first second e = (omega arith, omega arith)
 kind-in n weights (suc (suc zero)) first second e = (omega arith, omega arith)

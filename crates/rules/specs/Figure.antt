@@ -7,7 +7,7 @@ use Rattle.rules.specs.declared.Rule.{Rule}
 use Rattle.rules.specs.Below.{sumBelow}
 use Rattle.rules.specs.State.{numberOf, failure, down}
 use Rattle.rules.specs.Verdict.{works}
-use Rattle.rules.specs.Memory.{Machine, machine}
+use Rattle.rules.specs.Memory.{Machine, live, Row, machineOf, readingOf}
 
 -- "divided by S .. rounded down each time for low, rounded up each time for high"
 unfoldable pub rounded : (up : Bool) (u x : ℕ) → ℕ
@@ -25,10 +25,13 @@ value K up u P (suc i) m =
     rounded up u
     (mixed u (P (suc i)) (value K up u P i (K .worked (suc i) m)) (value K up u P i (K .failed (suc i) m)))
 
--- "The answer is the value at the start with all n left": low with rounding down, high with rounding up
+-- "The answer is the value at the start with all n left", of a row of the table
+abbrev pub figureOf : {A : Type 0} → Row A → (up : Bool) (u : ℕ) (survival : List ℕ) → ℕ
+figureOf R up u survival = value (machineOf R) up u (numberOf survival) (length survival) (live (R .start))
+
+-- low with rounding down, high with rounding up
 abbrev pub figure : (up : Bool) (u : ℕ) → Rule → (survival weights : List ℕ) → ℕ
-figure up u rule survival weights =
-    value (machine rule weights) up u (numberOf survival) (length survival) (machine rule weights .start)
+figure up u rule survival weights = figureOf (readingOf rule weights .row) up u survival
 
 abbrev pub low : (u : ℕ) → Rule → (survival weights : List ℕ) → ℕ
 low u = figure false u

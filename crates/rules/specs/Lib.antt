@@ -8,5 +8,6 @@ pub mod Memory
 pub mod Figure
 pub mod Stretch
 pub mod Refusal
+pub mod Accepted
 pub mod Answer
 pub mod File

@@ -26,8 +26,14 @@ unfoldable pub aboveUnit : (survival : List ℕ) → Bool
 aboveUnit survival = some (λ i. ltb S (getD survival i 0)) (length survival)
 
 -- 5: kind 2: weights' length is not n, or the total over the components rated is above 120
-unfoldable pub badWeights : Rule → (n : ℕ) (weights rated : List ℕ) → Bool
-badWeights rule n weights rated = eqb (rule .kind) 2 && (not (eqb (length weights) n) || ltb 120 (total rated))
+abbrev pub heaviest : ℕ
+heaviest = 120
+
+unfoldable pub weightsOut : Rule → (n listed total : ℕ) → Bool
+weightsOut rule n listed total = eqb (rule .kind) 2 && (not (eqb listed n) || ltb heaviest total)
+
+abbrev pub badWeights : Rule → (n : ℕ) (weights rated : List ℕ) → Bool
+badWeights rule n weights rated = weightsOut rule n (length weights) (total rated)
 
 -- 6: first or second out of range: the table's column "range"
 abbrev pub rangeOne : (k most second : ℕ) → Bool
@@ -36,19 +42,22 @@ rangeOne k most second = within 1 k most && eqb second 0
 abbrev pub rangeTwo : (first r n : ℕ) → Bool
 rangeTwo first r n = eqb first 2 && within 2 r n
 
-unfoldable pub inRange : Rule → (n : ℕ) (weights : List ℕ) → Bool
-inRange rule n weights =
+unfoldable pub ranged : Rule → (n total : ℕ) → Bool
+ranged rule n total =
     let first = rule .first in
     let second = rule .second in
     rowOf (rule .kind) false
     (rangeOne first n second
-    ∷ rangeOne first (total weights) second
+    ∷ rangeOne first total second
     ∷ (leb first second && leb second n)
     ∷ rangeOne first n second
     ∷ rangeOne first n second
     ∷ rangeTwo first second n
     ∷ rangeTwo first second n
     ∷ [])
+
+abbrev pub inRange : Rule → (n : ℕ) (weights : List ℕ) → Bool
+inRange rule n weights = ranged rule n (total weights)
 
 -- 7: working table under 7,800 64-bit cells
 abbrev pub cells : ℕ

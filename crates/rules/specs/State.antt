@@ -4,6 +4,7 @@ use mathlib.Core.List.{List}
 use Prim.Native.Nat.{ℕ, zero, suc, _+_, _-_, _/_, _%_, _^_}
 use lib.Dec.{eqb}
 use lib.ListN.{getD}
+use Rattle.rules.specs.declared.Rule.{Rule}
 use Rattle.rules.specs.Below.{held}
 
 -- "S = 2^30"
@@ -18,6 +19,10 @@ numberOf xs (suc i) = getD xs i 0
 -- "and a failure number Q = S - P"
 abbrev pub failure : (u p : ℕ) → ℕ
 failure u p = u - p
+
+-- "The rule carries two numbers"
+abbrev pub ruleOf : (kind first second : ℕ) → Rule
+ruleOf kind first second = record { kind = kind; first = first; second = second }
 
 -- "bit i - 1 is one where component i has failed": has component i + 1 failed in the state w?
 abbrev pub down : ℕ → ℕ → Bool

@@ -13,8 +13,11 @@ abbrev pub fails1 : (k w : ℕ) → Bool
 fails1 k w = leb k (ones w)
 
 -- row 2: the failed components' weights add up to k or more
+unfoldable pub weightDown : (n : ℕ) (weights : List ℕ) (w : ℕ) → ℕ
+weightDown n weights w = sumBelow n (λ i. cond (down i w) (numberOf weights (suc i)) 0)
+
 abbrev pub fails2 : (k n : ℕ) (weights : List ℕ) (w : ℕ) → Bool
-fails2 k n weights w = leb k (sumBelow n (λ i. cond (down i w) (numberOf weights (suc i)) 0))
+fails2 k n weights w = leb k (weightDown n weights w)
 
 -- row 3: the number failed is at least l and at most h
 abbrev pub fails3 : (l h w : ℕ) → Bool

@@ -2,7 +2,7 @@
 ghost use mathlib.Core.Path.{_≡_};
 ghost use mathlib.Core.Bool.{true, false};
 ghost use Prim.Native.Nat.{_*_, _≤_};
-ghost use Rattle.rules.specs.State.{S};
+ghost use Rattle.rules.specs.State.{S, failure};
 ghost use Rattle.rules.specs.Figure.{rounded, mixed};
 ghost use Rattle.units.specs.Step.{Parts};
 
@@ -12,6 +12,16 @@ pub const UNIT: u64 = 1073741824;
 pub struct Survival(pub u64);
 
 pub struct Failure(pub u64);
+
+impl Survival {
+    // Q = S - P. It fits 32 bits, and the compiler is shown so.
+    pub fn failure(self) -> Failure
+        requires { ⌜ self .0 ≤ S ⌝ }
+        ensures { λ q. ⌜ q .0 ≡ failure S (self .0) ⌝ }
+    {
+        Failure(narrow(UNIT - self.0))
+    }
+}
 
 // A number within the unit, of which the compiler then sees that it fits 32 bits: it multiplies two of them at a time.
 pub fn narrow(x: u64) -> u64

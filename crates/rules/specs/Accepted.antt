@@ -1,12 +1,13 @@
--- What is known of a rule over n components that no refusal of 1, 2, 5 and 6 meets.
+-- What is known of a rule over n components that no refusal of 1, 2, 5 and 6 meets, and of a list whose figures are worked.
 use mathlib.Core.Path.{_≡_}
 use mathlib.Core.Bool.{true}
 use mathlib.Core.List.{List}
 use Prim.Native.Nat.{ℕ, _≤_}
-use lib.ListN.{length}
+use lib.ListN.{length, getD}
 use Rattle.rules.specs.declared.Rule.{Rule}
 use Rattle.rules.specs.Below.{total}
-use Rattle.rules.specs.Refusal.{inRange}
+use Rattle.rules.specs.State.{S}
+use Rattle.rules.specs.Refusal.{heaviest, inRange, cells}
 
 pub record Accepted (rule : Rule) (n : ℕ) (weights : List ℕ) : Type 0 where
   pub kind-low : 1 ≤ rule .kind
@@ -14,7 +15,7 @@ pub record Accepted (rule : Rule) (n : ℕ) (weights : List ℕ) : Type 0 where
   pub size-low : 1 ≤ n
   pub size-high : n ≤ 64
   pub weights-length : rule .kind ≡ 2 → length weights ≡ n
-  pub weights-total : rule .kind ≡ 2 → total weights ≤ 120
+  pub weights-total : rule .kind ≡ 2 → total weights ≤ heaviest
   pub in-range : inRange rule n weights ≡ true
 
 -- the column "range", kinds 1, 2, 4 and 5: first from 1 to `most`, second 0
@@ -23,13 +24,14 @@ pub record One (k most second : ℕ) : Type 0 where
   pub high : k ≤ most
   pub none : second ≡ 0
 
--- kind 3: 0 <= l <= h <= n
-pub record Ends (l h n : ℕ) : Type 0 where
-  pub order : l ≤ h
-  pub high : h ≤ n
-
 -- kinds 6 and 7: first 2, second from 2 to n
 pub record Two (first r n : ℕ) : Type 0 where
   pub two : first ≡ 2
   pub low : 2 ≤ r
   pub high : r ≤ n
+
+-- a list with an accepted rule, numbers within the unit, and a table to work in
+pub record Ratable (rule : Rule) (survival weights table : List ℕ) : Type 0 where
+  pub accepted : Accepted rule (length survival) weights
+  pub units : (i : ℕ) → getD survival i 0 ≤ S
+  pub room : cells ≤ length table

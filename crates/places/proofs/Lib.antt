@@ -1,0 +1,3 @@
+-- The laws of places, and of what stands there.
+pub mod Cells
+pub mod Values

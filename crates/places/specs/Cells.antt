@@ -1,0 +1,78 @@
+-- The lent table's places: what stands at each, and what a step of both ends is handed.
+use Prim.Native.Nat.{ℕ, _+_, _<_, _≤_}
+use mathlib.Core.Path.{_≡_}
+use mathlib.Core.Bool.{Bool, true, false, cond}
+use mathlib.Core.Logic.{_⊎_}
+use mathlib.Core.List.{List}
+use lib.ListN.{getD, length, drop}
+use Rattle.rules.specs.State.{S, numberOf, failure}
+use Rattle.rules.specs.Memory.{Machine}
+use Rattle.rules.specs.Figure.{value}
+use Rattle.rules.specs.Refusal.{cells}
+use Rattle.places.specs.declared.Ends.{Ends}
+
+-- one end of a value
+abbrev pub one : Bool → Ends → ℕ
+one up e = cond up (e .high) (e .low)
+
+-- both ends of a value
+pub record Both (f : Bool → ℕ) (r : Ends) : Type 0 where
+  pub low : r .low ≡ f false
+  pub high : r .high ≡ f true
+
+-- low ends stand in the first `far` cells, the high end of each as many further; the second half of the places begins at `half`
+abbrev pub far : ℕ
+far = 1200
+
+abbrev pub half : ℕ
+half = 600
+
+-- where an end of a value stands
+abbrev pub cellOf : Bool → ℕ → ℕ
+cellOf up at = cond up (far + at) at
+
+-- what stands there
+abbrev pub cellAt : List ℕ → Bool → ℕ → ℕ
+cellAt t up at = getD t (cellOf up at) 0
+
+-- a table long enough, and a cell of it that holds a low end
+pub record Place (at : ℕ) (t : List ℕ) : Type 0 where
+  pub low : at < far
+  pub room : cells ≤ length t
+
+-- the table's length, and its cells past the first 7,800, are as they were
+pub record Kept (t₀ t : List ℕ) : Type 0 where
+  pub long : length t ≡ length t₀
+  pub rest : drop cells t ≡ drop cells t₀
+
+-- a value written at one place, and every other place as it was
+pub record Put (at : ℕ) (e : Ends) (t₀ t : List ℕ) : Type 0 where
+  pub here : (up : Bool) → cellAt t up at ≡ one up e
+  pub other : (up : Bool) (k : ℕ) → k < far → (k ≡ at → ⊥) → cellAt t up k ≡ cellAt t₀ up k
+  pub kept : Kept t₀ t
+
+-- the n places from off hold f 0, f 1, ..
+pub record Row (f : Bool → ℕ → ℕ) (t : List ℕ) (off n : ℕ) : Type 0 where
+  pub is : (up : Bool) (k : ℕ) → k < n → cellAt t up (off + k) ≡ f up k
+
+-- the n places from off now hold f 0, f 1, .., and every other place is as it was
+pub record Written (f : Bool → ℕ → ℕ) (n off : ℕ) (t₀ t : List ℕ) : Type 0 where
+  pub row : Row f t off n
+  pub other : (up : Bool) (k : ℕ) → k < far → (k < off) ⊎ (off + n ≤ k) → cellAt t up k ≡ cellAt t₀ up k
+  pub kept : Kept t₀ t
+
+-- what a memory is worth with i components left
+abbrev pub worthOf : {M : Type 0} → Machine M → (survival : List ℕ) → M → Bool → ℕ → ℕ
+worthOf K survival m up i = value K up S (numberOf survival) i m
+
+-- both ends of a value within the unit
+pub record Within (e : Ends) : Type 0 where
+  pub low : e .low ≤ S
+  pub high : e .high ≤ S
+
+-- what a rounded step of both ends is handed
+pub record Steady (p q : ℕ) (works fails : Ends) : Type 0 where
+  pub survival : p ≤ S
+  pub rest : q ≡ failure S p
+  pub left : Within works
+  pub right : Within fails

@@ -1,0 +1,2 @@
+-- What the contracts over places cite.
+pub mod Cells

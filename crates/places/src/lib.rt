@@ -1,0 +1,106 @@
+// Places of the lent table: a place is two cells, the low end of a value and, FAR cells further, its high end.
+ghost use mathlib.Core.Path.{_≡_};
+ghost use mathlib.Core.Bool.{Bool, cond};
+ghost use Prim.Native.Nat.{_-_, _<_, _≤_, min};
+ghost use lib.ListN.{length, getD};
+ghost use Rattle.rules.specs.State.{S};
+ghost use Rattle.rules.specs.Figure.{rounded, mixed};
+ghost use Rattle.places.specs.Cells.{Both, Place, Put, Steady, cellAt, one};
+use units::Failure;
+use units::Survival;
+use units::UNIT;
+
+// How far the high end of a value stands from its low end, and so how many places there are.
+pub const FAR: usize = 1200;
+
+// Where the second half of the places begins.
+pub const HALF: usize = 600;
+
+// The two ends of a value.
+pub struct Ends {
+    pub low: u64,
+    pub high: u64,
+}
+
+// The value that stands at a place.
+pub fn read(table: &[u64], at: usize) -> Ends
+    requires { ⌜ Place at (now table) ⌝ }
+    ensures { λ r. ⌜ Both (λ up. cellAt (now (table .entry)) up at) r ⌝ }
+{
+    Ends {
+        low: table[at],
+        high: table[FAR + at],
+    }
+}
+
+// The same, where both are within the unit: the compiler sees that they fit 32 bits.
+pub fn read_small(table: &[u64], at: usize) -> Ends
+    requires { ⌜ Place at (now table) × ((up : Bool) → cellAt (now table) up at ≤ S) ⌝ }
+    ensures { λ r. ⌜ Both (λ up. cellAt (now (table .entry)) up at) r ⌝ }
+{
+    let ends = read(table, at);
+    Ends {
+        low: units::narrow(ends.low),
+        high: units::narrow(ends.high),
+    }
+}
+
+// A value written at a place.
+pub fn write(table: &mut [u64], at: usize, ends: Ends)
+    requires { ⌜ Place at (now table) ⌝ }
+    ensures { λ r. ⌜ Put at ends (now (table .entry)) (now (table .exit)) ⌝ }
+{
+    table[at] = ends.low;
+    table[FAR + at] = ends.high;
+}
+
+// One rounded step of both ends.
+pub fn step(p: Survival, q: Failure, works: Ends, fails: Ends) -> Ends
+    requires { ⌜ Steady (p .0) (q .0) works fails ⌝ }
+    ensures { λ r. ⌜ Both (λ up. rounded up S (mixed S (p .0) (one up works) (one up fails))) r ⌝ }
+{
+    Ends {
+        low: units::round_down(p, q, works.low, fails.low),
+        high: units::round_up(p, q, works.high, fails.high),
+    }
+}
+
+fn wide(p: u32) -> u64
+    ensures { λ r. ⌜ r ≡ p ⌝ }
+{
+    p as u64
+}
+
+// The survival number of component i + 1.
+pub fn chance(survival: &[u32], i: usize) -> Survival
+    requires { ⌜ i < length (now survival) ⌝ }
+    ensures { λ p. ⌜ p .0 ≡ getD (now (survival .entry)) i 0 ⌝ }
+{
+    Survival(wide(survival[i]))
+}
+
+// What a memory is worth with no components left; a dead one at any time.
+pub fn worth(works: bool) -> Ends
+    ensures { λ r. ⌜ Both (λ up. cond works S 0) r ⌝ }
+{
+    if works {
+        return Ends {
+            low: UNIT,
+            high: UNIT,
+        };
+    }
+    Ends { low: 0, high: 0 }
+}
+
+pub fn lesser(a: usize, b: usize) -> usize
+    ensures { λ r. ⌜ r ≡ min a b ⌝ }
+{
+    if a <= b { a } else { b }
+}
+
+// a less b, or 0.
+pub fn rest(a: usize, b: usize) -> usize
+    ensures { λ r. ⌜ r ≡ a - b ⌝ }
+{
+    if a <= b { 0 } else { a - b }
+}
