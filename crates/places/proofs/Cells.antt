@@ -10,7 +10,7 @@ use lib.Seq.{getD-set-same, getD-set-other, drop-set-lt}
 use borrow.Author.Count.{below-more}
 use Rattle.rules.specs.Refusal.{cells}
 use Rattle.places.specs.declared.Ends.{Ends}
-use Rattle.places.specs.Cells.{far, one, Both, cellAt, Place, Kept, Put, Row, Written}
+use Rattle.places.specs.Cells.{far, one, Both, cellAt, Place, Kept, Put, Row, Written, Workable}
 
 pub both-at : {f : Bool → ℕ} {r : Ends} → Both f r → (up : Bool) → one up r ≡ f up
 both-at b false = b .low
@@ -30,6 +30,9 @@ kept-trans h k = record { long = k .long ∙ h .long; rest = k .rest ∙ h .rest
 
 pub room-kept : {t₀ t : List ℕ} → Kept t₀ t → cells ≤ length t₀ → cells ≤ length t
 room-kept k room = omega (arith, k .long)
+
+pub workable-kept : {survival t₀ t : List ℕ} → Kept t₀ t → Workable survival t₀ → Workable survival t
+workable-kept k y = record { size = y .size; units = y .units; room = room-kept k (y .room) }
 
 -- the two stores of a value
 module _ (at : ℕ) (e : Ends) (t : List ℕ) (p : Place at t) where

@@ -8,7 +8,7 @@ use lib.ListN.{getD, length, drop}
 use Rattle.rules.specs.State.{S, numberOf, failure}
 use Rattle.rules.specs.Memory.{Machine}
 use Rattle.rules.specs.Figure.{value}
-use Rattle.rules.specs.Refusal.{cells}
+use Rattle.rules.specs.Refusal.{most, cells}
 use Rattle.places.specs.declared.Ends.{Ends}
 
 -- one end of a value
@@ -69,6 +69,12 @@ worthOf K survival m up i = value K up S (numberOf survival) i m
 pub record Within (e : Ends) : Type 0 where
   pub low : e .low ≤ S
   pub high : e .high ≤ S
+
+-- a list of numbers within the unit, and a table to work in
+pub record Workable (survival t : List ℕ) : Type 0 where
+  pub size : length survival ≤ most
+  pub units : (i : ℕ) → getD survival i 0 ≤ S
+  pub room : cells ≤ length t
 
 -- what a rounded step of both ends is handed
 pub record Steady (p q : ℕ) (works fails : Ends) : Type 0 where

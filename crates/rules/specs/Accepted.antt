@@ -7,13 +7,13 @@ use lib.ListN.{length, getD}
 use Rattle.rules.specs.declared.Rule.{Rule}
 use Rattle.rules.specs.Below.{total}
 use Rattle.rules.specs.State.{S}
-use Rattle.rules.specs.Refusal.{heaviest, inRange, cells}
+use Rattle.rules.specs.Refusal.{most, heaviest, inRange, cells}
 
 pub record Accepted (rule : Rule) (n : ℕ) (weights : List ℕ) : Type 0 where
   pub kind-low : 1 ≤ rule .kind
   pub kind-high : rule .kind ≤ 7
   pub size-low : 1 ≤ n
-  pub size-high : n ≤ 64
+  pub size-high : n ≤ most
   pub weights-length : rule .kind ≡ 2 → length weights ≡ n
   pub weights-total : rule .kind ≡ 2 → total weights ≤ heaviest
   pub in-range : inRange rule n weights ≡ true

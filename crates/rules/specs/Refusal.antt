@@ -14,8 +14,11 @@ abbrev pub badKind : Rule → Bool
 badKind rule = not (within 1 (rule .kind) 7)
 
 -- 2: n 0 or above 64
+abbrev pub most : ℕ
+most = 64
+
 abbrev pub badSize : ℕ → Bool
-badSize n = not (within 1 n 64)
+badSize n = not (within 1 n most)
 
 -- 3: a = 0, b < a or b > n
 abbrev pub badStretch : (a b n : ℕ) → Bool

@@ -1,0 +1,83 @@
+-- `back` takes a run back a component at a time. Assumes nothing.
+use borrow.Author.Needs.{needs}
+use Prim.Native.Nat.{_-_}
+use native.Mathlib.Omega.{arith}
+use Rattle.runs.proofs.Falling.{Back, back-first, back-last, back-place, back-some, back-steady, back-more}
+use Rattle.runs.proofs.back.Statement.{statement}
+use Rattle.runs.proofs.back.Tie as tie
+
+abbrev Inv-loop : tie.InvT-loop
+Inv-loop k upto survival table i₀ m₀ ends₀ i m ends = Back k (m₀ .lead) upto survival i m ends
+
+abbrev μ-loop : tie.MeasureT-loop
+μ-loop k upto survival table i₀ m₀ ends₀ i m ends = upto - i
+
+rest-requires : tie.Need-rest-requires Inv-loop μ-loop
+rest-requires c κs = search needs
+
+sub-t10 : tie.Need-sub-t10 Inv-loop μ-loop
+sub-t10 c = search needs
+
+worth-requires : tie.Need-worth-requires Inv-loop μ-loop
+worth-requires c κs = search needs
+
+loop-holds : tie.Need-loop-holds Inv-loop μ-loop
+loop-holds c = rw (c .before .rest .ensures) (back-first (c .before .before .before .before .pre) (c .worth .ensures))
+
+before-requires : tie.Need-before-requires Inv-loop μ-loop
+before-requires c κs = back-some (c .before .before .before .before .before .before .pre) _ (c .loop-test .taken) (c .before .loop .inv)
+
+chance-requires : tie.Need-chance-requires Inv-loop μ-loop
+chance-requires c κs = search needs
+
+failure-requires : tie.Need-failure-requires Inv-loop μ-loop
+failure-requires c κs = rw (c .chance .ensures) (c .before .before .before .before .before .before .before .before .pre .list .units _)
+
+worked-requires : tie.Need-worked-requires Inv-loop μ-loop
+worked-requires c κs = search needs
+
+place-requires : tie.Need-place-requires Inv-loop μ-loop
+place-requires c κs = search needs
+
+read-requires : tie.Need-read-requires Inv-loop μ-loop
+read-requires c κs = rw (c .place .ensures) (back-place (c .before .before .before .before .before .before .before .before .before .before .before .pre) _ (c .before .before .before .before .before .loop-test .taken) (c .before .before .before .before .before .before .loop .inv))
+
+step-requires : tie.Need-step-requires Inv-loop μ-loop
+step-requires c κs =
+    back-steady (c .before .before .before .before .before .before .before .before .before .before .before .before .pre) _ (c .before .before .before .before .before .before .loop-test .taken) (c .before .before .before .before .before .before .before .loop .inv) _ _ (record { read = c .before .before .before .before .chance .ensures; rest = c .before .before .before .failure .ensures }) (rw (c .before .place .ensures) at (c .read .ensures))
+
+add-i : tie.Need-add-i Inv-loop μ-loop
+add-i c = omega (arith, c .before .before .before .before .before .before .before .loop-test .taken, c .before .before .before .before .before .before .before .before .before .before .before .before .before .pre .size, c .before .before .before .before .before .before .before .before .before .before .before .before .before .pre .list .size)
+
+loop-less : tie.Need-loop-less Inv-loop μ-loop
+loop-less c = search needs
+
+loop-again : tie.Need-loop-again Inv-loop μ-loop
+loop-again c =
+    back-more (c .before .before .before .before .before .before .before .before .before .before .before .before .before .pre) _ (c .before .before .before .before .before .before .before .loop-test .taken) (c .before .before .before .before .before .before .before .before .loop .inv) _ _ (record { read = c .before .before .before .before .before .chance .ensures; rest = c .before .before .before .before .failure .ensures }) (rw (c .before .before .place .ensures) at (c .before .read .ensures))
+    (c .before .before .before .before .before .before .before2 .ensures) (c .step .ensures)
+
+returns : tie.Need-returns Inv-loop μ-loop
+returns c = back-last (c .before .before .before .before .before .before .pre) (c .loop-test .left) (c .before .loop .inv)
+
+pub back-spec : {M : Type 1} → statement M
+back-spec =
+    tie.close
+    (tie.spec
+    Inv-loop
+    μ-loop
+    rest-requires
+    sub-t10
+    worth-requires
+    loop-holds
+    before-requires
+    chance-requires
+    failure-requires
+    worked-requires
+    place-requires
+    read-requires
+    step-requires
+    add-i
+    loop-less
+    loop-again
+    returns)

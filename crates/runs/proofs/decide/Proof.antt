@@ -1,0 +1,68 @@
+-- `decide` writes the unit as long as the lead and all that is left stay below k. Assumes nothing.
+use borrow.Author.Needs.{needs}
+use mathlib.Core.Path.{_≡_, sym}
+use Prim.Native.Nat.{suc, _+_, _-_, _≤_, min}
+use native.Mathlib.Omega.{arith}
+use Rattle.rules.specs.State.{S}
+use Rattle.places.specs.Cells.{Written}
+use Rattle.places.proofs.Cells.{written-none, written-more, room-kept}
+use Rattle.runs.proofs.decide.Statement.{statement}
+use Rattle.runs.proofs.decide.Tie as tie
+
+abbrev Inv-loop : tie.InvT-loop
+Inv-loop k upto table₀ last left₀ table left = (left ≤ suc last) × Written (λ up i. S) left 0 table₀ table
+
+abbrev μ-loop : tie.MeasureT-loop
+μ-loop k upto table₀ last left₀ table left = suc last - left
+
+sub-lesser : tie.Need-sub-lesser Inv-loop μ-loop
+sub-lesser c = search needs
+
+sub-lesser-2 : tie.Need-sub-lesser-2 Inv-loop μ-loop
+sub-lesser-2 c = search needs
+
+lesser-requires : tie.Need-lesser-requires Inv-loop μ-loop
+lesser-requires c κs = search needs
+
+loop-holds : tie.Need-loop-holds Inv-loop μ-loop
+loop-holds c = search needs
+
+worth-requires : tie.Need-worth-requires Inv-loop μ-loop
+worth-requires c κs = search needs
+
+write-requires : tie.Need-write-requires Inv-loop μ-loop
+write-requires c κs = search needs
+
+add-left : tie.Need-add-left Inv-loop μ-loop
+add-left c = search needs
+
+loop-less : tie.Need-loop-less Inv-loop μ-loop
+loop-less c = search needs
+
+loop-again : tie.Need-loop-again Inv-loop μ-loop
+loop-again c = (omega arith, written-more (c .before .before .write .ensures) (omega arith) (omega (arith, c .before .before .before .before .before .before .before .lesser .ensures, c .before .before .before .before .before .before .before .before .before .before .pre .size)) (c .before .before .before .worth .ensures) (c .before .before .before .before .before .before .loop .inv .1))
+
+same-length : tie.Need-same-length Inv-loop μ-loop
+same-length c = search needs
+
+returns : tie.Need-returns Inv-loop μ-loop
+returns c = let e : c .before .loop .left ≡ suc (c .before .before .lesser .result) = omega (arith, c .before .loop .inv .0, c .loop-test .left) in
+    (c .before .before .lesser .ensures, rw (e, c .before .before .lesser .ensures) at (c .before .loop .inv .1))
+
+pub decide-spec : {M : Type 1} → statement M
+decide-spec =
+    tie.close
+    (tie.spec
+    Inv-loop
+    μ-loop
+    sub-lesser
+    sub-lesser-2
+    lesser-requires
+    loop-holds
+    worth-requires
+    write-requires
+    add-left
+    loop-less
+    loop-again
+    same-length
+    returns)

@@ -1,0 +1,29 @@
+-- `line` fills the memory with no run and no lead, and reads it with all components left. Assumes nothing.
+use borrow.Author.Needs.{needs}
+use mathlib.Core.Path.{refl, ap}
+use Rattle.runs.proofs.Whole.{filled-at, line-is}
+use Rattle.runs.proofs.line.Statement.{statement}
+use Rattle.runs.proofs.line.Tie as tie
+
+start-requires : tie.Need-start-requires
+start-requires c κs = search needs
+
+fill-requires : tie.Need-fill-requires
+fill-requires c κs = rw (c .before .start .ensures) (record { free = record { none = refl; alive = c .before .before .before .before .pre .some }; size = search needs; list = c .before .before .before .before .pre .list })
+
+place-requires : tie.Need-place-requires
+place-requires c κs = ap (λ m. m .run) (c .before .before .before .before .before .start .ensures)
+
+read-requires : tie.Need-read-requires
+read-requires c κs = search needs
+
+same-length : tie.Need-same-length
+same-length c = search needs
+
+returns : tie.Need-returns
+returns c = (line-is (c .before .before .before .before .before .before .before .before .before .before .pre) (filled-at (rw (c .before .before .before .before .before .before .before .start .ensures) at (c .before .before .before .before .before .fill .ensures)) (rw (c .before .place .ensures) at (c .read .ensures))), c .before .before .before .before .before .fill .ensures .kept)
+
+pub line-spec : {M : Type 1} → statement M
+line-spec =
+    tie.close
+    (tie.spec start-requires fill-requires place-requires read-requires same-length returns)
