@@ -1,0 +1,118 @@
+-- The memory that owes nothing as the table holds it: known with fewer components left it is known with one more, by the debt of a failed component, which
+-- is paid or cut short. Assumes nothing.
+use mathlib.Core.Path.{_≡_, refl, sym, ap, _∙_}
+use mathlib.Core.Bool.{Bool, cond}
+use mathlib.Core.List.{List}
+use Prim.Native.Nat.{ℕ, suc, _+_, _-_, _≤_, _<_, min}
+use native.Mathlib.Nat.{zero-add}
+use native.Mathlib.Omega.{arith}
+use lib.Dec.{leb}
+use lib.ListN.{length, getD}
+use Rattle.rules.specs.State.{S}
+use Rattle.rules.specs.Figure.{rounded, mixed}
+use Rattle.memory.specs.declared.owed.Owed.{Owed}
+use Rattle.memory.specs.Owed.{owed, owedWorks, owing}
+use Rattle.places.specs.declared.Ends.{Ends}
+use Rattle.places.specs.Cells.{Both, Row, Put, Kept, Place, cellAt, half, one, worthOf}
+use Rattle.places.proofs.Cells.{both-at, both-as, row-none, row-other, row-more, room-kept, workable-kept, kept-trans}
+use Rattle.places.proofs.Values.{worth-within}
+use Rattle.gaps.specs.declared.Known.{Known}
+use Rattle.gaps.specs.Gaps.{Asked, Owing, Settled, Holds, Passable, Begun, Reached, Stepping}
+use Rattle.gaps.proofs.Paying.{free-before, cut}
+
+-- a place of the first half written
+module _ {r : ℕ} {survival t t' : List ℕ} {at : ℕ} {e : Ends} (p : Put at e t t') (low : at < half) where
+  asked-put : Asked r survival t → Asked r survival t'
+  asked-put y = record { two = y .two; list = workable-kept (p .kept) (y .list) }
+
+  settled-put : length survival < half → Settled r survival t → Settled r survival t'
+  settled-put small s = record { row = row-other p (omega arith) (λ k l q. omega arith) (s .row) }
+
+module _ {r x left : ℕ} {survival t : List ℕ} (y : Holds r x left survival t) where
+  pub holds-place : (i : ℕ) → i ≤ length survival → Place i t
+  holds-place i l = record { low = omega (arith, y .asked .list .size); room = y .asked .list .room }
+
+  pub holds-at : (i : ℕ) → i ≤ left → {e : Ends} → Both (λ up. cellAt t up i) e → Both (λ up. worthOf (owing r) survival (owed x 0) up i) e
+  holds-at i l = both-as (λ up. rw (zero-add i) at (y .row .is up i (omega arith)))
+
+  pub holds-less : {less : ℕ} → less ≤ left → Holds r x less survival t
+  holds-less l = record { asked = y .asked; settled = y .settled; most = omega (arith, y .most); row = record { is = λ up i h. y .row .is up i (omega arith) } }
+
+  -- a debt that is cut short
+  pub cut-place : (i : ℕ) → i < length survival → Place (half + i) t
+  cut-place i l = record { low = omega (arith, y .asked .list .size); room = y .asked .list .room }
+
+  pub cut-is : (m : Owed) (i : ℕ) → m ≡ owed x (r - 1) → i < length survival → i < r - 1 → {e : Ends}
+      → Both (λ up. cond (owedWorks (owed (m .clean) (m .owed - i))) (cellAt t up (half + i)) 0) e → Both (λ up. worthOf (owing r) survival (owed x (r - 1)) up i) e
+  cut-is m i is size short =
+      both-as (λ up.
+      rw is
+      (ap (λ v. cond (leb (r - 1 - i) x) v 0) (y .settled .row .is up i (omega arith)) ∙ sym (cut r survival up x i (r - 1) (omega arith) (omega (arith, y .asked .two)))))
+
+-- a debt that is paid
+module _ {r : ℕ} {m : Owed} {i : ℕ} {survival t : List ℕ} (y : Passable r m i survival t) (l : m .owed ≤ i) where
+  pub paid-place : Place (i - m .owed) t
+  paid-place = holds-place (y .holds) _ (omega (arith, y .size))
+
+  module _ {free : Owed} (is : free ≡ owed (m .clean) (m .owed - m .owed)) {e : Ends} (b : Both (λ up. cellAt t up (i - m .owed)) e) where
+    nothing-owed : free ≡ owed (m .clean) 0
+    nothing-owed = is ∙ ap (owed (m .clean)) (omega arith)
+
+    pub paid-owing : Owing r free (i - m .owed) i survival e
+    paid-owing = record {
+      order = omega arith;
+      size = omega (arith, y .size);
+      alive = rw nothing-owed (omega (arith, y .due, y .holds .asked .two));
+      units = y .holds .asked .list .units;
+      value = rw nothing-owed (holds-at (y .holds) (i - m .owed) (omega arith) b);
+    }
+
+    pub paid-is : {v : Ends} → Both (λ up. worthOf (owing r) survival (owed (free .clean) (free .owed + (i - (i - m .owed)))) up i) v → Both (λ up. worthOf (owing r) survival m up i) v
+    paid-is = both-as (λ up. rw nothing-owed (ap (λ g. worthOf (owing r) survival (owed (m .clean) g) up i) (omega arith)))
+
+pub past-is : {r : ℕ} {m : Owed} {i : ℕ} {survival t : List ℕ} → Passable r m i survival t → i < m .owed → {e : Ends}
+    → Both (λ up. cond (owedWorks (owed (m .clean) (m .owed - i))) (cellAt t up (half + i)) 0) e → Both (λ up. worthOf (owing r) survival m up i) e
+past-is {m = m} {i = i} y l b =
+    let is = ap (owed (m .clean)) (y .due) in
+    rw (← is) at (cut-is (y .holds) m i is (y .size) (omega (arith, y .due)) b)
+
+-- with no components left
+pub begun : {r : ℕ} {m : Owed} {survival t t' : List ℕ} {works : Bool} {e : Ends} → Begun r m survival t → works ≡ owedWorks m → Both (λ up. cond works S 0) e → Put 0 e t t'
+    → Reached r (m .clean) 0 survival t t' (record { free = m; left = 0 })
+begun {r} {m} y end b p = ?
+
+-- the memory at hand: what it is worth, and where the table holds it
+pub record Stands (r x left : ℕ) (survival : List ℕ) (works : Ends) (t₀ t : List ℕ) : Type 0 where
+  pub holds : Holds r x left survival t
+  pub value : Both (λ up. worthOf (owing r) survival (owed x 0) up left) works
+  pub kept : Kept t₀ t
+
+module _ {r x left : ℕ} {survival : List ℕ} {works fails : Ends} {t₀ t : List ℕ} (y : Stands r x left survival works t₀ t) (l : left < length survival)
+    (f : Both (λ up. worthOf (owing r) survival (owed x (r - 1)) up left) fails) where
+  pub stands-stepping : Stepping left survival works fails t
+  stands-stepping = record {
+    size = l;
+    list = y .holds .asked .list;
+    works-small = worth-within (owing r) survival (y .holds .asked .list .units) left (owed x 0) (y .value);
+    fails-small = worth-within (owing r) survival (y .holds .asked .list .units) left (owed x (r - 1)) f;
+  }
+
+  pub stands-more : {t' : List ℕ} {e : Ends} → Both (λ up. rounded up S (mixed S (getD survival left 0) (one up works) (one up fails))) e → Put (left + 1) e t t'
+      → Stands r x (left + 1) survival e t₀ t'
+  stands-more {e = e} b p =
+      let small = y .holds .asked .list .size in
+      let a : suc (left + 1) ≡ suc left + 1 = omega arith in
+      let c : left + 1 ≡ suc left = omega arith in
+      record {
+        holds = record {
+          asked = asked-put p (omega arith) (y .holds .asked);
+          settled = settled-put p (omega arith) (omega arith) (y .holds .settled);
+          most = omega arith;
+          row = rw a (row-more p (omega arith) (omega arith) (rw c at stepped) (y .holds .row));
+        };
+        value = stepped;
+        kept = kept-trans (y .kept) (p .kept);
+      }
+    where
+      stepped : Both (λ up. worthOf (owing r) survival (owed x 0) up (left + 1)) e
+      stepped = both-as (λ up. rw (both-at (y .value) up, both-at f up) (sym (free-before r survival up x left (omega (arith, y .holds .asked .two))))) b

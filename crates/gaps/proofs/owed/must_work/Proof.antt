@@ -1,0 +1,24 @@
+-- `must_work` is a rounded step with nothing on its failed side. Assumes nothing.
+use borrow.Author.Needs.{needs}
+use Rattle.gaps.proofs.Paying.{due-steady, due-more}
+use Rattle.gaps.proofs.owed.must_work.Statement.{statement}
+use Rattle.gaps.proofs.owed.must_work.Tie as tie
+
+chance-requires : tie.Need-chance-requires
+chance-requires c κs = search needs
+
+failure-requires : tie.Need-failure-requires
+failure-requires c κs = rw (c .chance .ensures) (c .before .before .pre .units _)
+
+worth-requires : tie.Need-worth-requires
+worth-requires c κs = search needs
+
+step-requires : tie.Need-step-requires
+step-requires c κs = due-steady (c .before .before .before .before .pre) _ _ (record { read = c .before .before .chance .ensures; rest = c .before .failure .ensures }) (c .worth .ensures)
+
+returns : tie.Need-returns
+returns c = due-more (c .before .before .before .before .before .pre) _ _ (record { read = c .before .before .before .chance .ensures; rest = c .before .before .failure .ensures }) (c .before .worth .ensures) (c .step .ensures)
+
+pub must-work-spec : {M : Type 1} → statement M
+must-work-spec =
+    tie.close (tie.spec chance-requires failure-requires worth-requires step-requires returns)
