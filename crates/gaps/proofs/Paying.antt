@@ -15,7 +15,7 @@ use Rattle.rules.specs.Figure.{rounded, mixed, value}
 use Rattle.rules.proofs.Rounding.{nothing}
 use Rattle.rules.proofs.Tests.{by-both}
 use Rattle.memory.specs.declared.owed.Owed.{Owed}
-use Rattle.memory.specs.Owed.{owed, owedWorked, owing}
+use Rattle.memory.specs.Owed.{owed, owedWorked, owedWorks, owing}
 use Rattle.memory.proofs.Owing.{owed-works, owed-fails, owed-ends, owed-dead}
 use Rattle.places.specs.declared.Ends.{Ends}
 use Rattle.places.specs.Cells.{Both, Steady, one, worthOf}
@@ -68,6 +68,12 @@ module _ (r : ℕ) (survival : List ℕ) (up : Bool) where
           ≡ cond b (rounded up S (mixed S (getD survival i 0) (worthOf (owing r) survival (owed 0 i) up i) 0)) 0
       spread true = refl
       spread false = nothing up S (getD survival i 0) (omega arith)
+
+-- with no components left
+pub end-worth : (r : ℕ) (survival : List ℕ) (m : Owed) → m .owed < r → {works : Bool} {e : Ends} → works ≡ owedWorks m → Both (λ up. cond works S 0) e
+    → Both (λ up. worthOf (owing r) survival m up 0) e
+unfolding value
+end-worth r survival m alive end = both-as (λ up. rw (end, owed-ends r 0 m alive))
 
 -- a component that must work
 module _ {r : ℕ} {m : Owed} {i : ℕ} {survival : List ℕ} {after : Ends} (y : Due r m i survival after) (p q : ℕ) (is : Chance survival i p q) {none : Ends} (z : Both (λ up. 0) none) where

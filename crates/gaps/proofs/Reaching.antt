@@ -11,14 +11,14 @@ use lib.ListN.{length, getD}
 use Rattle.rules.specs.State.{S}
 use Rattle.rules.specs.Figure.{rounded, mixed}
 use Rattle.memory.specs.declared.owed.Owed.{Owed}
-use Rattle.memory.specs.Owed.{owed, owedWorks, owing}
+use Rattle.memory.specs.Owed.{owed, owedFailed, owedWorks, owing}
 use Rattle.places.specs.declared.Ends.{Ends}
 use Rattle.places.specs.Cells.{Both, Row, Put, Kept, Place, cellAt, half, one, worthOf}
-use Rattle.places.proofs.Cells.{both-at, both-as, row-none, row-other, row-more, room-kept, workable-kept, kept-trans}
+use Rattle.places.proofs.Cells.{both-at, both-as, row-none, row-other, row-more, workable-kept, kept-none, kept-trans}
 use Rattle.places.proofs.Values.{worth-within}
 use Rattle.gaps.specs.declared.Known.{Known}
-use Rattle.gaps.specs.Gaps.{Asked, Owing, Settled, Holds, Passable, Begun, Reached, Stepping}
-use Rattle.gaps.proofs.Paying.{free-before, cut}
+use Rattle.gaps.specs.Gaps.{Asked, Owing, Settled, Holds, Passable, Begun, Bringable, Reachable, Reached, Stepping}
+use Rattle.gaps.proofs.Paying.{end-worth, free-before, cut}
 
 -- a place of the first half written
 module _ {r : ℕ} {survival t t' : List ℕ} {at : ℕ} {e : Ends} (p : Put at e t t') (low : at < half) where
@@ -50,6 +50,9 @@ module _ {r x left : ℕ} {survival t : List ℕ} (y : Holds r x left survival t
       (ap (λ v. cond (leb (r - 1 - i) x) v 0) (y .settled .row .is up i (omega arith)) ∙ sym (cut r survival up x i (r - 1) (omega arith) (omega (arith, y .asked .two)))))
 
 -- a debt that is paid
+pub passable : {r x left : ℕ} {m : Owed} {survival t : List ℕ} → Holds r x left survival t → m ≡ owed x (r - 1) → left < length survival → Passable r m left survival t
+passable y is l = rw is (record { due = refl; size = l; holds = holds-less y (omega arith) })
+
 module _ {r : ℕ} {m : Owed} {i : ℕ} {survival t : List ℕ} (y : Passable r m i survival t) (l : m .owed ≤ i) where
   pub paid-place : Place (i - m .owed) t
   paid-place = holds-place (y .holds) _ (omega (arith, y .size))
@@ -79,7 +82,23 @@ past-is {m = m} {i = i} y l b =
 -- with no components left
 pub begun : {r : ℕ} {m : Owed} {survival t t' : List ℕ} {works : Bool} {e : Ends} → Begun r m survival t → works ≡ owedWorks m → Both (λ up. cond works S 0) e → Put 0 e t t'
     → Reached r (m .clean) 0 survival t t' (record { free = m; left = 0 })
-begun {r} {m} y end b p = ?
+begun {r} {m} {survival} y end b p =
+    let small = y .asked .list .size in
+    record {
+      free = ap (owed (m .clean)) (y .none);
+      left = refl;
+      holds = record {
+        asked = asked-put p (omega arith) (y .asked);
+        settled = settled-put p (omega arith) (omega arith) (y .settled);
+        most = omega arith;
+        row = row-more p refl (omega arith) (end-worth r survival (owed (m .clean) 0) (omega (arith, y .asked .two)) (rw (y .none) at end) b) row-none;
+      };
+      kept = p .kept;
+    }
+
+-- the debt of a failed component
+pub failed-is : (r : ℕ) (free : Owed) {m : Owed} → free .owed ≡ 0 → m ≡ owedFailed r free → m ≡ owed (free .clean) (r - 1)
+failed-is r free none is = is ∙ rw none
 
 -- the memory at hand: what it is worth, and where the table holds it
 pub record Stands (r x left : ℕ) (survival : List ℕ) (works : Ends) (t₀ t : List ℕ) : Type 0 where
@@ -87,6 +106,10 @@ pub record Stands (r x left : ℕ) (survival : List ℕ) (works : Ends) (t₀ t 
   pub value : Both (λ up. worthOf (owing r) survival (owed x 0) up left) works
   pub kept : Kept t₀ t
 
+pub stands-first : {r x left : ℕ} {survival t : List ℕ} → Holds r x left survival t → {works : Ends} → Both (λ up. cellAt t up left) works → Stands r x left survival works t t
+stands-first y b = record { holds = y; value = holds-at y _ (omega arith) b; kept = kept-none }
+
+-- a component more
 module _ {r x left : ℕ} {survival : List ℕ} {works fails : Ends} {t₀ t : List ℕ} (y : Stands r x left survival works t₀ t) (l : left < length survival)
     (f : Both (λ up. worthOf (owing r) survival (owed x (r - 1)) up left) fails) where
   pub stands-stepping : Stepping left survival works fails t
@@ -116,3 +139,22 @@ module _ {r x left : ℕ} {survival : List ℕ} {works fails : Ends} {t₀ t : L
     where
       stepped : Both (λ up. worthOf (owing r) survival (owed x 0) up (left + 1)) e
       stepped = both-as (λ up. rw (both-at (y .value) up, both-at f up) (sym (free-before r survival up x left (omega (arith, y .holds .asked .two))))) b
+
+-- what was reached is gone on from
+pub reached-able : {r x done upto : ℕ} {survival t₀ t : List ℕ} {s : Known} → Reached r x done survival t₀ t s → done ≤ upto → upto ≤ length survival → Reachable r s upto survival t
+reached-able y l h = record {
+  none = ap (λ m. m .owed) (y .free);
+  holds = rw (y .free, y .left) (y .holds);
+  order = omega (arith, y .left);
+  most = h;
+}
+
+pub reached-on : {r x done upto : ℕ} {survival t₀ t t' : List ℕ} {s s' : Known} → Reached r x done survival t₀ t s → Reached r (s .free .clean) upto survival t t' s'
+    → Reached r x upto survival t₀ t' s'
+reached-on y z =
+    let e = ap (λ m. m .clean) (y .free) in
+    record { free = rw e at (z .free); left = z .left; holds = rw e at (z .holds); kept = kept-trans (y .kept) (z .kept) }
+
+-- a memory begun anew, or gone on with, as far as a failed component needs it
+pub bring-begun : {r : ℕ} {s : Known} {m free : Owed} {i : ℕ} {survival t : List ℕ} → Bringable r s m i survival t → free ≡ owed (m .clean) (m .owed - m .owed) → Begun r free survival t
+bring-begun {m = m} y is = record { none = ap (λ f. f .owed) is ∙ omega arith; asked = y .holds .asked; settled = y .holds .settled }

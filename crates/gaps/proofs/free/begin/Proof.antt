@@ -1,11 +1,8 @@
+-- `begin` writes the memory with no components left. Assumes nothing.
 use borrow.Author.Needs.{needs}
+use Rattle.gaps.proofs.Reaching.{begun}
 use Rattle.gaps.proofs.free.begin.Statement.{statement}
 use Rattle.gaps.proofs.free.begin.Tie as tie
-use Rattle.gaps.proofs.free.begin.Reads as reads
-use Rattle.gaps.proofs.free.begin.Lts as lts
-use Rattle.memory.proofs.owed.Owed.works.Reads as works-reads
-use Rattle.places.proofs.worth.Reads as worth-reads
-use Rattle.places.proofs.write.Reads as write-reads
 
 works-requires : tie.Need-works-requires
 works-requires c κs = search needs
@@ -20,7 +17,7 @@ same-length : tie.Need-same-length
 same-length c = search needs
 
 returns : tie.Need-returns
-returns c = ?
+returns c = begun (c .before .before .before .before .before .before .before .before .pre) (c .before .before .before .before .works .ensures) (c .before .before .before .worth .ensures) (c .before .before .write .ensures)
 
 pub begin-spec : {M : Type 1} → statement M
 begin-spec = tie.close (tie.spec works-requires worth-requires write-requires same-length returns)

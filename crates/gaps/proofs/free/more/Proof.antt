@@ -1,21 +1,16 @@
+-- `more` is a rounded step, written at the next place. Assumes nothing.
 use borrow.Author.Needs.{needs}
 use Rattle.gaps.proofs.free.more.Statement.{statement}
 use Rattle.gaps.proofs.free.more.Tie as tie
-use Rattle.gaps.proofs.free.more.Reads as reads
-use Rattle.gaps.proofs.free.more.Lts as lts
-use Rattle.places.proofs.chance.Reads as chance-reads
-use Rattle.places.proofs.step.Reads as step-reads
-use Rattle.places.proofs.write.Reads as write-reads
-use Rattle.units.proofs.Survival.failure.Reads as failure-reads
 
 chance-requires : tie.Need-chance-requires
 chance-requires c κs = search needs
 
 failure-requires : tie.Need-failure-requires
-failure-requires c κs = ?
+failure-requires c κs = rw (c .chance .ensures) (c .before .before .before .pre .list .units _)
 
 step-requires : tie.Need-step-requires
-step-requires c κs = ?
+step-requires c κs = record { survival = rw (c .before .chance .ensures) (c .before .before .before .before .pre .list .units _); rest = c .failure .ensures; left = c .before .before .before .before .pre .works-small; right = c .before .before .before .before .pre .fails-small }
 
 add-write : tie.Need-add-write
 add-write c = search needs
@@ -27,7 +22,7 @@ same-length : tie.Need-same-length
 same-length c = search needs
 
 returns : tie.Need-returns
-returns c = ?
+returns c = (rw (c .before .before .before .before .before .before .chance .ensures) at (c .before .before .before .before .step .ensures), c .before .before .write .ensures)
 
 pub more-spec : {M : Type 1} → statement M
 more-spec =

@@ -1,51 +1,62 @@
+-- `reach` goes on while debts are cut short, then while they are paid. Assumes nothing.
+use borrow.Author.Needs.{needs}
+use mathlib.Core.Path.{_≡_, refl, ap}
+use Prim.Native.Nat.{_-_, _≤_, _<_}
+use native.Mathlib.Omega.{arith}
+use Rattle.places.proofs.Cells.{kept-trans}
+use Rattle.gaps.proofs.Reaching.{Stands, holds-place, passable, failed-is, stands-first, stands-stepping, stands-more}
 use Rattle.gaps.proofs.free.reach.Statement.{statement}
 use Rattle.gaps.proofs.free.reach.Tie as tie
-use Rattle.gaps.proofs.free.reach.Reads as reads
-use Rattle.gaps.proofs.free.reach.Lts as lts
-use Rattle.gaps.proofs.free.more.Reads as more-reads
-use Rattle.gaps.proofs.free.reach_cut.Reads as reach-cut-reads
-use Rattle.gaps.proofs.owed.paid.Reads as paid-reads
-use Rattle.memory.proofs.owed.Owed.failed.Reads as failed-reads
-use Rattle.places.proofs.read.Reads as read-reads
 
 abbrev Inv-loop : tie.InvT-loop
-Inv-loop r upto survival table₀ free m left₀ works₀ table left works = ?
+Inv-loop r upto survival table₀ free m left₀ works₀ table left works = (left ≤ upto) × (left < upto → r - 1 ≤ left) × Stands r (free .clean) left survival works table₀ table
 
 abbrev μ-loop : tie.MeasureT-loop
-μ-loop r upto survival table₀ free m left₀ works₀ table left works = ?
+μ-loop r upto survival table₀ free m left₀ works₀ table left works = upto - left
 
 reach-cut-requires : tie.Need-reach-cut-requires Inv-loop μ-loop
-reach-cut-requires c κs = ?
+reach-cut-requires c κs = search needs
 
 failed-requires : tie.Need-failed-requires Inv-loop μ-loop
-failed-requires c κs = ?
+failed-requires c κs = omega (arith, c .before .before .before .before .before .before .before .pre .holds .asked .two)
 
 read-requires : tie.Need-read-requires Inv-loop μ-loop
-read-requires c κs = ?
+read-requires c κs = holds-place (c .before .before .before .before .before .reach-cut .ensures .holds) _ (c .before .before .before .before .before .reach-cut .ensures .holds .most)
 
 loop-holds : tie.Need-loop-holds Inv-loop μ-loop
-loop-holds c = ?
+loop-holds c = let d = c .before .before .before .before .before .before .reach-cut .ensures in (d .most, d .done, rw (d .free) (stands-first (d .holds) (c .read .ensures)))
 
 paid-requires : tie.Need-paid-requires Inv-loop μ-loop
-paid-requires c κs = ?
+paid-requires c κs =
+    let v = c .before .before .loop .inv in
+    let l = c .before .loop-test .taken in
+    (passable (v .2 .holds) (failed-is (c .before .before .before .before .before .before .before .before .before .before .before .before .before .args .r) (c .before .before .before .before .before .before .before .before .before .reach-cut .result .free) (rw (c .before .before .before .before .before .before .before .before .before .reach-cut .ensures .free) refl) (c .before .before .before .before .before .failed .ensures)) (omega (arith, l, c .before .before .before .before .before .before .before .before .before .before .before .before .before .pre .most)), omega (arith, v .1 l, (ap (λ m. m .owed) (failed-is (c .before .before .before .before .before .before .before .before .before .before .before .before .before .args .r) (c .before .before .before .before .before .before .before .before .before .reach-cut .result .free) (rw (c .before .before .before .before .before .before .before .before .before .reach-cut .ensures .free) refl) (c .before .before .before .before .before .failed .ensures)))))
 
 more-requires : tie.Need-more-requires Inv-loop μ-loop
-more-requires c κs = ?
+more-requires c κs = stands-stepping (c .before .before .before .before .loop .inv .2) (omega (arith, c .before .before .before .loop-test .taken, c .before .before .before .before .before .before .before .before .before .before .before .before .before .before .before .pre .most)) (rw (failed-is (c .before .before .before .before .before .before .before .before .before .before .before .before .before .before .before .args .r) (c .before .before .before .before .before .before .before .before .before .before .before .reach-cut .result .free) (rw (c .before .before .before .before .before .before .before .before .before .before .before .reach-cut .ensures .free) refl) (c .before .before .before .before .before .before .before .failed .ensures)) at (c .before .paid .ensures))
 
 add-left : tie.Need-add-left Inv-loop μ-loop
-add-left c = ?
+add-left c = search needs
 
 loop-less : tie.Need-loop-less Inv-loop μ-loop
-loop-less c = ?
+loop-less c = search needs
 
 loop-again : tie.Need-loop-again Inv-loop μ-loop
-loop-again c = ?
+loop-again c =
+    let v = c .before .before .before .before .before .before .before .loop .inv in
+    let l = c .before .before .before .before .before .before .loop-test .taken in
+    let m = c .before .before .more .ensures in
+    (omega (arith, l), λ more. omega (arith, v .1 l), stands-more (v .2) (omega (arith, l, c .before .before .before .before .before .before .before .before .before .before .before .before .before .before .before .before .before .before .pre .most)) (rw (failed-is (c .before .before .before .before .before .before .before .before .before .before .before .before .before .before .before .before .before .before .args .r) (c .before .before .before .before .before .before .before .before .before .before .before .before .before .before .reach-cut .result .free) (rw (c .before .before .before .before .before .before .before .before .before .before .before .before .before .before .reach-cut .ensures .free) refl) (c .before .before .before .before .before .before .before .before .before .before .failed .ensures)) at (c .before .before .before .before .paid .ensures)) (m .0) (m .1))
 
 same-length : tie.Need-same-length Inv-loop μ-loop
-same-length c = ?
+same-length c = kept-trans (c .before .before .before .before .before .before .before .before .reach-cut .ensures .kept) (c .before .loop .inv .2 .kept) .long
 
 returns : tie.Need-returns Inv-loop μ-loop
-returns c = ?
+returns c =
+    let d = c .before .before .before .before .before .before .before .before .reach-cut .ensures in
+    let v = c .before .loop .inv in
+    let e : c .before .loop .left ≡ c .before .before .before .before .before .before .before .before .before .before .before .before .args .upto = omega (arith, v .0, c .loop-test .left) in
+    record { free = d .free; left = e; holds = rw (d .free, e) at (v .2 .holds); kept = kept-trans (d .kept) (v .2 .kept) }
 
 pub reach-spec : {M : Type 1} → statement M
 reach-spec =

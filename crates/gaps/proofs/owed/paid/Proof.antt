@@ -1,11 +1,8 @@
+-- `paid` goes back over the debt from where it is paid. Assumes nothing.
 use borrow.Author.Needs.{needs}
+use Rattle.gaps.proofs.Reaching.{paid-place, paid-owing, paid-is}
 use Rattle.gaps.proofs.owed.paid.Statement.{statement}
 use Rattle.gaps.proofs.owed.paid.Tie as tie
-use Rattle.gaps.proofs.owed.paid.Reads as reads
-use Rattle.gaps.proofs.owed.paid.Lts as lts
-use Rattle.gaps.proofs.owed.back.Reads as back-reads
-use Rattle.memory.proofs.owed.Owed.worked_many.Reads as worked-many-reads
-use Rattle.places.proofs.read.Reads as read-reads
 
 sub-from : tie.Need-sub-from
 sub-from c = search needs
@@ -14,13 +11,13 @@ worked-many-requires : tie.Need-worked-many-requires
 worked-many-requires c κs = search needs
 
 read-requires : tie.Need-read-requires
-read-requires c κs = search needs
+read-requires c κs = paid-place (c .before .before .before .before .pre .0) (c .before .before .before .before .pre .1)
 
 back-requires : tie.Need-back-requires
-back-requires c κs = ?
+back-requires c κs = paid-owing (c .before .before .before .before .before .pre .0) (c .before .before .before .before .before .pre .1) (c .before .worked-many .ensures) (c .read .ensures)
 
 returns : tie.Need-returns
-returns c = ?
+returns c = paid-is (c .before .before .before .before .before .before .pre .0) (c .before .before .before .before .before .before .pre .1) (c .before .before .worked-many .ensures) (c .before .read .ensures) (c .back .ensures)
 
 pub paid-spec : {M : Type 1} → statement M
 paid-spec = tie.close (tie.spec sub-from worked-many-requires read-requires back-requires returns)

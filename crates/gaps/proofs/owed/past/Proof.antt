@@ -1,16 +1,14 @@
+-- `past` takes apart a debt that is cut short and one that is paid. Assumes nothing.
 use borrow.Author.Needs.{needs}
+use Rattle.gaps.proofs.Reaching.{cut-place, past-is}
 use Rattle.gaps.proofs.owed.past.Statement.{statement}
 use Rattle.gaps.proofs.owed.past.Tie as tie
-use Rattle.gaps.proofs.owed.past.Reads as reads
-use Rattle.gaps.proofs.owed.past.Lts as lts
-use Rattle.gaps.proofs.owed.cut_short.Reads as cut-short-reads
-use Rattle.gaps.proofs.owed.paid.Reads as paid-reads
 
 cut-short-requires : tie.Need-cut-short-requires
 cut-short-requires c κs = search needs
 
 returns : tie.Need-returns
-returns c = ?
+returns c = past-is (c .before .before .before .before .before .pre) (c .before .if1 .taken) (c .cut-short .ensures)
 
 paid-requires : tie.Need-paid-requires
 paid-requires c κs = search needs

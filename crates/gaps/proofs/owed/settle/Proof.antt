@@ -1,61 +1,75 @@
+-- `settle` writes what the memory at hand is worth, then takes its debt back a component. Assumes nothing.
+use borrow.Author.Needs.{needs}
+use mathlib.Core.Path.{_≡_, refl}
+use Prim.Native.Nat.{_-_, _≤_}
+use native.Mathlib.Nat.{zero-add}
+use native.Mathlib.Omega.{arith}
+use Rattle.memory.specs.Owed.{owed, owing}
+use Rattle.places.specs.Cells.{Written, half, worthOf}
+use Rattle.places.proofs.Cells.{written-none, written-more, room-kept}
+use Rattle.gaps.proofs.Paying.{Back, end-worth, back-first, back-last, back-due, back-more}
 use Rattle.gaps.proofs.owed.settle.Statement.{statement}
 use Rattle.gaps.proofs.owed.settle.Tie as tie
-use Rattle.gaps.proofs.owed.settle.Reads as reads
-use Rattle.gaps.proofs.owed.settle.Lts as lts
-use Rattle.gaps.proofs.owed.must_work.Reads as must-work-reads
-use Rattle.memory.proofs.owed.Owed.before.Reads as before-reads
-use Rattle.memory.proofs.owed.Owed.works.Reads as works-reads
-use Rattle.places.proofs.lesser.Reads as lesser-reads
-use Rattle.places.proofs.worth.Reads as worth-reads
-use Rattle.places.proofs.write.Reads as write-reads
 
 abbrev Inv-loop : tie.InvT-loop
-Inv-loop r survival table₀ last due₀ ends₀ i₀ table due ends i = ?
+Inv-loop r survival table₀ last due₀ ends₀ i₀ table due ends i = (i ≤ last) × Back r 0 0 0 survival i due ends × Written (λ up k. worthOf (owing r) survival (owed 0 k) up k) i half table₀ table
 
 abbrev μ-loop : tie.MeasureT-loop
-μ-loop r survival table₀ last due₀ ends₀ i₀ table due ends i = ?
+μ-loop r survival table₀ last due₀ ends₀ i₀ table due ends i = last - i
 
 sub-lesser : tie.Need-sub-lesser Inv-loop μ-loop
-sub-lesser c = ?
+sub-lesser c = search needs
 
 lesser-requires : tie.Need-lesser-requires Inv-loop μ-loop
-lesser-requires c κs = ?
+lesser-requires c κs = search needs
 
 works-requires : tie.Need-works-requires Inv-loop μ-loop
-works-requires c κs = ?
+works-requires c κs = search needs
 
 worth-requires : tie.Need-worth-requires Inv-loop μ-loop
-worth-requires c κs = ?
+worth-requires c κs = search needs
 
 loop-holds : tie.Need-loop-holds Inv-loop μ-loop
-loop-holds c = ?
+loop-holds c = (omega arith, back-first (end-worth _ _ (owed 0 0) (omega (arith, c .before .before .before .before .before .pre .two)) (c .before .works .ensures) (c .worth .ensures)), written-none)
 
 add-write : tie.Need-add-write Inv-loop μ-loop
-add-write c = ?
+add-write c = search needs
 
 write-requires : tie.Need-write-requires Inv-loop μ-loop
-write-requires c κs = ?
+write-requires c κs = record { low = omega (arith, c .before .loop-test .taken, c .before .before .before .before .before .lesser .ensures, c .before .before .before .before .before .before .before .before .pre .list .size); room = room-kept (c .before .before .loop .inv .2 .kept) (c .before .before .before .before .before .before .before .before .pre .list .room) }
 
 before-requires : tie.Need-before-requires Inv-loop μ-loop
-before-requires c κs = ?
+before-requires c κs = rw (c .before .before .before .before .before .loop .inv .1 .is) (omega (arith, c .before .before .before .before .loop-test .taken, c .before .before .before .before .before .before .before .before .lesser .ensures, c .before .before .before .before .before .before .before .before .before .before .before .pre .list .size))
 
 must-work-requires : tie.Need-must-work-requires Inv-loop μ-loop
-must-work-requires c κs = ?
+must-work-requires c κs =
+    let l = c .before .before .before .before .before .loop-test .taken in
+    back-due (c .before .before .before .before .before .before .loop .inv .1) (c .before2 .ensures) (omega (arith, l, c .before .before .before .before .before .before .before .before .before .lesser .ensures)) (omega (arith, l, c .before .before .before .before .before .before .before .before .before .lesser .ensures)) (c .before .before .before .before .before .before .before .before .before .before .before .before .pre .list .units)
 
 add-i : tie.Need-add-i Inv-loop μ-loop
-add-i c = ?
+add-i c = search needs
 
 loop-less : tie.Need-loop-less Inv-loop μ-loop
-loop-less c = ?
+loop-less c = search needs
 
 loop-again : tie.Need-loop-again Inv-loop μ-loop
-loop-again c = ?
+loop-again c =
+    let v = c .before .before .before .before .before .before .before .loop .inv in
+    let l = c .before .before .before .before .before .before .loop-test .taken in
+    let same : c .before .before .before .before .before .before .before .loop .i - 0 ≡ c .before .before .before .before .before .before .before .loop .i = omega arith in (
+      omega (arith, l),
+      back-more (v .1) (c .before .before2 .ensures) (c .must-work .ensures),
+      written-more (c .before .before .before .before .write .ensures) refl (omega (arith, l, c .before .before .before .before .before .before .before .before .before .before .lesser .ensures, c .before .before .before .before .before .before .before .before .before .before .before .before .before .pre .list .size)) (rw (same, zero-add) at (back-last refl (v .1))) (v .2),
+    )
 
 same-length : tie.Need-same-length Inv-loop μ-loop
-same-length c = ?
+same-length c = c .before .loop .inv .2 .kept .long
 
 returns : tie.Need-returns Inv-loop μ-loop
-returns c = ?
+returns c =
+    let v = c .before .loop .inv in
+    let e : c .before .loop .i ≡ c .before .before .before .before .lesser .result = omega (arith, v .0, c .loop-test .left) in
+    (record { row = rw (e, c .before .before .before .before .lesser .ensures) at (v .2 .row) }, v .2 .kept)
 
 pub settle-spec : {M : Type 1} → statement M
 settle-spec =
