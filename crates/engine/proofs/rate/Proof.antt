@@ -1,78 +1,71 @@
--- `rate` takes the kinds apart; what each works out is the definition's. Assumes nothing.
+-- `rate` takes the kinds apart; the figure of each room is the rule's. Assumes nothing.
 use borrow.Author.Needs.{needs}
-use mathlib.Core.Logic.{inl, inr}
-use Rattle.engine.proofs.Cells.{both-as}
-use Rattle.engine.proofs.Whole.{ringed, ring-is, early-is, line-is}
+use Rattle.rules.proofs.Accepted.{range4, range5, range6, range7}
+use Rattle.engine.proofs.Rooms.{in-runs, in-gaps, is4, is5, is6, is7}
 use Rattle.engine.proofs.rate.Statement.{statement}
 use Rattle.engine.proofs.rate.Tie as tie
 
-sweep-requires : tie.Need-sweep-requires
-sweep-requires c κs = search needs
+line-requires : tie.Need-line-requires
+line-requires c κs = in-runs (c .before .before .before .before .before .pre) (range4 (c .before .before .before .before .before .pre .accepted) (c .before .match .keys1))
+
+ring-requires : tie.Need-ring-requires
+ring-requires c κs = in-runs (c .before .before .before .before .before .pre) (range5 (c .before .before .before .before .before .pre .accepted) (c .before .match .keys2))
+
+line-requires-2 : tie.Need-line-requires-2
+line-requires-2 c κs = in-gaps (c .before .before .before .before .before .pre) (range6 (c .before .before .before .before .before .pre .accepted) (c .before .match .keys3))
+
+ring-requires-2 : tie.Need-ring-requires-2
+ring-requires-2 c κs = in-gaps (c .before .before .before .before .before .pre) (range7 (c .before .before .before .before .before .pre .accepted) (c .before .match .keys4))
+
+rate-requires : tie.Need-rate-requires
+rate-requires c κs = search needs
 
 same-length : tie.Need-same-length
 same-length c = search needs
 
 returns : tie.Need-returns
-returns c =
-    let s = c .before .before .before .before .before .before .before .before .before .pre in
-    let e = c .before .before .sweep .ensures in
-    (both-as (λ up. early-is up _ _ _ (s .rated .size) (s .range) (c .before .before .before .before .if1 .taken)) (e .0), e .1)
-
-ring-requires : tie.Need-ring-requires
-ring-requires c κs =
-    let s = c .before .before .before .before .before .before .before .before .pre in
-    record { rated = s .rated; ringed = ringed _ _ _ (inl (c .before .if2 .taken)) (s .range); room = s .room }
+returns c = (is4 _ _ _ (c .before .before .before .before .match .keys1) (c .before .before .line .ensures .0), c .before .before .line .ensures .1)
 
 same-length-2 : tie.Need-same-length-2
 same-length-2 c = search needs
 
 returns-2 : tie.Need-returns-2
-returns-2 c =
-    let s = c .before .before .before .before .before .before .before .before .before .before .before .pre in
-    let r = ringed _ _ _ (inl (c .before .before .before .before .if2 .taken)) (s .range) in
-    let e = c .before .before .ring .ensures in
-    (both-as (λ up. ring-is up _ _ _ r (s .rated .some)) (e .0), e .1)
-
-ring-requires-2 : tie.Need-ring-requires-2
-ring-requires-2 c κs =
-    let s = c .before .before .before .before .before .before .before .before .before .before .pre in
-    record { rated = s .rated; ringed = ringed _ _ _ (inr (c .before .if3 .taken)) (s .range); room = s .room }
+returns-2 c = (is5 _ _ _ (c .before .before .before .before .match .keys2) (c .before .before .ring .ensures .0), c .before .before .ring .ensures .1)
 
 same-length-3 : tie.Need-same-length-3
 same-length-3 c = search needs
 
 returns-3 : tie.Need-returns-3
-returns-3 c =
-    let s = c .before .before .before .before .before .before .before .before .before .before .before .before .before .pre in
-    let r = ringed _ _ _ (inr (c .before .before .before .before .if3 .taken)) (s .range) in
-    let e = c .before .before .ring2 .ensures in
-    (both-as (λ up. ring-is up _ _ _ r (s .rated .some)) (e .0), e .1)
-
-line-requires : tie.Need-line-requires
-line-requires c κs = search needs
+returns-3 c = (is6 _ _ _ (c .before .before .before .before .match .keys3) (c .before .before .line2 .ensures .0), c .before .before .line2 .ensures .1)
 
 same-length-4 : tie.Need-same-length-4
 same-length-4 c = search needs
 
 returns-4 : tie.Need-returns-4
-returns-4 c =
-    let s = c .before .before .before .before .before .before .before .before .before .before .before .before .before .pre in
-    let e = c .before .before .line .ensures in
-    (both-as (λ up. line-is up _ _ _ (s .rated .size) (s .range) (c .before .before .before .before .before .before .before .before .if1 .left) (c .before .before .before .before .before .before .if2 .left) (c .before .before .before .before .if3 .left)) (e .0), e .1)
+returns-4 c = (is7 _ _ _ (c .before .before .before .before .match .keys4) (c .before .before .ring2 .ensures .0), c .before .before .ring2 .ensures .1)
+
+same-length-5 : tie.Need-same-length-5
+same-length-5 c = search needs
+
+returns-5 : tie.Need-returns-5
+returns-5 c = search needs
 
 pub rate-spec : {M : Type 1} → statement M
 rate-spec =
     tie.close
     (tie.spec
-    sweep-requires
+    line-requires
+    ring-requires
+    line-requires-2
+    ring-requires-2
+    rate-requires
     same-length
     returns
-    ring-requires
     same-length-2
     returns-2
-    ring-requires-2
     same-length-3
     returns-3
-    line-requires
     same-length-4
-    returns-4)
+    returns-4
+    same-length-5
+    returns-5)

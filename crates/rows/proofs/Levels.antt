@@ -1,0 +1,139 @@
+-- A level goes up by a component: every place that is read holds its sum's value, living or dead, and behind the limit nothing is written.
+-- Assumes nothing.
+use Prim.Native.Nat.{ℕ, suc, _+_, _-_, _≤_, _<_, min}
+use mathlib.Core.Path.{_≡_, refl, sym, ap, _∙_}
+use mathlib.Core.Bool.{Bool}
+use mathlib.Core.Logic.{_⊎_, inl, inr}
+use mathlib.Core.List.{List}
+use native.Mathlib.Decide.{decLt}
+use native.Mathlib.Nat.{add-zero}
+use native.Mathlib.Omega.{arith}
+use lib.ListN.{length, getD}
+use Rattle.rules.specs.declared.Rule.{Rule}
+use Rattle.rules.specs.State.{S}
+use Rattle.rules.specs.Below.{sumBelow}
+use Rattle.rules.specs.Figure.{figure, value}
+use Rattle.rules.specs.Accepted.{Ratable}
+use Rattle.rules.proofs.Rounding.{unchanged}
+use Rattle.memory.specs.Sum.{sum}
+use Rattle.places.specs.declared.Ends.{Ends}
+use Rattle.places.specs.Cells.{half, Both, cellAt, Kept, Row, Written}
+use Rattle.places.proofs.Cells.{both-as, room-kept, row-same, row-as}
+use Rattle.places.proofs.Values.{Chance, worth-suc}
+use Rattle.rows.specs.declared.Level.{Level}
+use Rattle.rows.specs.Kinds.{weightOf, loadOf, limitOf, gapOf, summed}
+use Rattle.rows.specs.Level.{sumsWorth, endsWorth, Side, Levelled}
+use Rattle.rows.proofs.Early.{gap-le, weight-le, load-more, load-upto, Early, early-is}
+use Rattle.rows.proofs.Climbs.{side-near, Climb}
+
+other-side : {from : ℕ} → Side from → Side (half - from)
+other-side (inl e) = inr (omega arith)
+other-side (inr e) = inl (omega arith)
+
+-- a place behind the limit, on either side, lies outside a row below the limit
+beside : {a b limit n : ℕ} (k : ℕ) → Side a → Side b → n ≤ limit → limit + k < half → (a + limit + k < b) ⊎ (b + n ≤ a + limit + k)
+beside k (inl e) (inl d) l h = inr (omega arith)
+beside k (inl e) (inr d) l h = inl (omega arith)
+beside k (inr e) (inl d) l h = inr (omega arith)
+beside k (inr e) (inr d) l h = inr (omega arith)
+
+list-kept : {rule : Rule} {survival weights t₀ t : List ℕ} → Kept t₀ t → Ratable rule survival weights t₀ → Ratable rule survival weights t
+list-kept k y = record { accepted = y .accepted; units = y .units; room = room-kept k (y .room) }
+
+module _ {rule : Rule} {survival weights : List ℕ} {s : Level} {t : List ℕ} (y : Levelled rule survival weights s t) where
+  abbrev early : Early rule survival weights
+  early = early-is (y .list) (y .early)
+
+  -- every place that can be read holds the value of its sum
+  known : (up : Bool) (k : ℕ) → k < s .reach → k < limitOf rule + gapOf rule → cellAt t up (s .from + k) ≡ sumsWorth rule survival weights (s .left) up k
+  known up k near l =
+      elim (decLt k (limitOf rule)) [
+        | yes a ↦ y .row .is up k (omega arith)
+        | no b ↦ let d : s .from + k ≡ s .from + limitOf rule + (k - limitOf rule) = omega arith in
+          ap (λ x. cellAt t up x) d ∙ y .behind (y .side) .is up (k - limitOf rule) (omega arith) ∙ sym (early .gone up (s .left) k (omega arith) (omega (arith, y .reach)))
+      ]
+
+  pub level-read : s .left ≡ length survival → {r : Ends} → Both (λ up. cellAt t up (s .from)) r → Both (λ up. figure up S rule survival weights) r
+  level-read all = both-as at
+    where
+      at : (up : Bool) → cellAt t up (s .from) ≡ figure up S rule survival weights
+      at up =
+          let d : s .from ≡ s .from + 0 = omega arith in
+          ap (λ x. cellAt t up x) d
+          ∙ known up 0 (omega (arith, y .reach, ap (λ i. loadOf rule weights i) all)) (omega (arith, early .some))
+          ∙ ap (λ i. sumsWorth rule survival weights i up 0) all
+          ∙ early .whole up
+
+  module _ (more : s .left < length survival) where
+    abbrev heavy : ℕ
+    heavy = weightOf rule weights (suc (s .left))
+
+    abbrev width : ℕ
+    width = min (limitOf rule) (s .reach - heavy)
+
+    -- the sums that are made can come, with the component's weight to spare
+    pub spare : heavy < s .reach
+    spare = omega (arith, y .reach, load-upto rule weights (s .left) (length survival) more)
+
+    pub level-climb : {p q : ℕ} → Chance survival (s .left) p q → Climb rule survival weights (s .left) (s .from) t p q heavy width
+    level-climb chance =
+        let light = weight-le (y .list .accepted) (suc (s .left)) in
+        record {
+          list = y .list;
+          side = y .side;
+          chance = chance;
+          is = refl;
+          narrow = omega (arith, early .most, gap-le rule);
+          row = record { is = λ up k l. known up k (omega (arith, spare)) (omega arith) };
+        }
+
+    pub level-up : {t' : List ℕ} → Written (sumsWorth rule survival weights (suc (s .left))) width (half - s .from) t t'
+        → Levelled rule survival weights (record { reach = s .reach - heavy; left = suc (s .left); from = half - s .from }) t'
+    level-up w =
+        let most = early .most in
+        let gap = gap-le rule in
+        record {
+          list = list-kept (w .kept) (y .list);
+          early = y .early;
+          side = other-side (y .side);
+          some = omega arith;
+          reach = omega (arith, y .reach, spare, load-more rule weights (s .left));
+          row = w .row;
+          behind = λ {side} b. row-same (λ up k l. w .other up _ (omega (arith, side-near b)) (beside k b (other-side (y .side)) (omega arith) (omega arith))) (y .behind b);
+        }
+
+    -- a component of no weight
+    pub level-same : heavy ≡ 0 → Levelled rule survival weights (record { reach = s .reach; left = suc (s .left); from = s .from }) t
+    level-same none = record {
+      list = y .list;
+      early = y .early;
+      side = y .side;
+      some = omega arith;
+      reach = omega (arith, y .reach, load-more rule weights (s .left));
+      row = row-as (λ up k l. sym (worth-suc (summed rule weights) survival (s .left) (sum k) up ∙ rw (none, add-zero) (unchanged up S (getD survival (s .left) 0) _ (omega arith) (y .list .units (s .left))))) (y .row);
+      behind = y .behind;
+    }
+
+-- with no components left
+pub level-none : {rule : Rule} {survival weights t₀ t₁ t₂ t₃ : List ℕ} → Ratable rule survival weights t₀ → rule .kind ≤ 3 → Written (endsWorth rule) (limitOf rule) 0 t₀ t₁
+    → Written (λ up k. 0) (gapOf rule) (limitOf rule) t₁ t₂ → Written (λ up k. 0) (gapOf rule) (half + limitOf rule) t₂ t₃
+    → Levelled rule survival weights (record { reach = loadOf rule weights (length survival) + 1; left = 0; from = 0 }) t₃
+unfolding value sumBelow
+level-none {rule} {t₃ = t₃} y small a b c =
+    let most = early-is y small .most in
+    let gap = gap-le rule in
+    record {
+      list = list-kept (c .kept) (list-kept (b .kept) (list-kept (a .kept) y));
+      early = small;
+      side = inl refl;
+      some = omega arith;
+      reach = omega arith;
+      row = record { is = λ up k l. c .other up (0 + k) (omega arith) (inl (omega arith)) ∙ b .other up (0 + k) (omega arith) (inl (omega arith)) ∙ a .row .is up k (omega arith) };
+      behind = behind;
+    }
+  where
+    behind : {side : ℕ} → Side side → Row (λ up k. 0) t₃ (side + limitOf rule) (gapOf rule)
+    behind {side} (inl e) =
+        let d : side + limitOf rule ≡ limitOf rule = omega arith in
+        rw d (row-same (λ up k l. c .other up _ (omega (arith, early-is y small .most, gap-le rule)) (inl (omega (arith, early-is y small .most, gap-le rule)))) (b .row))
+    behind (inr e) = rw e (c .row)

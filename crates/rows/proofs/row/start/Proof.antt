@@ -1,0 +1,71 @@
+-- `start` writes one sum more a turn. Assumes nothing.
+use borrow.Author.Needs.{needs}
+use Prim.Native.Nat.{_≤_, _-_}
+use mathlib.Core.Path.{_≡_, _∙_}
+use native.Mathlib.Omega.{arith}
+use Rattle.places.specs.Cells.{Written}
+use Rattle.places.proofs.Cells.{room-kept, written-none, written-more}
+use Rattle.rows.specs.Level.{endsWorth}
+use Rattle.rows.proofs.row.start.Statement.{statement}
+use Rattle.rows.proofs.row.start.Tie as tie
+
+abbrev Inv-loop : tie.InvT-loop
+Inv-loop rule table₀ limit m₀ table m = (m ≤ limit) × Written (endsWorth rule) m 0 table₀ table
+
+abbrev μ-loop : tie.MeasureT-loop
+μ-loop rule table₀ limit m₀ table m = limit - m
+
+limit-requires : tie.Need-limit-requires Inv-loop μ-loop
+limit-requires c κs = search needs
+
+loop-holds : tie.Need-loop-holds Inv-loop μ-loop
+loop-holds c = (omega arith, written-none)
+
+works-requires : tie.Need-works-requires Inv-loop μ-loop
+works-requires c κs = search needs
+
+worth-requires : tie.Need-worth-requires Inv-loop μ-loop
+worth-requires c κs = search needs
+
+write-requires : tie.Need-write-requires Inv-loop μ-loop
+write-requires c κs =
+    let o = c .before .before .before .before in
+    let pre = o .before .before .before .pre in
+    record { low = omega (arith, pre .low, o .before .limit .ensures); room = room-kept (o .loop .inv .1 .kept) (pre .room) }
+
+add-m : tie.Need-add-m Inv-loop μ-loop
+add-m c = search needs
+
+loop-less : tie.Need-loop-less Inv-loop μ-loop
+loop-less c = search needs
+
+loop-again : tie.Need-loop-again Inv-loop μ-loop
+loop-again c =
+    let o = c .before .before .before .before .before .before .before in
+    let e = rw (c .before .before .before .before .before .works .ensures) at (c .before .before .before .worth .ensures) in
+    (omega arith, written-more (c .before .before .write .ensures) (omega arith) (omega (arith, o .before .before .before .pre .low, o .before .limit .ensures)) e (o .loop .inv .1))
+
+same-length : tie.Need-same-length Inv-loop μ-loop
+same-length c = c .before .loop .inv .1 .kept .long
+
+returns : tie.Need-returns Inv-loop μ-loop
+returns c =
+    let e : c .before .loop .m ≡ c .before .before .limit .result = omega arith in
+    rw (e, c .before .before .limit .ensures) at (c .before .loop .inv .1)
+
+pub start-spec : {M : Type 1} → statement M
+start-spec =
+    tie.close
+    (tie.spec
+    Inv-loop
+    μ-loop
+    limit-requires
+    loop-holds
+    works-requires
+    worth-requires
+    write-requires
+    add-m
+    loop-less
+    loop-again
+    same-length
+    returns)

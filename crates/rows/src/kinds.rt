@@ -1,0 +1,75 @@
+// What kinds 1 to 3 differ in: how far a failed component carries a sum, from where on sums are dead, and what is asked at the end.
+ghost use mathlib.Core.Path.{_≡_};
+ghost use Prim.Native.Nat.{suc, _<_};
+ghost use lib.ListN.{length};
+ghost use Rattle.rules.specs.Accepted.{Accepted};
+ghost use Rattle.rows.specs.Kinds.{endOf, gapOf, limitOf, loadOf, weightOf};
+use memory::sum::Sum;
+use rules::Rule;
+
+// What kind 2's weights add up to at most.
+const HEAVIEST: usize = 120;
+
+// One more than the most components: as many sums as kind 3 can come to.
+const PAST_ALL: usize = 65;
+
+// From here on sums are dead, or never come.
+pub fn limit(rule: Rule) -> usize
+    ensures { λ r. ⌜ r ≡ limitOf rule ⌝ }
+{
+    if rule.kind == 3 {
+        return PAST_ALL;
+    }
+    rule.first as usize
+}
+
+// How many sums from the limit on one component can come to.
+pub fn gap(rule: Rule) -> usize
+    ensures { λ r. ⌜ r ≡ gapOf rule ⌝ }
+{
+    if rule.kind == 2 {
+        return HEAVIEST;
+    }
+    1
+}
+
+fn wide(weight: u16) -> usize
+    ensures { λ r. ⌜ r ≡ weight ⌝ }
+{
+    weight as usize
+}
+
+// How far component i + 1 carries a sum where it fails.
+pub fn weight(rule: Rule, weights: &[u16], i: usize) -> usize
+    requires { ⌜ (rule .kind ≡ 2 → i < length (now weights)) ⌝ }
+    ensures { λ r. ⌜ r ≡ weightOf rule (now (weights .entry)) (suc i) ⌝ }
+{
+    if rule.kind == 2 {
+        return wide(weights[i]);
+    }
+    1
+}
+
+// And the first n together.
+pub fn load(rule: Rule, weights: &[u16], n: usize) -> usize
+    requires { ⌜ Accepted rule n (now weights) ⌝ }
+    ensures { λ r. ⌜ r ≡ loadOf rule (now (weights .entry)) n ⌝ }
+{
+    let mut sum: usize = 0;
+    let mut i: usize = 0;
+    while i < n {
+        sum += weight(rule, weights, i);
+        i += 1;
+    }
+    sum
+}
+
+// Whether a sum works at the end.
+pub fn works(rule: Rule, m: Sum) -> bool
+    ensures { λ r. ⌜ r ≡ endOf rule m ⌝ }
+{
+    if rule.kind == 3 {
+        return m.outside(rule.first as usize, rule.second as usize);
+    }
+    m.below(rule.first as usize)
+}
