@@ -4,9 +4,13 @@ ghost use mathlib.Core.Path.{_≡_};
 ghost use Prim.Native.Nat.{_≤_};
 ghost use lib.ListN.{length};
 ghost use Rattle.rules.specs.Below.{total, within};
-ghost use Rattle.rules.specs.Refusal.{badKind, badSize, rangeOne, rangeTwo};
-ghost use Rattle.refusals.specs.Shared.{rangeOut, ratedRefusal, ruleRefusal};
+ghost use Rattle.rules.specs.Refusal.{most, badKind, badSize, rangeOne, rangeTwo, ranged};
+ghost use Rattle.refusals.specs.Shared.{ratedRefusal, ruleRefusal};
 use rules::Rule;
+
+// The most components of a list, and the heaviest total of those rated.
+const MOST: u64 = 64;
+const HEAVIEST: u64 = 120;
 
 // Is x outside a range, whose ends belong to it?
 pub fn outside(low: u64, x: u64, high: u64) -> bool
@@ -30,12 +34,12 @@ pub fn kind_out(rule: Rule) -> bool
 pub fn size_out(n: u64) -> bool
     ensures { λ r. ⌜ r ≡ badSize n ⌝ }
 {
-    outside(1, n, 64)
+    outside(1, n, MOST)
 }
 
 // The total weight: at most 64 weights of 16 bits.
 pub fn total_of(weights: &[u16]) -> u64
-    requires { ⌜ length (now weights) ≤ 64 ⌝ }
+    requires { ⌜ length (now weights) ≤ most ⌝ }
     ensures { λ r. ⌜ r ≡ total (now (weights .entry)) ⌝ }
 {
     let mut sum: u64 = 0;
@@ -69,7 +73,7 @@ fn two_out(first: u64, r: u64, n: u64) -> bool
 
 // Refusal 6, over the total weight of the components rated; only kind 2 asks for it.
 pub fn range_out(rule: Rule, n: u64, total: u64) -> bool
-    ensures { λ r. ⌜ r ≡ rangeOut rule n total ⌝ }
+    ensures { λ r. ⌜ r ≡ not (ranged rule n total) ⌝ }
 {
     let kind = rule.kind;
     match kind {
@@ -83,7 +87,7 @@ pub fn range_out(rule: Rule, n: u64, total: u64) -> bool
 
 // Refusals 5 and 6 of a list of `whole` components with `listed` weights, of which n are rated, with the weights `rated`.
 pub fn rated_refusal(rule: Rule, whole: u64, listed: u64, n: u64, rated: &[u16]) -> u64
-    requires { ⌜ (whole ≤ 64) × (length (now rated) ≤ listed) ⌝ }
+    requires { ⌜ (whole ≤ most) × (length (now rated) ≤ listed) ⌝ }
     ensures { λ r. ⌜ r ≡ ratedRefusal rule whole listed n (total (now (rated .entry))) ⌝ }
 {
     if rule.kind != 2 {
@@ -96,7 +100,7 @@ pub fn rated_refusal(rule: Rule, whole: u64, listed: u64, n: u64, rated: &[u16])
         return 5;
     }
     let total = total_of(rated);
-    if 120 < total {
+    if HEAVIEST < total {
         return 5;
     }
     if range_out(rule, n, total) {

@@ -49,7 +49,7 @@ module _ (n : ℕ) (weights : List ℕ) (w : ℕ) (small : w < 2 ^ n) (first sec
 pub reading-is-verdict : (rule : Rule) (n : ℕ) (weights : List ℕ) (w : ℕ) → inRange rule n weights ≡ true → w < 2 ^ n
     → run (machine rule weights) n (machine rule weights .start) w ≡ works rule n weights w
 reading-is-verdict rule n weights w e small =
-    let k = range-kind rule n weights e in
+    let k = range-kind rule n _ e in
     by-kind n weights w small (rule .first) (rule .second) (rule .kind) (k .0) (k .1) e
 
 -- the counts, as a reading gives them

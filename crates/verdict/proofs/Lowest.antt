@@ -2,7 +2,7 @@
 -- the bound. Assumes nothing.
 use mathlib.Core.Path.{_≡_, refl, _∙_}
 use mathlib.Core.Logic.{_⊎_, inl, inr}
-use mathlib.Core.Bool.{Bool, true, false, _||_, true≢false}
+use mathlib.Core.Bool.{Bool, true, false}
 use Prim.Native.Nat.{ℕ, zero, suc, _+_, _<_}
 use native.Mathlib.Omega.{arith}
 use native.Mathlib.Nat.{eq-or-lt-of-le, le-of-suc-le-suc}
@@ -12,6 +12,7 @@ use borrow.Author.Tests.{lt-ltb, le-ltb, ltb-true}
 use Rattle.rules.specs.Below.{some}
 use Rattle.rules.specs.State.{starts}
 use Rattle.rules.specs.Verdict.{someWindow}
+use Rattle.rules.proofs.Tests.{neither}
 use Rattle.rules.proofs.Windows.{some-found}
 use Rattle.verdict.specs.First.{first, firstWindow}
 
@@ -36,12 +37,7 @@ module _ (p : ℕ → Bool) where
   pub nowhere : (k : ℕ) → some p k ≡ false → first p k ≡ k
   unfolding first some
   nowhere zero e = refl
-  nowhere (suc k) e = go (some p k) (p k) refl refl e
-    where
-      go : (a b : Bool) → some p k ≡ a → p k ≡ b → a || b ≡ false → first p (suc k) ≡ suc k
-      go false false s q o = rw (s, q)
-      go false true s q o = absurd (true≢false o)
-      go true b s q o = absurd (true≢false o)
+  nowhere (suc k) e = let h = neither (some p k) (p k) e in rw (h .0, h .1)
 
   pub there-or-not : (k : ℕ) → ltb (first p k) k ≡ some p k
   unfolding first some

@@ -3,9 +3,9 @@
 use mathlib.Core.Path.{_≡_, refl, sym, ap, subst, _∙_}
 use mathlib.Core.Logic.{_↔_}
 use mathlib.Core.Bool.{Bool, true, false, cond}
-use Prim.Native.Nat.{ℕ, zero, suc, _+_, _-_, _*_, _/_, _%_, _^_, _≤_, _<_}
+use Prim.Native.Nat.{ℕ, _+_, _-_, _*_, _/_, _%_, _^_, _≤_, _<_}
 use native.Mathlib.Omega.{arith}
-use native.Mathlib.Nat.{mod-lt, mod-eq-of-lt, lt-of-lt-of-le, add-zero, add-suc, le-trans, lt-of-not-le, not-le-of-lt, pow-succ', le-div-iff-mul-le}
+use native.Mathlib.Nat.{mod-lt, mod-eq-of-lt, lt-of-lt-of-le, add-zero, le-trans, lt-of-not-le, not-le-of-lt, pow-succ', le-div-iff-mul-le}
 use lib.Dec.{leb, ltb}
 use borrow.Author.Tests.{leb-true, leb-false, le-leb, lt-leb}
 use lib.Count.{ones, ones-le}
@@ -13,8 +13,10 @@ use lib.Pow.{pow-pos, pow-mono, shr-shr, shr-lt, high, ones-split, ones-lt}
 use Rattle.rules.specs.Below.{held}
 use Rattle.rules.specs.State.{down, window, heldIn}
 use Rattle.rules.specs.Refusal.{highOne}
+use Rattle.rules.proofs.Tests.{by-test}
 use Rattle.rules.proofs.Sums.{held-same}
 use Rattle.rules.proofs.Bits.{held-ones}
+use Rattle.rules.proofs.Words.{held-add}
 use Rattle.rules.proofs.Windows.{at, turned}
 
 -- the full word shifted down
@@ -24,11 +26,6 @@ ones-shifted width l =
     let s : 2 ^ 64 - 1 ≡ (2 ^ width - 1) * 2 ^ (64 - width) + (2 ^ (64 - width) - 1) =
     ap (λ x. 2 ^ x - 1) e ∙ ones-split width (64 - width) in
     ap (λ x. x / 2 ^ (64 - width)) s ∙ high (2 ^ width - 1) (64 - width) (ones-lt (64 - width))
-
-held-split : (p : ℕ → Bool) (i j : ℕ) → held p (i + j) ≡ held p i + held (λ d. p (i + d)) j
-unfolding held
-held-split p i zero = rw (add-zero i) (omega arith)
-held-split p i (suc j) = rw add-suc (omega (arith, held-split p i j))
 
 held-masked : (w a k : ℕ) → held (λ d. down (a + d) w) k ≡ ones (w / 2 ^ a % 2 ^ k)
 held-masked w a k = held-same _ _ k (λ d l. rw (shr-shr w a d)) ∙ held-ones (w / 2 ^ a) k
@@ -54,7 +51,7 @@ two-counts n a w width small l fits past =
     ∙ sym (mod-eq-of-lt {n = w / 2 ^ a} {m = 2 ^ i} top))
     ∙ ap (λ x. x + ones (w / 2 ^ 0 % 2 ^ j)) (one-count n a w i (omega arith))
     ∙ ap (λ x. heldIn n a w i + x) (sym low)
-    ∙ sym (held-split (window n a w) i j)
+    ∙ sym (held-add (window n a w) i j)
     ∙ ap (heldIn n a w) whole
 
 -- a count of at most 64 bits
@@ -71,8 +68,7 @@ weight-down w i x = ap (λ k. k * x) (sym (held-masked w i 1)) ∙ rw (add-zero 
     go false = omega arith
 
 pub weight-most : (t : Bool) (x : ℕ) → cond t x 0 ≤ x
-weight-most true x = omega arith
-weight-most false x = omega arith
+weight-most t x = by-test (λ y. y ≤ x) t x 0 (λ _. omega arith) (λ _. omega arith)
 
 -- a one above bit n - 1
 leb-same : (a b c d : ℕ) → (a ≤ b → c ≤ d) → (c ≤ d → a ≤ b) → leb a b ≡ leb c d

@@ -4,11 +4,11 @@ ghost use Prim.Native.Nat.{_+_, _-_, _/_, _%_, _^_, _<_, _≤_};
 ghost use lib.Count.{ones};
 ghost use lib.ListN.{length};
 ghost use Rattle.rules.specs.State.{heldIn};
-ghost use Rattle.rules.specs.Verdict.{someWindow, fails};
-ghost use Rattle.rules.specs.Refusal.{highOne};
+ghost use Rattle.rules.specs.Verdict.{weightDown, someWindow, fails};
+ghost use Rattle.rules.specs.Refusal.{most, highOne};
+ghost use Rattle.rules.specs.Accepted.{Accepted};
 ghost use Rattle.rules.specs.Answer.{verdictOf};
-ghost use Rattle.refusals.specs.Accepted.{Accepted};
-ghost use Rattle.verdict.specs.First.{firstWindow, weightDown};
+ghost use Rattle.verdict.specs.First.{firstWindow};
 use rules::Rule;
 use rules::Verdict;
 
@@ -38,7 +38,7 @@ fn ones_in(w: u64, a: u64, width: u64) -> u64
 
 // The ones of a window: those up to n, and where it runs past n those from 1 on. The word twice over would not fit 64 bits.
 fn held_from(n: u64, a: u64, w: u64, width: u64) -> u64
-    requires { ⌜ (a < n) × (1 ≤ width) × (width ≤ n) × (n ≤ 64) × (w < 2 ^ n) ⌝ }
+    requires { ⌜ (a < n) × (1 ≤ width) × (width ≤ n) × (n ≤ most) × (w < 2 ^ n) ⌝ }
     ensures { λ r. ⌜ r ≡ heldIn n a w width ⌝ }
 {
     let high = ones_in(w, a, width);
@@ -51,7 +51,7 @@ fn held_from(n: u64, a: u64, w: u64, width: u64) -> u64
 
 // The lowest of the starts at which a window holds `need` ones or more; the number of starts where none does.
 fn first_window(n: u64, width: u64, need: u64, w: u64, starts: u64) -> u64
-    requires { ⌜ (1 ≤ width) × (width ≤ n) × (n ≤ 64) × (w < 2 ^ n) × (starts ≤ n) ⌝ }
+    requires { ⌜ (1 ≤ width) × (width ≤ n) × (n ≤ most) × (w < 2 ^ n) × (starts ≤ n) ⌝ }
     ensures { λ r. ⌜ r ≡ firstWindow n width need w starts ⌝ }
 {
     let mut a: u64 = 0;
@@ -66,7 +66,7 @@ fn first_window(n: u64, width: u64, need: u64, w: u64, starts: u64) -> u64
 
 // Kinds 4 to 7: on the ring a window starts anywhere, on the line so that it ends by n.
 fn some_window(ring: bool, n: u64, width: u64, need: u64, w: u64) -> bool
-    requires { ⌜ (1 ≤ width) × (width ≤ n) × (n ≤ 64) × (w < 2 ^ n) ⌝ }
+    requires { ⌜ (1 ≤ width) × (width ≤ n) × (n ≤ most) × (w < 2 ^ n) ⌝ }
     ensures { λ r. ⌜ r ≡ someWindow ring n width need w ⌝ }
 {
     if ring {
@@ -78,7 +78,7 @@ fn some_window(ring: bool, n: u64, width: u64, need: u64, w: u64) -> bool
 
 // Kind 2: the weights of the failed components, each component a window of one.
 fn weighed(n: u64, weights: &[u16], w: u64) -> u64
-    requires { ⌜ (length (now weights) ≡ n) × (n ≤ 64) ⌝ }
+    requires { ⌜ (length (now weights) ≡ n) × (n ≤ most) ⌝ }
     ensures { λ r. ⌜ r ≡ weightDown n (now (weights .entry)) w ⌝ }
 {
     let mut sum: u64 = 0;
@@ -92,7 +92,7 @@ fn weighed(n: u64, weights: &[u16], w: u64) -> u64
 
 // Refusal 9: above bit n - 1 nothing may stand.
 fn high_one(n: u64, w: u64) -> bool
-    requires { ⌜ (1 ≤ n) × (n ≤ 64) ⌝ }
+    requires { ⌜ (1 ≤ n) × (n ≤ most) ⌝ }
     ensures { λ r. ⌜ r ≡ highOne n w ⌝ }
 {
     1 < w >> (n - 1)

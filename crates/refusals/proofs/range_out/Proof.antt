@@ -1,9 +1,10 @@
 -- `refusals::range_out` meets its contract: each arm is the row of its kinds, and a kind of no arm has no row. Assumes nothing.
-use mathlib.Core.Path.{sym, _∙_}
+use mathlib.Core.Path.{sym, ap, _∙_}
+use mathlib.Core.Bool.{not}
 use mathlib.Core.Logic.{inl, inr, ⊎-elim}
 use native.Mathlib.Omega.{arith}
 use borrow.Author.Needs.{needs}
-use Rattle.refusals.specs.Shared.{rangeOut}
+use Rattle.rules.specs.Refusal.{ranged}
 use Rattle.refusals.proofs.Laws.{range-one, range-two, range-none}
 use Rattle.refusals.proofs.range_out.Statement.{statement}
 use Rattle.refusals.proofs.range_out.Tie as tie
@@ -21,26 +22,26 @@ one-out-requires-2 : tie.Need-one-out-requires-2
 one-out-requires-2 c κs = search needs
 
 returns : tie.Need-returns
-unfolding rangeOut
+unfolding ranged
 returns c = rw (c .before .match .keys2) (c .one-out .ensures)
 
 returns-2 : tie.Need-returns-2
-unfolding rangeOut
+unfolding ranged
 returns-2 c = rw (c .before .match .keys3) (c .outside .ensures)
 
 returns-3 : tie.Need-returns-3
-returns-3 c = c .two-out .ensures ∙ sym (range-two _ _ _ (omega arith) (omega arith))
+returns-3 c = c .two-out .ensures ∙ ap not (sym (range-two _ _ _ (omega arith) (omega arith)))
 
 returns-4 : tie.Need-returns-4
-returns-4 c = sym (range-none _ _ _ (inl (omega arith)))
+returns-4 c = ap not (sym (range-none _ _ _ (λ l. omega arith)))
 
 returns-5 : tie.Need-returns-5
-returns-5 c = sym (range-none _ _ _ (inr (omega arith)))
+returns-5 c = ap not (sym (range-none _ _ _ (λ l. omega arith)))
 
 returns-6 : tie.Need-returns-6
 returns-6 c =
     c .one-out2 .ensures
-    ∙ sym (range-one _ _ _ (⊎-elim (λ w. inl (w .keys1)) (λ w. inr (omega arith, omega arith)) (c .before .match .came)))
+    ∙ ap not (sym (range-one _ _ _ (⊎-elim (λ w. inl (w .keys1)) (λ w. inr (omega arith, omega arith)) (c .before .match .came))))
 
 pub range-out-spec : {M : Type 1} → statement M
 range-out-spec =

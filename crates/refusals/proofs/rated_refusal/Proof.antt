@@ -5,40 +5,42 @@ use mathlib.Core.Bool.{Bool, true, false, cond}
 use Prim.Native.Nat.{ℕ, _≤_, _<_}
 use native.Mathlib.Omega.{arith}
 use borrow.Author.Needs.{needs}
-use borrow.Author.Tests.{eq-eqb, ne-eqb, le-ltb, lt-ltb}
+use borrow.Author.Tests.{eq-eqb, ne-eqb, le-ltb, lt-ltb, not-true, not-false}
 use Rattle.rules.specs.declared.Rule.{Rule}
-use Rattle.rules.specs.Refusal.{firstOf}
-use Rattle.refusals.specs.Shared.{rangeOut, ratedRefusal}
-use Rattle.refusals.proofs.Laws.{range-other}
+use Rattle.rules.specs.Refusal.{heaviest, weightsOut, ranged, firstOf}
+use Rattle.rules.proofs.Accepted.{unread-range}
+use Rattle.refusals.specs.Shared.{ratedRefusal}
 use Rattle.refusals.proofs.rated_refusal.Statement.{statement}
 use Rattle.refusals.proofs.rated_refusal.Tie as tie
 
 module _ (rule : Rule) (whole listed n t : ℕ) where
-  other : (out : Bool) → rangeOut rule n 0 ≡ out → (rule .kind ≡ 2 → ⊥) → ratedRefusal rule whole listed n t ≡ cond out 6 0
-  unfolding ratedRefusal firstOf
-  other out o h = rw (ne-eqb (rule .kind) 2 h, range-other rule n t 0 h, o)
+  other : (fits : Bool) → ranged rule n 0 ≡ fits → (rule .kind ≡ 2 → ⊥) → ratedRefusal rule whole listed n t ≡ cond fits 0 6
+  unfolding ratedRefusal firstOf weightsOut
+  other true f h = rw (ne-eqb (rule .kind) 2 h, unread-range rule n t 0 h, f)
+  other false f h = rw (ne-eqb (rule .kind) 2 h, unread-range rule n t 0 h, f)
 
-  not-listed : rule .kind ≡ 2 → (listed ≡ whole → ⊥) → ratedRefusal rule whole listed n t ≡ 5
-  unfolding ratedRefusal firstOf
-  not-listed two h = rw (eq-eqb (rule .kind) 2 two, ne-eqb listed whole h)
+  module _ (two : rule .kind ≡ 2) where
+    not-listed : (listed ≡ whole → ⊥) → ratedRefusal rule whole listed n t ≡ 5
+    unfolding ratedRefusal firstOf weightsOut
+    not-listed h = rw (eq-eqb (rule .kind) 2 two, ne-eqb listed whole h)
 
-  heavy : rule .kind ≡ 2 → listed ≡ whole → 120 < t → ratedRefusal rule whole listed n t ≡ 5
-  unfolding ratedRefusal firstOf
-  heavy two e l = rw (eq-eqb (rule .kind) 2 two, eq-eqb listed whole e, lt-ltb 120 t l)
+    heavy : listed ≡ whole → heaviest < t → ratedRefusal rule whole listed n t ≡ 5
+    unfolding ratedRefusal firstOf weightsOut
+    heavy e l = rw (eq-eqb (rule .kind) 2 two, eq-eqb listed whole e, lt-ltb heaviest t l)
 
-  weighed : (out : Bool) → rangeOut rule n t ≡ out → rule .kind ≡ 2 → listed ≡ whole → t ≤ 120
-      → ratedRefusal rule whole listed n t ≡ cond out 6 0
-  unfolding ratedRefusal firstOf
-  weighed out o two e l = rw (eq-eqb (rule .kind) 2 two, eq-eqb listed whole e, le-ltb 120 t l, o)
+    weighed : (fits : Bool) → ranged rule n t ≡ fits → listed ≡ whole → t ≤ heaviest → ratedRefusal rule whole listed n t ≡ cond fits 0 6
+    unfolding ratedRefusal firstOf weightsOut
+    weighed true f e l = rw (eq-eqb (rule .kind) 2 two, eq-eqb listed whole e, le-ltb heaviest t l, f)
+    weighed false f e l = rw (eq-eqb (rule .kind) 2 two, eq-eqb listed whole e, le-ltb heaviest t l, f)
 
 range-out-requires : tie.Need-range-out-requires
 range-out-requires c κs = search needs
 
 returns : tie.Need-returns
-returns c = sym (other _ _ _ _ _ true (sym (c .before .range-out .ensures) ∙ c .if2 .taken) (c .before .before .if1 .taken))
+returns c = sym (other _ _ _ _ _ false (not-true _ (sym (c .before .range-out .ensures) ∙ c .if2 .taken)) (c .before .before .if1 .taken))
 
 returns-2 : tie.Need-returns-2
-returns-2 c = sym (other _ _ _ _ _ false (sym (c .before .range-out .ensures) ∙ c .if2 .left) (c .before .before .if1 .taken))
+returns-2 c = sym (other _ _ _ _ _ true (not-false _ (sym (c .before .range-out .ensures) ∙ c .if2 .left)) (c .before .before .if1 .taken))
 
 returns-3 : tie.Need-returns-3
 returns-3 c = sym (not-listed _ _ _ _ _ (c .before .if1 .left) (c .if3 .taken))
@@ -47,7 +49,7 @@ total-of-requires : tie.Need-total-of-requires
 total-of-requires c κs = search needs
 
 returns-4 : tie.Need-returns-4
-returns-4 c = sym (heavy _ _ _ _ _ (c .before .before .before .if1 .left) (c .before .before .if3 .left) (omega (arith)))
+returns-4 c = sym (heavy _ _ _ _ _ (c .before .before .before .if1 .left) (c .before .before .if3 .left) (omega arith))
 
 range-out-requires-2 : tie.Need-range-out-requires-2
 range-out-requires-2 c κs = search needs
@@ -56,8 +58,8 @@ returns-5 : tie.Need-returns-5
 returns-5 c =
     rw (← c .before .before .before .total-of .ensures)
     (sym
-    (weighed _ _ _ _ _ true (sym (c .before .range-out2 .ensures) ∙ c .if5 .taken)
-    (c .before .before .before .before .before .if1 .left)
+    (weighed _ _ _ _ _ (c .before .before .before .before .before .if1 .left) false
+    (not-true _ (sym (c .before .range-out2 .ensures) ∙ c .if5 .taken))
     (c .before .before .before .before .if3 .left)
     (c .before .before .if4 .left)))
 
@@ -65,8 +67,8 @@ returns-6 : tie.Need-returns-6
 returns-6 c =
     rw (← c .before .before .before .total-of .ensures)
     (sym
-    (weighed _ _ _ _ _ false (sym (c .before .range-out2 .ensures) ∙ c .if5 .left)
-    (c .before .before .before .before .before .if1 .left)
+    (weighed _ _ _ _ _ (c .before .before .before .before .before .if1 .left) true
+    (not-false _ (sym (c .before .range-out2 .ensures) ∙ c .if5 .left))
     (c .before .before .before .before .if3 .left)
     (c .before .before .if4 .left)))
 

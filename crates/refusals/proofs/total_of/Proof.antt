@@ -8,6 +8,7 @@ use lib.ListN.{length, drop, getD, drop-of-length-le}
 use lib.Seq.{drop-cons}
 use borrow.Author.Needs.{needs}
 use Rattle.rules.specs.Below.{total}
+use Rattle.refusals.specs.Shared.{largest}
 use Rattle.refusals.proofs.total_of.Statement.{statement}
 use Rattle.refusals.proofs.total_of.Tie as tie
 
@@ -20,7 +21,7 @@ unfolding total
 done ws i l = rw (drop-of-length-le ws l)
 
 abbrev Inv-loop : tie.InvT-loop
-Inv-loop weights sum₀ i₀ sum i = (i ≤ length weights) × (sum ≤ 65535 * i) × (sum + total (drop i weights) ≡ total weights)
+Inv-loop weights sum₀ i₀ sum i = (i ≤ length weights) × (sum ≤ largest * i) × (sum + total (drop i weights) ≡ total weights)
 
 abbrev μ-loop : tie.MeasureT-loop
 μ-loop weights sum₀ i₀ sum i = length weights - i

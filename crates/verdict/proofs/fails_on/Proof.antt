@@ -10,19 +10,19 @@ use borrow.Author.Tests.{le-leb, lt-leb}
 use Rattle.rules.specs.declared.Rule.{Rule}
 use Rattle.rules.specs.Below.{within}
 use Rattle.rules.specs.Verdict.{fails}
-use Rattle.verdict.specs.First.{weightDown}
-use Rattle.refusals.specs.Accepted.{Accepted, One, Two}
-use Rattle.refusals.proofs.Laws.{range4, range5, range6, range7}
+use Rattle.rules.specs.Refusal.{most}
+use Rattle.rules.specs.Accepted.{Accepted, One, Two}
+use Rattle.rules.proofs.Accepted.{range4, range5, range6, range7}
 use Rattle.verdict.proofs.fails_on.Statement.{statement}
 use Rattle.verdict.proofs.fails_on.Tie as tie
 
 -- what a window needs
 one-window : {rule : Rule} {n : ℕ} {ws : List ℕ} {w k second : ℕ} → (Accepted rule n ws) × (w < 2 ^ n) → One k n second
-    → (1 ≤ k) × (k ≤ n) × (n ≤ 64) × (w < 2 ^ n)
+    → (1 ≤ k) × (k ≤ n) × (n ≤ most) × (w < 2 ^ n)
 one-window pre o = (o .low, o .high, pre .0 .size-high, pre .1)
 
 two-window : {rule : Rule} {n : ℕ} {ws : List ℕ} {w first r : ℕ} → (Accepted rule n ws) × (w < 2 ^ n) → Two first r n
-    → (1 ≤ r) × (r ≤ n) × (n ≤ 64) × (w < 2 ^ n)
+    → (1 ≤ r) × (r ≤ n) × (n ≤ most) × (w < 2 ^ n)
 two-window pre t = (omega arith, t .high, pre .0 .size-high, pre .1)
 
 -- kind 3's two tests
@@ -47,29 +47,29 @@ weighed-requires c κs =
 some-window-requires : tie.Need-some-window-requires
 some-window-requires c κs =
     let pre = c .before .before .before .pre in
-    one-window pre (range4 _ _ _ (pre .0) (c .match .keys4))
+    one-window pre (range4 (pre .0) (c .match .keys4))
 
 some-window-requires-2 : tie.Need-some-window-requires-2
 some-window-requires-2 c κs =
     let pre = c .before .before .before .pre in
-    one-window pre (range5 _ _ _ (pre .0) (c .match .keys5))
+    one-window pre (range5 (pre .0) (c .match .keys5))
 
 some-window-requires-3 : tie.Need-some-window-requires-3
 some-window-requires-3 c κs =
     let pre = c .before .before .before .pre in
-    two-window pre (range6 _ _ _ (pre .0) (c .match .keys6))
+    two-window pre (range6 (pre .0) (c .match .keys6))
 
 some-window-requires-4 : tie.Need-some-window-requires-4
 some-window-requires-4 c κs =
     let pre = c .before .before .before .pre in
-    two-window pre (range7 _ _ _ (pre .0) (seven c))
+    two-window pre (range7 (pre .0) (seven c))
 
 returns : tie.Need-returns
 unfolding fails
 returns c = rw (c .before .match .keys1) (ap (leb _) (c .before .before .ones-of .ensures))
 
 returns-2 : tie.Need-returns-2
-unfolding fails weightDown
+unfolding fails
 returns-2 c = rw (c .before .before .match .keys2) (ap (leb _) (c .before .weighed .ensures))
 
 returns-3 : tie.Need-returns-3

@@ -11,7 +11,7 @@ use Rattle.rules.specs.declared.Verdict.the-variants.{Works, Fails, Refused}
 use Rattle.rules.specs.Verdict.{fails}
 use Rattle.rules.specs.Refusal.{highOne}
 use Rattle.rules.specs.Answer.{verdictOf, unless}
-use Rattle.refusals.specs.Accepted.{Accepted}
+use Rattle.rules.specs.Accepted.{Accepted}
 use Rattle.refusals.specs.Shared.{ruleRefusal}
 use Rattle.rules.proofs.Unless.{unless-some}
 use Rattle.refusals.proofs.Laws.{verdict-after, after-none, after-some, accepted}

@@ -9,7 +9,8 @@ use lib.ListN.{length, getD}
 use borrow.Author.Needs.{needs}
 use Rattle.rules.specs.Below.{sumBelow}
 use Rattle.rules.specs.State.{numberOf, down}
-use Rattle.verdict.specs.First.{weightDown}
+use Rattle.rules.specs.Verdict.{weightDown}
+use Rattle.refusals.specs.Shared.{largest}
 use Rattle.verdict.proofs.Windows.{weight-down, weight-most}
 use Rattle.verdict.proofs.weighed.Statement.{statement}
 use Rattle.verdict.proofs.weighed.Tie as tie
@@ -23,7 +24,7 @@ unfolding weightDown sumBelow numberOf
 next i ws w = rw (add-one i)
 
 abbrev Inv-loop : tie.InvT-loop
-Inv-loop n weights w sum₀ i₀ sum i = (i ≤ length weights) × (sum ≤ 65535 * i) × (sum ≡ weightDown i weights w)
+Inv-loop n weights w sum₀ i₀ sum i = (i ≤ length weights) × (sum ≤ largest * i) × (sum ≡ weightDown i weights w)
 
 abbrev μ-loop : tie.MeasureT-loop
 μ-loop n weights w sum₀ i₀ sum i = length weights - i
@@ -42,7 +43,7 @@ module _ (c : tie.After-shared-slice-known2 Inv-loop μ-loop) where
   term : c .before .ones-in .result * weight ≡ cond (down at word) weight 0
   term = ap (λ x. x * weight) (c .before .ones-in .ensures) ∙ weight-down word at weight
 
-  most : cond (down at word) weight 0 ≤ 65535
+  most : cond (down at word) weight 0 ≤ largest
   most = omega (arith, weight-most (down at word) weight, c .shared-slice-known2 .given at)
 
 loop-holds : tie.Need-loop-holds Inv-loop μ-loop
