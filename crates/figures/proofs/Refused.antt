@@ -1,29 +1,23 @@
--- The refusal of a stretch, as the code works it out: 1 to 4, then 5 and 6 over the weights that are rated, then 7; and what its absence says of the
--- part that is rated. Weights that kind 2 does not read change nothing. Assumes nothing.
+-- The refusal of a stretch, as the code works it out: 1 to 4, then 5 and 6 over the weights that are rated, then 7; and where there is none, the part can
+-- be rated. Weights that kind 2 does not read change nothing. Assumes nothing.
 use Prim.Native.Nat.{ℕ, suc, _-_, _≤_}
 use mathlib.Core.Path.{_≡_, refl, sym, ap, _∙_}
-use mathlib.Core.Bool.{Bool, true, false, cond, not, true≢false}
+use mathlib.Core.Bool.{Bool, true, false, cond, not}
 use mathlib.Core.Logic.{_⊎_, inl, inr, ⊎-elim}
 use mathlib.Core.List.{List, [], _∷_}
 use native.Mathlib.Omega.{arith}
 use lib.Dec.{eqb}
 use lib.ListN.{length, take, drop, length-take, length-drop}
-use borrow.Author.Tests.{eqb-true, eqb-false, eq-eqb, ne-eqb, ltb-false, not-false}
+use borrow.Author.Tests.{eqb-true, eqb-false, eq-eqb, ne-eqb}
 use Rattle.rules.specs.declared.Rule.{Rule}
-use Rattle.rules.specs.State.{numberOf}
 use Rattle.rules.specs.Below.{total}
 use Rattle.rules.specs.Stretch.{stretch}
-use Rattle.rules.specs.Refusal.{firstOf, badKind, badSize, badStretch, aboveUnit, badWeights, inRange, shortTable, stretchRefusal}
+use Rattle.rules.specs.Refusal.{firstOf, badKind, badSize, badStretch, aboveUnit, weightsOut, badWeights, ranged, inRange, shortTable, stretchRefusal}
+use Rattle.rules.specs.Accepted.{Ratable}
 use Rattle.rules.specs.Answer.{range}
-use Rattle.rules.proofs.Seven.{within-true}
-use Rattle.rules.proofs.Reading.{by-test}
-use Rattle.rules.proofs.Conditions.{below-unit}
-use Rattle.rules.proofs.Accepted as accepted
-use Rattle.rules.proofs.Accepted.{first-same, first-after, in-stretch, stretch-length, stretch-sound, unread-range, unread-answer}
-use Rattle.refusals.specs.Shared.{weightsOut, rangeOut, ratedRefusal, after}
-use Rattle.refusals.proofs.Laws.{range-total, range-other, weights-sound}
-use Rattle.engine.specs.Rated.{Sound}
-use Rattle.engine.proofs.Whole.{limited}
+use Rattle.rules.proofs.Tests.{by-test}
+use Rattle.rules.proofs.Accepted.{first-same, first-after, in-stretch, stretch-length, stretch-sound, weights-sound, accepted-unread, unread-range, unread-answer}
+use Rattle.refusals.specs.Shared.{ratedRefusal, after}
 use Rattle.figures.specs.Outcome.{ratedOf}
 
 -- the part as the code takes it
@@ -47,23 +41,20 @@ module _ (rule : Rule) (n : ℕ) (ws : List ℕ) (a b : ℕ) where
       go false e t d = inr (inr (eqb-false _ _ e))
 
   five-same : weightsOut rule n (length ws) (total (ratedOf rule n ws a b)) ≡ badWeights rule n ws (stretch a b ws)
-  unfolding badWeights
+  unfolding weightsOut
   five-same =
       ⊎-elim (λ s. rw (s .0)) (λ o. ⊎-elim (λ k. rw (eq-eqb (rule .kind) 2 (k .0), k .1)) (λ k. rw (ne-eqb (rule .kind) 2 k)) o) rated-by
 
-  six-same : (m : ℕ) → badWeights rule n ws (stretch a b ws) ≡ false → rangeOut rule m (total (ratedOf rule n ws a b)) ≡ not (inRange rule m (stretch a b ws))
-  unfolding badWeights
-  six-same m e =
-      ⊎-elim
-      (λ s. rw (s .0) (sym (range-total rule m (stretch a b ws))))
-      (λ o. ⊎-elim
-      (λ k. absurd (true≢false (rw (eq-eqb _ _ (k .0), k .1) at e)))
-      (λ k. range-other rule m _ (total (stretch a b ws)) k ∙ sym (range-total rule m (stretch a b ws))) o)
-      rated-by
+  -- where kind 2 has as many as there are components, they are the stretch's, or the kind reads none
+  rated-same : (rule .kind ≡ 2 → length ws ≡ n) → (ratedOf rule n ws a b ≡ stretch a b ws) ⊎ (rule .kind ≡ 2 → ⊥)
+  rated-same listed = ⊎-elim (λ s. inl (s .0)) (λ o. ⊎-elim (λ k. absurd (eqb-false _ _ (k .1) (listed (k .0)))) inr o) rated-by
+
+  six-same : (m : ℕ) → badWeights rule n ws (stretch a b ws) ≡ false → ranged rule m (total (ratedOf rule n ws a b)) ≡ inRange rule m (stretch a b ws)
+  six-same m e = ⊎-elim (λ s. rw s) (λ k. unread-range rule m _ _ k) (rated-same (λ two. weights-sound rule n (length ws) _ e two .0))
 
   pub own-is : (m : ℕ) → ratedRefusal rule n (length ws) m (total (ratedOf rule n ws a b)) ≡ firstOf ((5, badWeights rule n ws (stretch a b ws)) ∷ (6, not (inRange rule m (stretch a b ws))) ∷ [])
   unfolding ratedRefusal
-  own-is m = first-same 5 _ _ _ _ five-same (λ e. first-same 6 _ _ _ _ (six-same m (sym five-same ∙ e)) (λ r. refl))
+  own-is m = first-same 5 _ _ _ _ five-same (λ e. first-same 6 _ _ _ _ (ap not (six-same m (sym five-same ∙ e))) (λ r. refl))
 
   pub rated-short : length (ratedOf rule n ws a b) ≤ length ws
   unfolding ratedOf stretch
@@ -71,10 +62,6 @@ module _ (rule : Rule) (n : ℕ) (ws : List ℕ) (a b : ℕ) where
       by-test (λ xs. length xs ≤ length ws) (eqb (rule .kind) 2) (cond (eqb (length ws) n) (stretch a b ws) []) []
       (λ _. by-test (λ xs. length xs ≤ length ws) (eqb (length ws) n) (stretch a b ws) [] (λ _. simp (length-take, length-drop) (omega arith)) (λ _. omega arith))
       (λ _. omega arith)
-
-  rated-read : badWeights rule n ws (stretch a b ws) ≡ false → ((ratedOf rule n ws a b ≡ stretch a b ws) × (length ws ≡ n)) ⊎ (rule .kind ≡ 2 → ⊥)
-  unfolding badWeights
-  rated-read e = ⊎-elim inl (λ o. ⊎-elim (λ k. absurd (true≢false (rw (eq-eqb _ _ (k .0), k .1) at e))) inr o) rated-by
 
 seven-after : (b c d : Bool) → firstOf ((5, b) ∷ (6, c) ∷ (7, d) ∷ []) ≡ after (firstOf ((5, b) ∷ (6, c) ∷ [])) (cond d 7 0)
 unfolding firstOf after
@@ -97,7 +84,7 @@ module _ (rule : Rule) (a b : ℕ) (survival weights table : List ℕ) where
       (sym (e ∙ ap (λ xs. ratedRefusal rule (length survival) (length weights) (b - (a - 1)) (total xs)) d ∙ own-is rule (length survival) weights a b (b - (a - 1))
       ∙ ap (λ x. firstOf ((5, badWeights rule (length survival) weights (stretch a b weights)) ∷ (6, not (inRange rule x (stretch a b weights))) ∷ [])) (sym m)))
 
-  -- no refusal: the part is sound, and its answer is the stretch's
+  -- no refusal: the part can be rated, and its answer is the stretch's
   module _ (none : stretchRefusal rule a b survival weights table ≡ 0) where
     abbrev n : ℕ
     n = length survival
@@ -108,51 +95,22 @@ module _ (rule : Rule) (a b : ℕ) (survival weights table : List ℕ) where
     abbrev part : List ℕ
     part = stretch a b survival
 
-    sound : (badStretch a b n ≡ false) × accepted.Sound rule n part weights (stretch a b weights) table
-    sound = stretch-sound rule a b survival weights table none
+    ratable : (badStretch a b n ≡ false) × (rule .kind ≡ 2 → length weights ≡ n) × Ratable rule part (stretch a b weights) table
+    ratable = stretch-sound rule a b survival weights table none
 
     pub inside : badStretch a b n ≡ false
-    inside = sound .0
+    inside = ratable .0
 
     pub fits : (1 ≤ a) × (a ≤ b) × (b ≤ n)
     fits = in-stretch a b n inside
 
-    size : length part ≡ suc b - a
-    size = stretch-length a b survival inside
+    same : (rated ≡ stretch a b weights) ⊎ (rule .kind ≡ 2 → ⊥)
+    same = rated-same rule n weights a b (ratable .1)
 
-    weights-long : length weights ≡ n → length (stretch a b weights) ≡ suc b - a
-    weights-long e = stretch-length a b weights (rw e inside)
-
-    in-range : inRange rule (length part) rated ≡ true
-    in-range = ⊎-elim (λ s. rw (s .0) (sound .1 .ranged)) (λ k. unread-range rule (length part) rated (stretch a b weights) k ∙ sound .1 .ranged)
-        (rated-read rule n weights a b (sound .1 .weighed))
-
-    light : rule .kind ≡ 2 → total rated ≤ 120
-    light two = weights-sound rule n (length weights) (total rated) (five-same rule n weights a b ∙ sound .1 .weighed) two .1
-
-    pub part-sound : Sound rule part rated table
-    unfolding numberOf
-    part-sound =
-        let h = in-stretch a b n inside in
-        let w = within-true 1 n 64 (not-false _ (sound .1 .size)) in
-        let short : length part ≤ 64 = omega (arith, size) in
-        let limit = limited rule (length part) rated short light in-range in
-        record {
-          rated = record {
-            limit = limit .1;
-            some = limit .0;
-            two = limit .2;
-            size = short;
-            units = λ k. below-unit part (sound .1 .units) (suc k);
-          };
-          weighed = record {
-            each = λ two. ⊎-elim (λ s. ap length (s .0) ∙ weights-long (s .1) ∙ sym size) (λ k. absurd (k two)) (rated-read rule n weights a b (sound .1 .weighed));
-            light = light;
-          };
-          some = omega (arith, size);
-          range = in-range;
-          room = ltb-false _ _ (sound .1 .room);
-        }
+    pub part-ratable : Ratable rule part rated table
+    part-ratable =
+        let y = ratable .2 in
+        record { accepted = ⊎-elim (λ s. rw s (y .accepted)) (accepted-unread (y .accepted)) same; units = y .units; room = y .room }
 
     pub part-answer : range rule part rated ≡ range rule part (stretch a b weights)
-    part-answer = ⊎-elim (λ s. rw (s .0)) (λ k. unread-answer rule part rated (stretch a b weights) k) (rated-read rule n weights a b (sound .1 .weighed))
+    part-answer = ⊎-elim (λ s. rw s) (λ k. unread-answer rule part rated (stretch a b weights) k) same

@@ -2,20 +2,22 @@
 ghost use mathlib.Core.Path.{_≡_};
 ghost use mathlib.Core.Bool.{false};
 ghost use Rattle.rules.specs.Refusal.{badStretch, aboveUnit, stretchRefusal};
+ghost use Rattle.rules.specs.Accepted.{Ratable};
 ghost use Rattle.rules.specs.Answer.{cleared, range};
-ghost use Rattle.engine.specs.Rated.{Sound};
 ghost use Rattle.figures.specs.Outcome.{ratedOf, Stretched, Listed};
+use cells::CELLS;
 use rules::Rating;
 use rules::Rule;
 use units::UNIT;
 
-// The answer of a sound list.
+// The answer of a list that can be rated.
 fn answer(rule: Rule, survival: &[u32], weights: &[u16], table: &mut [u64]) -> Rating
-    requires { ⌜ Sound rule (now survival) (now weights) (now table) ⌝ }
-    ensures { λ r. ⌜ (r ≡ range rule (now (survival .entry)) (now (weights .entry))) × (now (table .exit) ≡ cleared (now (table .entry))) ⌝ }
+    requires { ⌜ Ratable rule (now survival) (now weights) (now table) ⌝ }
+    ensures answer { λ r. ⌜ r ≡ range rule (now (survival .entry)) (now (weights .entry)) ⌝ }
+    ensures table { λ r. ⌜ now (table .exit) ≡ cleared (now (table .entry)) ⌝ }
 {
     let ends = engine::rate(rule, survival, weights, table);
-    cells::zero(table, 7800);
+    cells::zero(table, CELLS);
     Rating::Range {
         low: ends.low,
         high: ends.high,
@@ -95,7 +97,7 @@ fn refusal(rule: Rule, a: u64, b: u64, survival: &[u32], weights: &[u16], table:
     if own != 0 {
         return own;
     }
-    if table.len() < 7800 {
+    if table.len() < CELLS {
         return 7;
     }
     0

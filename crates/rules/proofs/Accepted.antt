@@ -165,7 +165,7 @@ stretch-length a b xs e =
 
 module _ (rule : Rule) (a b : ℕ) (survival weights table : List ℕ) where
   pub stretch-sound : stretchRefusal rule a b survival weights table ≡ 0
-      → (badStretch a b (length survival) ≡ false) × Ratable rule (stretch a b survival) (stretch a b weights) table
+      → (badStretch a b (length survival) ≡ false) × (rule .kind ≡ 2 → length weights ≡ length survival) × Ratable rule (stretch a b survival) (stretch a b weights) table
   unfolding stretchRefusal
   stretch-sound e =
       let v = none-first 0 _ _ e in
@@ -181,6 +181,7 @@ module _ (rule : Rule) (a b : ℕ) (survival weights table : List ℕ) where
       let as-many : length weights ≡ length survival → length (stretch a b weights) ≡ length (stretch a b survival)
       = λ l. stretch-length a b weights (rw l (t .0)) ∙ sym size in (
         t .0,
+        λ two. weights-sound rule (length survival) (length weights) _ (d .0) two .0,
         record {
           accepted = sound rule _ (length survival) weights _ (v .0) in-size (d .0) as-many (f .0);
           units = units-in (stretch a b survival) (c .0);
@@ -199,7 +200,7 @@ module _ (rule : Rule) (a b : ℕ) (survival weights table : List ℕ) where
       let low-is : low S rule (stretch a b survival) (stretch a b weights) ≡ l = cc (v .1) in
       let high-is : high S rule (stretch a b survival) (stretch a b weights) ≡ h = cc (v .1) in
       rw (← low-is, ← high-is, ← size)
-      (third rule (stretch a b survival) (stretch a b weights) (s .1 .accepted .size-low) (s .1 .units) (s .1 .accepted .in-range))
+      (third rule (stretch a b survival) (stretch a b weights) (s .2 .accepted .size-low) (s .2 .units) (s .2 .accepted .in-range))
 
 -- a stretch from 1 to the end is the list
 pub stretch-all : (xs : List ℕ) (n : ℕ) → length xs ≡ n → stretch 1 n xs ≡ xs
@@ -223,6 +224,17 @@ other-reading (suc (suc (suc kind))) first second ws vs h = refl
 
 pub unread-range : (rule : Rule) (n t v : ℕ) → (rule .kind ≡ 2 → ⊥) → ranged rule n t ≡ ranged rule n v
 unread-range rule = other-range (rule .kind) (rule .first) (rule .second)
+
+pub accepted-unread : {rule : Rule} {n : ℕ} {ws vs : List ℕ} → Accepted rule n ws → (rule .kind ≡ 2 → ⊥) → Accepted rule n vs
+accepted-unread {rule} {n} {ws} {vs} y other = record {
+  kind-low = y .kind-low;
+  kind-high = y .kind-high;
+  size-low = y .size-low;
+  size-high = y .size-high;
+  weights-length = λ two. absurd (other two);
+  weights-total = λ two. absurd (other two);
+  in-range = unread-range rule n (total vs) (total ws) other ∙ y .in-range;
+}
 
 pub unread-answer : (rule : Rule) (survival ws vs : List ℕ) → (rule .kind ≡ 2 → ⊥) → range rule survival ws ≡ range rule survival vs
 unread-answer rule survival ws vs k =

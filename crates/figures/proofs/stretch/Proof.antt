@@ -5,7 +5,7 @@ use native.Mathlib.Omega.{arith}
 use Rattle.rules.specs.declared.Rating.the-variants.{Refused}
 use Rattle.rules.specs.Answer.{stretchOf}
 use Rattle.rules.proofs.Unless.{unless-none, unless-some}
-use Rattle.figures.proofs.Refused.{part-is, inside, fits, part-sound, part-answer}
+use Rattle.figures.proofs.Refused.{part-is, inside, fits, part-ratable, part-answer}
 use Rattle.figures.proofs.stretch.Statement.{statement}
 use Rattle.figures.proofs.stretch.Tie as tie
 
@@ -64,7 +64,7 @@ answer-requires : tie.Need-answer-requires
 answer-requires c κs =
     let x = c .before .before .before .before .before .before .before .before .before .args in
     let none = sym (c .before .before .before .before .refusal .ensures) ∙ c .before .before .before .if1 .left in
-    rw (c .before .before .rated-weights .ensures, part-is (x .a) (x .b) _ _ (inside (x .rule) (x .a) (x .b) (x .survival .now) (x .weights .now) (x .table .now) none)) (part-sound (x .rule) (x .a) (x .b) (x .survival .now) (x .weights .now) (x .table .now) none)
+    rw (c .before .before .rated-weights .ensures, part-is (x .a) (x .b) _ _ (inside (x .rule) (x .a) (x .b) (x .survival .now) (x .weights .now) (x .table .now) none)) (part-ratable (x .rule) (x .a) (x .b) (x .survival .now) (x .weights .now) (x .table .now) none)
 
 same-length-2 : tie.Need-same-length-2
 same-length-2 c = search needs
