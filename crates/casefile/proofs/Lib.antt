@@ -1,4 +1,5 @@
--- The laws of words, of lists filled with them, and of rooms lent twice.
+-- The laws of words, of lists filled with them, of rooms lent twice, and of a run of cases.
 pub mod Spelling
-pub mod Filled
+pub mod Beginning
 pub mod Lent
+pub mod Run

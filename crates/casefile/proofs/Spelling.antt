@@ -7,7 +7,7 @@ use lib.ListN.{length, getD}
 use lib.Pow.{pow-add, pow-mono}
 use borrow.Author.Tests.{lt-ltb, le-ltb}
 use Rattle.rules.specs.File.{numberAt}
-use Rattle.casefile.specs.Words.{wordAt}
+use Rattle.casefile.specs.Words.{wordBytes, wordAt}
 
 pub no-bytes : (bytes : List ℕ) (at : ℕ) → numberAt 0 bytes at ≡ 0
 unfolding numberAt
@@ -30,10 +30,10 @@ next-bits v b left low high l byte =
 pub all-bits : (v left : ℕ) → v < 2 ^ (64 - 8 * left) → v < 2 ^ 64
 all-bits v left l = omega (arith, pow-mono {i = 64 - 8 * left} {j = 64} (omega arith))
 
-pub word-here : (bytes : List ℕ) (at : ℕ) → at < length bytes / 8 → numberAt 8 bytes (at * 8) ≡ wordAt bytes at
+pub word-here : (bytes : List ℕ) (at : ℕ) → at < length bytes / wordBytes → numberAt wordBytes bytes (at * wordBytes) ≡ wordAt bytes at
 unfolding wordAt
-word-here bytes at l = rw (lt-ltb at (length bytes / 8) l)
+word-here bytes at l = rw (lt-ltb at (length bytes / wordBytes) l)
 
-pub word-past : (bytes : List ℕ) (at : ℕ) → length bytes / 8 ≤ at → 0 ≡ wordAt bytes at
+pub word-past : (bytes : List ℕ) (at : ℕ) → length bytes / wordBytes ≤ at → 0 ≡ wordAt bytes at
 unfolding wordAt
-word-past bytes at l = rw (le-ltb at (length bytes / 8) l)
+word-past bytes at l = rw (le-ltb at (length bytes / wordBytes) l)

@@ -1,4 +1,6 @@
--- What the case files' contracts cite: the words of a file, text put into a buffer, and tables.
+-- What the case files' contracts cite: rooms, lists that are filled, the words of a file, cases, and tables.
+pub mod Rooms
+pub mod Begins
 pub mod Words
-pub mod Text
+pub mod Cases
 pub mod Tables

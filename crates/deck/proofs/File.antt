@@ -9,54 +9,49 @@ use native.Mathlib.Omega.{arith}
 use lib.ListN.{length, getD, take, length-append}
 use lib.Seq.{take-all, take-add}
 use Rattle.rules.specs.Below.{listBelow}
-use Rattle.rules.specs.File.{Deck, numberAt, allBytes, headerOf, systemNumbers, fileOf, systemAt, deckIn, fileRefusal, fansIn, systemsIn}
+use Rattle.rules.specs.File.{Deck, nthNumber, numbersFrom, allBytes, headerOf, systemNumbers, fileOf, systemIn, deckIn, fileRefusal, fansIn, countIn}
+use Rattle.rules.specs.File.{version, versionField, survivalField, headerLength, survivalBytes, weightBytes, systemBytes}
 use Rattle.rules.specs.File.{survivalOffset, weightsOffset, systemsOffset}
 use Rattle.deck.specs.Bounds.{Bytes, Bounds}
 use Rattle.rules.proofs.Lists.{below-length}
-use Rattle.deck.proofs.Lists.{under-none, under-cons, under-append, under-below}
-use Rattle.deck.proofs.Numbers.{Stands, all-length, number-fits, number-within, numbers-back, bytes-back, all-bytes}
+use Rattle.deck.proofs.Lists.{under-none, under-cons, under-below}
+use Rattle.deck.proofs.Numbers.{Stands, all-length, number-fits, number-within, numbers-back, bytes-back}
 use Rattle.deck.proofs.Systems.{numbers-length, systems-back, numbers-of}
 use Rattle.deck.proofs.Sound.{Sound, sound, not-refused}
 
 -- how long each part is
 abbrev counts : (n m : ℕ) → List ℕ
-counts n m = 1 ∷ 0 ∷ n ∷ m ∷ []
+counts n m = version ∷ 0 ∷ n ∷ m ∷ []
 
 abbrev offsets : ℕ → List ℕ
 offsets n = survivalOffset ∷ weightsOffset n ∷ systemsOffset n ∷ []
 
-pub header-length : (n m : ℕ) → length (headerOf n m) ≡ 20
+pub header-length : (n m : ℕ) → length (headerOf n m) ≡ headerLength
 unfolding headerOf
 header-length n m =
     length-append (allBytes 2 (counts n m)) (allBytes 4 (offsets n)) ∙ rw (all-length 2 (counts n m), all-length 4 (offsets n))
 
 -- a file's part before the weights, and its part before the systems
 abbrev toWeights : Deck → List ℕ
-toWeights d = headerOf (length (d .survival)) (length (d .systems)) ++ allBytes 4 (d .survival)
+toWeights d = headerOf (length (d .survival)) (length (d .systems)) ++ allBytes survivalBytes (d .survival)
 
 abbrev toSystems : Deck → List ℕ
-toSystems d = toWeights d ++ allBytes 2 (d .weights)
+toSystems d = toWeights d ++ allBytes weightBytes (d .weights)
 
-weights-from : (d : Deck) → length (toWeights d) ≡ 20 + 4 * length (d .survival)
+weights-from : (d : Deck) → length (toWeights d) ≡ weightsOffset (length (d .survival))
 weights-from d =
     let n = length (d .survival) in
     let m = length (d .systems) in
-    length-append (headerOf n m) (allBytes 4 (d .survival)) ∙ rw (header-length n m, all-length 4 (d .survival))
+    length-append (headerOf n m) (allBytes survivalBytes (d .survival)) ∙ rw (header-length n m, all-length survivalBytes (d .survival))
 
-systems-from : (d : Deck) → length (toSystems d) ≡ 20 + 4 * length (d .survival) + 2 * length (d .weights)
-systems-from d = length-append (toWeights d) (allBytes 2 (d .weights)) ∙ rw (weights-from d, all-length 2 (d .weights))
+systems-from : (d : Deck) → length (toSystems d) ≡ weightsOffset (length (d .survival)) + weightBytes * length (d .weights)
+systems-from d = length-append (toWeights d) (allBytes weightBytes (d .weights)) ∙ rw (weights-from d, all-length weightBytes (d .weights))
 
-pub file-length : (d : Deck) → length (fileOf d) ≡ 20 + 4 * length (d .survival) + 2 * length (d .weights) + 10 * length (d .systems)
+pub file-length : (d : Deck) → length (fileOf d) ≡ weightsOffset (length (d .survival)) + weightBytes * length (d .weights) + systemBytes * length (d .systems)
 unfolding fileOf
 file-length d =
     length-append (toSystems d) (allBytes 2 (systemNumbers (d .systems)))
     ∙ omega (arith, systems-from d, all-length 2 (systemNumbers (d .systems)), numbers-length (d .systems))
-
--- a file is a list of bytes
-pub file-bytes : (d : Deck) → Bytes (fileOf d)
-unfolding fileOf headerOf
-file-bytes d =
-    under-append (under-append (under-append (under-append (all-bytes 2 _) (all-bytes 4 _)) (all-bytes 4 _)) (all-bytes 2 _)) (all-bytes 2 _)
 
 -- the file of a deck within bounds, read: each part stands where the layout says
 module _ (d : Deck) (ok : Bounds d) where
@@ -66,13 +61,13 @@ module _ (d : Deck) (ok : Bounds d) where
   abbrev m : ℕ
   m = length (d .systems)
 
-  count-at : (i : ℕ) → i < 4 → numberAt 2 (fileOf d) (0 + 2 * i) ≡ getD (counts n m) i 0
+  count-at : (i : ℕ) → i < 4 → nthNumber 2 (fileOf d) versionField i ≡ getD (counts n m) i 0
   unfolding fileOf headerOf
   count-at =
-      let stands : Stands 2 (counts n m) (fileOf d) 0 =
+      let stands : Stands 2 (counts n m) (fileOf d) versionField =
       record {
         before = [];
-        after = allBytes 4 (offsets n) ++ (allBytes 4 (d .survival) ++ (allBytes 2 (d .weights) ++ allBytes 2 (systemNumbers (d .systems))));
+        after = allBytes 4 (offsets n) ++ (allBytes survivalBytes (d .survival) ++ (allBytes weightBytes (d .weights) ++ allBytes 2 (systemNumbers (d .systems))));
         parts = simp append-assoc;
         place = refl;
       }
@@ -81,13 +76,13 @@ module _ (d : Deck) (ok : Bounds d) where
       (under-cons (omega arith)
       (under-cons (omega arith) (under-cons (omega arith) (under-cons (omega arith) (under-none (omega arith))))))
 
-  offset-at : (i : ℕ) → i < 3 → numberAt 4 (fileOf d) (8 + 4 * i) ≡ getD (offsets n) i 0
+  offset-at : (i : ℕ) → i < 3 → nthNumber 4 (fileOf d) survivalField i ≡ getD (offsets n) i 0
   unfolding fileOf headerOf
   offset-at =
-      let stands : Stands 4 (offsets n) (fileOf d) 8 =
+      let stands : Stands 4 (offsets n) (fileOf d) survivalField =
       record {
         before = allBytes 2 (counts n m);
-        after = allBytes 4 (d .survival) ++ (allBytes 2 (d .weights) ++ allBytes 2 (systemNumbers (d .systems)));
+        after = allBytes survivalBytes (d .survival) ++ (allBytes weightBytes (d .weights) ++ allBytes 2 (systemNumbers (d .systems)));
         parts = simp append-assoc;
         place = all-length 2 (counts n m);
       }
@@ -98,19 +93,19 @@ module _ (d : Deck) (ok : Bounds d) where
   fans-at : fansIn (fileOf d) ≡ n
   fans-at = count-at 2 (omega arith)
 
-  systems-at : systemsIn (fileOf d) ≡ m
+  systems-at : countIn (fileOf d) ≡ m
   systems-at = count-at 3 (omega arith)
 
-  survival-stand : Stands 4 (d .survival) (fileOf d) survivalOffset
+  survival-stand : Stands survivalBytes (d .survival) (fileOf d) survivalOffset
   unfolding fileOf
   survival-stand = record {
     before = headerOf n m;
-    after = allBytes 2 (d .weights) ++ allBytes 2 (systemNumbers (d .systems));
+    after = allBytes weightBytes (d .weights) ++ allBytes 2 (systemNumbers (d .systems));
     parts = simp append-assoc;
     place = header-length n m;
   }
 
-  weights-stand : Stands 2 (d .weights) (fileOf d) (weightsOffset (fansIn (fileOf d)))
+  weights-stand : Stands weightBytes (d .weights) (fileOf d) (weightsOffset (fansIn (fileOf d)))
   unfolding fileOf
   weights-stand = record {
     before = toWeights d;
@@ -151,7 +146,7 @@ module _ (d : Deck) (ok : Bounds d) where
       let survival = numbers-back survival-stand (ok .survival-fits) (fansIn (fileOf d)) (sym fans-at) in
       let weights = numbers-back weights-stand (ok .weights-fit) (fansIn (fileOf d)) (ok .weighed ∙ sym fans-at) in
       let systems =
-      systems-back (d .systems) (fileOf d) (systemsOffset (fansIn (fileOf d))) (systemsIn (fileOf d)) (sym systems-at)
+      systems-back (d .systems) (fileOf d) (systemsOffset (fansIn (fileOf d))) (countIn (fileOf d)) (sym systems-at)
       (λ i h. number-within systems-stand (ok .systems-fit) i (omega (arith, numbers-length (d .systems), systems-at)))
       in
       λ x. record { survival = survival x; weights = weights x; systems = systems x }
@@ -161,48 +156,46 @@ module _ (bytes : List ℕ) (small : Bytes bytes) (e : fileRefusal bytes ≡ 0) 
   abbrev s : Sound bytes
   s = sound bytes e
 
-  header-back : headerOf (fansIn bytes) (systemsIn bytes) ≡ take 20 bytes
+  header-back : headerOf (fansIn bytes) (countIn bytes) ≡ take headerLength bytes
   unfolding headerOf listBelow
   header-back =
       let n = fansIn bytes in
-      let m = systemsIn bytes in
-      let counted : allBytes 2 (counts n m) ≡ allBytes 2 (listBelow 4 (λ i. numberAt 2 bytes (0 + 2 * i))) =
+      let m = countIn bytes in
+      let counted : allBytes 2 (counts n m) ≡ allBytes 2 (numbersFrom 2 bytes versionField 4) =
       λ x. allBytes 2 (sym (s .version) x ∷ sym (s .nought) x ∷ n ∷ m ∷ [])
       in
-      let placed : allBytes 4 (offsets n) ≡ allBytes 4 (listBelow 3 (λ i. numberAt 4 bytes (8 + 4 * i))) =
+      let placed : allBytes 4 (offsets n) ≡ allBytes 4 (numbersFrom 4 bytes survivalField 3) =
       λ x. allBytes 4 (sym (s .survival-place) x ∷ sym (s .weights-place) x ∷ sym (s .systems-place) x ∷ [])
       in
-      ap₂ (λ xs ys. xs ++ ys) (counted ∙ bytes-back 2 bytes 0 4 small (omega (arith, s .long)))
-      (placed ∙ bytes-back 4 bytes 8 3 small (omega (arith, s .long)))
-      ∙ sym (take-add 8 12 bytes)
+      ap₂ (λ xs ys. xs ++ ys) (counted ∙ bytes-back 2 bytes versionField 4 small (omega (arith, s .long)))
+      (placed ∙ bytes-back 4 bytes survivalField 3 small (omega (arith, s .long)))
+      ∙ sym (take-add survivalField (4 * 3) bytes)
 
   pub file-back : fileOf (deckIn bytes) ≡ bytes
   unfolding fileOf deckIn
   file-back =
       let n = fansIn bytes in
-      let m = systemsIn bytes in
-      let sixes : 20 + 4 * n + 2 * n ≡ 20 + 6 * n = omega arith in
-      let fits : 20 + 6 * n + 2 * (5 * m) ≡ length bytes = omega (arith, s .whole) in
+      let m = countIn bytes in
+      let fits : systemsOffset n + 2 * (5 * m) ≡ length bytes = omega (arith, s .whole) in
       rw (
-        below-length n (λ i. numberAt 4 bytes (survivalOffset + 4 * i)),
-        below-length m (λ k. systemAt bytes (systemsOffset n + 10 * k)),
+        below-length n (nthNumber survivalBytes bytes survivalOffset),
+        below-length m (systemIn bytes),
         header-back,
         numbers-of bytes (systemsOffset n) m,
-        bytes-back 4 bytes 20 n small (omega arith),
-        bytes-back 2 bytes (20 + 4 * n) n small (omega arith),
-        bytes-back 2 bytes (20 + 6 * n) (5 * m) small (omega arith),
-        ← take-add 20 (4 * n) bytes,
-        ← take-add (20 + 4 * n) (2 * n) bytes,
-        sixes,
-        ← take-add (20 + 6 * n) (2 * (5 * m)) bytes,
+        bytes-back survivalBytes bytes survivalOffset n small (omega arith),
+        bytes-back weightBytes bytes (weightsOffset n) n small (omega arith),
+        bytes-back 2 bytes (systemsOffset n) (5 * m) small (omega arith),
+        ← take-add survivalOffset (survivalBytes * n) bytes,
+        ← take-add (weightsOffset n) (weightBytes * n) bytes,
+        ← take-add (systemsOffset n) (2 * (5 * m)) bytes,
       )
-      (take-all (20 + 6 * n + 2 * (5 * m)) bytes (omega arith))
+      (take-all (systemsOffset n + 2 * (5 * m)) bytes (omega arith))
 
   pub deck-bounds : Bounds (deckIn bytes)
   unfolding deckIn
   deck-bounds =
       let n = fansIn bytes in
-      let m = systemsIn bytes in
+      let m = countIn bytes in
       let fans : length (deckIn bytes .survival) ≡ n = below-length n _ in
       let systems : length (deckIn bytes .systems) ≡ m = below-length m _ in
       record {
@@ -211,8 +204,8 @@ module _ (bytes : List ℕ) (small : Bytes bytes) (e : fileRefusal bytes ≡ 0) 
         weighed = below-length n _ ∙ sym fans;
         some-system = omega (arith, s .some-system);
         most-systems = omega (arith, s .most-systems);
-        survival-fits = under-below n _ (λ i. number-fits 4 bytes (survivalOffset + 4 * i) small);
-        weights-fit = under-below n _ (λ i. number-fits 2 bytes (weightsOffset n + 2 * i) small);
+        survival-fits = under-below n _ (λ i. number-fits survivalBytes bytes (survivalOffset + survivalBytes * i) small);
+        weights-fit = under-below n _ (λ i. number-fits weightBytes bytes (weightsOffset n + weightBytes * i) small);
         systems-fit =
             rw (numbers-of bytes (systemsOffset n) m) (under-below (5 * m) _ (λ i. number-fits 2 bytes (systemsOffset n + 2 * i) small));
       }

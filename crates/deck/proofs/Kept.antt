@@ -1,55 +1,59 @@
--- What the reader hands on: its answer on a refused file and on one that is not, and that the first n or m entries of its arrays are the deck
--- that the file holds. Assumes nothing.
-use mathlib.Core.Path.{_≡_, sym, _∙_}
+-- What the reader hands on for a file that is not refused: the first n or m entries of its arrays are the deck that the file holds. Assumes nothing.
+use mathlib.Core.Path.{_≡_, sym, ap, _∙_}
 use mathlib.Core.List.{List}
-use Prim.Native.Nat.{ℕ, _+_, _*_, _<_}
+use Prim.Native.Nat.{ℕ, _<_}
 use lib.ListN.{getD, take}
 use Rattle.rules.specs.declared.System.{System}
-use Rattle.rules.specs.File.{Deck, numberAt, fansIn, systemsIn, systemAt, survivalOffset, systemsOffset, fileOf, deckIn, fileRefusal}
+use Rattle.rules.specs.File.{Deck, mostFans, mostSystems, fansIn, countIn, systemIn, fileOf, deckIn, fileRefusal}
+use Rattle.deck.specs.declared.Read.{Read}
 use Rattle.deck.specs.Read.{noDeck, arraysOf, keptDeck, readOf}
 use Rattle.deck.specs.Bounds.{Bounds}
 use Rattle.rules.proofs.Lists.{below-length}
-use Rattle.rules.proofs.Unless.{unless-some, unless-none}
+use Rattle.rules.proofs.Unless.{unless-none}
 use Rattle.deck.proofs.Lists.{padded-take, padded-get}
 use Rattle.deck.proofs.File.{file-accepted, deck-back}
 
 module _ (bytes : List ℕ) where
-  pub read-refused : (fileRefusal bytes ≡ 0 → ⊥) → readOf bytes ≡ record { refusal = fileRefusal bytes; deck = noDeck }
-  unfolding readOf
-  read-refused h = λ x. record { refusal = fileRefusal bytes; deck = unless-some (fileRefusal bytes) (λ n. noDeck) (keptDeck bytes) h x }
-
-  pub read-kept : fileRefusal bytes ≡ 0 → readOf bytes ≡ record { refusal = 0; deck = keptDeck bytes }
+  read-kept : fileRefusal bytes ≡ 0 → readOf bytes ≡ record { refusal = 0; deck = keptDeck bytes }
   unfolding readOf
   read-kept e = λ x. record { refusal = e x; deck = unless-none (fileRefusal bytes) (λ n. noDeck) (keptDeck bytes) e x }
 
+  -- what the reader's answer is, by its refusal
+  module _ (r : Read) (is : r ≡ readOf bytes) where
+    pub read-refusal : r .refusal ≡ fileRefusal bytes
+    unfolding readOf
+    read-refusal = ap (λ q. q .refusal) is
+
+    pub read-none : r .refusal ≡ 0 → fileRefusal bytes ≡ 0
+    read-none e = sym read-refusal ∙ e
+
+    pub read-deck : r .refusal ≡ 0 → r .deck ≡ keptDeck bytes
+    read-deck e = ap (λ q. q .deck) (is ∙ read-kept (read-none e))
+
   pub kept-survival : take (fansIn bytes) (keptDeck bytes .survival) ≡ deckIn bytes .survival
   unfolding keptDeck deckIn
-  kept-survival = padded-take 64 0 (fansIn bytes) _
+  kept-survival = padded-take mostFans 0 (fansIn bytes) _
 
   pub kept-weights : take (fansIn bytes) (keptDeck bytes .weights) ≡ deckIn bytes .weights
   unfolding keptDeck deckIn
-  kept-weights = padded-take 64 0 (fansIn bytes) _
+  kept-weights = padded-take mostFans 0 (fansIn bytes) _
 
-  pub kept-systems : take (systemsIn bytes) (keptDeck bytes .rated) ≡ deckIn bytes .systems
+  pub kept-system : (d : System) (s : ℕ) → s < countIn bytes
+      → getD (keptDeck bytes .systems) s d ≡ systemIn bytes s
   unfolding keptDeck deckIn
-  kept-systems = padded-take 32 _ (systemsIn bytes) _
-
-  pub kept-system : (d : System) (s : ℕ) → s < systemsIn bytes
-      → getD (keptDeck bytes .rated) s d ≡ systemAt bytes (systemsOffset (fansIn bytes) + 10 * s)
-  unfolding keptDeck deckIn
-  kept-system d s h = padded-get 32 _ d (systemsIn bytes) _ s h
+  kept-system d s h = padded-get mostSystems _ d (countIn bytes) _ s h
 
   pub kept-arrays : keptDeck bytes ≡ arraysOf (deckIn bytes)
   unfolding keptDeck deckIn
   kept-arrays =
-      let n = sym (below-length (fansIn bytes) (λ i. numberAt 4 bytes (survivalOffset + 4 * i))) in
-      let m = sym (below-length (systemsIn bytes) (λ s. systemAt bytes (systemsOffset (fansIn bytes) + 10 * s))) in
+      let n = sym (below-length (fansIn bytes) _) in
+      let m = sym (below-length (countIn bytes) (systemIn bytes)) in
       λ x. record {
         fans = n x;
-        systems = m x;
+        count = m x;
         survival = keptDeck bytes .survival;
         weights = keptDeck bytes .weights;
-        rated = keptDeck bytes .rated;
+        systems = keptDeck bytes .systems;
       }
 
 -- the reader hands on the deck that a file was written from

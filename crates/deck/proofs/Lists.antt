@@ -71,10 +71,6 @@ module _ {limit : ℕ} where
   pub under-rest : {x : ℕ} {xs : List ℕ} → Under limit (x ∷ xs) → Under limit xs
   under-rest hs = record { each = λ i. hs .each (suc i) }
 
-  pub under-append : {xs ys : List ℕ} → Under limit xs → Under limit ys → Under limit (xs ++ ys)
-  under-append {xs = []} hs gs = gs
-  under-append {xs = x ∷ xs} hs gs = under-cons (hs .each 0) (under-append (under-rest hs) gs)
-
   pub under-below : (n : ℕ) (f : ℕ → ℕ) → ((i : ℕ) → f i < limit) → Under limit (listBelow n f)
   under-below n f h = record {
     each =

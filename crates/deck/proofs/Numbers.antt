@@ -6,13 +6,13 @@ use Prim.Native.Nat.{ℕ, zero, suc, _+_, _*_, _/_, _%_, _^_, _≤_, _<_}
 use native.Mathlib.Nat.{zero-add, suc-add, mul-zero, mul-suc, pow-suc}
 use native.Mathlib.Numerals.{add-one, add-two}
 use native.Mathlib.Omega.{arith}
-use lib.ListN.{length, getD, take, drop, length-append, List·getD-append}
+use lib.ListN.{length, getD, take, drop, length-append}
 use lib.Seq.{drop-cons, take-add, drop-drop}
 use Rattle.rules.specs.Below.{listBelow}
-use Rattle.rules.specs.File.{bytesOf, numberAt, allBytes}
+use Rattle.rules.specs.File.{bytesOf, numberAt, nthNumber, numbersFrom, allBytes}
 use Rattle.deck.specs.Bounds.{Under, Bytes}
 use Rattle.rules.proofs.Lists.{below-is}
-use Rattle.deck.proofs.Lists.{under-none, under-cons, under-rest, under-append}
+use Rattle.deck.proofs.Lists.{under-rest}
 
 -- a read past a first byte, past a list, and within one
 number-past : (width b : ℕ) (bytes : List ℕ) (at : ℕ) → numberAt width (b ∷ bytes) (suc at) ≡ numberAt width bytes at
@@ -23,11 +23,6 @@ number-past (suc width) b bytes at = rw (number-past width b bytes (suc at))
 pub number-right : (width : ℕ) (xs ys : List ℕ) (at : ℕ) → numberAt width (xs ++ ys) (length xs + at) ≡ numberAt width ys at
 number-right width [] ys at = rw zero-add
 number-right width (x ∷ xs) ys at = rw (suc-add (length xs) at, number-past width x (xs ++ ys)) (number-right width xs ys at)
-
-pub number-left : (width : ℕ) (xs ys : List ℕ) (at : ℕ) → at + width ≤ length xs → numberAt width (xs ++ ys) at ≡ numberAt width xs at
-unfolding numberAt
-number-left zero xs ys at h = refl
-number-left (suc width) xs ys at h = rw (List·getD-append xs ys 0 at (omega arith), number-left width xs ys (suc at) (omega arith))
 
 -- a number of two bytes, and one of four, by its halves
 pub number-two : (bytes : List ℕ) (at : ℕ) → numberAt 2 bytes at ≡ getD bytes at 0 + 256 * getD bytes (at + 1) 0
@@ -43,6 +38,10 @@ pub number-fits : (width : ℕ) (bytes : List ℕ) (at : ℕ) → Bytes bytes �
 unfolding numberAt
 number-fits zero bytes at small = omega arith
 number-fits (suc width) bytes at small = rw (pow-suc 256 width) (omega (arith, small .each at, number-fits width bytes (suc at) small))
+
+-- and so is what the program reads, since its bytes are bytes
+pub spelled-fits : (width : ℕ) (bytes : List ℕ) (at : ℕ) {r : ℕ} → r ≡ numberAt width bytes at → ((i : ℕ) → getD bytes i 0 < 256) → r < 256 ^ width
+spelled-fits width bytes at e small = rw e (number-fits width bytes at record { each = small })
 
 pub number-bytes : (width x : ℕ) (ys : List ℕ) → x < 256 ^ width → numberAt width (bytesOf width x ++ ys) 0 ≡ x
 unfolding numberAt bytesOf
@@ -79,17 +78,6 @@ unfolding allBytes
 all-append width [] ys = refl
 all-append width (x ∷ xs) ys = rw (all-append width xs ys, append-assoc)
 
--- each a byte
-bytes-small : (width x : ℕ) → Bytes (bytesOf width x)
-unfolding bytesOf
-bytes-small zero x = under-none (omega arith)
-bytes-small (suc width) x = under-cons (omega arith) (bytes-small width (x / 256))
-
-pub all-bytes : (width : ℕ) (xs : List ℕ) → Bytes (allBytes width xs)
-unfolding allBytes
-all-bytes width [] = under-none (omega arith)
-all-bytes width (x ∷ xs) = under-append (bytes-small width x) (all-bytes width xs)
-
 number-in : (width : ℕ) (xs ys : List ℕ) (i : ℕ) → Under (256 ^ width) xs → i < length xs
     → numberAt width (allBytes width xs ++ ys) (width * i) ≡ getD xs i 0
 unfolding allBytes
@@ -109,17 +97,17 @@ pub record Stands (width : ℕ) (xs bytes : List ℕ) (at : ℕ) : Type 0 where
 
 -- reading the bytes of a list gives the list, and the bytes of a list that was read are those that were read
 pub number-within : {width : ℕ} {xs bytes : List ℕ} {at : ℕ} → Stands width xs bytes at → Under (256 ^ width) xs
-    → (i : ℕ) → i < length xs → numberAt width bytes (at + width * i) ≡ getD xs i 0
+    → (i : ℕ) → i < length xs → nthNumber width bytes at i ≡ getD xs i 0
 number-within {width} {xs} s small i h =
     rw (s .parts, ← s .place, append-assoc, number-right width (s .before) (allBytes width xs ++ s .after) (width * i))
     (number-in width xs (s .after) i small h)
 
 pub numbers-back : {width : ℕ} {xs bytes : List ℕ} {at : ℕ} → Stands width xs bytes at → Under (256 ^ width) xs
-    → (n : ℕ) → length xs ≡ n → listBelow n (λ i. numberAt width bytes (at + width * i)) ≡ xs
+    → (n : ℕ) → length xs ≡ n → numbersFrom width bytes at n ≡ xs
 numbers-back {xs} s small n l = below-is xs 0 n _ l (λ i h. number-within s small i (rw l h))
 
 pub bytes-back : (width : ℕ) (bytes : List ℕ) (at n : ℕ) → Bytes bytes → at + width * n ≤ length bytes
-    → allBytes width (listBelow n (λ i. numberAt width bytes (at + width * i))) ≡ take (width * n) (drop at bytes)
+    → allBytes width (numbersFrom width bytes at n) ≡ take (width * n) (drop at bytes)
 unfolding allBytes listBelow
 bytes-back width bytes at zero small h = rw mul-zero
 bytes-back width bytes at (suc n) small h =
@@ -129,7 +117,7 @@ bytes-back width bytes at (suc n) small h =
       e,
       take-add (width * n) width (drop at bytes),
       drop-drop (width * n) at bytes,
-      all-append width (listBelow n (λ i. numberAt width bytes (at + width * i))) (numberAt width bytes (at + width * n) ∷ []),
+      all-append width (numbersFrom width bytes at n) (nthNumber width bytes at n ∷ []),
       bytes-back width bytes at n small (omega arith),
     )
     (ap (λ x. take (width * n) (drop at bytes) ++ x) (append-nil _ ∙ bytes-number width bytes (at + width * n) small fits))

@@ -5,22 +5,23 @@ use Prim.Native.Nat.{ℕ, _≤_}
 use lib.ListN.{length}
 use borrow.Author.Tests.{ltb-false, eqb-true, not-false, le-ltb, le-leb, eq-eqb}
 use Rattle.rules.specs.Refusal.{firstOf}
-use Rattle.rules.specs.File.{numberAt, fansIn, systemsIn, survivalOffset, weightsOffset, systemsOffset, fileLength, fileRefusal}
+use Rattle.rules.specs.File.{numberAt, versionField, zeroField, survivalField, weightsField, systemsField, headerLength, version, mostFans, mostSystems}
+use Rattle.rules.specs.File.{fansIn, countIn, survivalOffset, weightsOffset, systemsOffset, fileLength, fileRefusal}
 use Rattle.rules.proofs.Seven.{both, within-true}
 use Rattle.rules.proofs.Accepted.{none-first}
 
 pub record Sound (bytes : List ℕ) : Type 0 where
-  pub long : 20 ≤ length bytes
-  pub version : numberAt 2 bytes 0 ≡ 1
-  pub nought : numberAt 2 bytes 2 ≡ 0
+  pub long : headerLength ≤ length bytes
+  pub version : numberAt 2 bytes versionField ≡ version
+  pub nought : numberAt 2 bytes zeroField ≡ 0
   pub some-fan : 1 ≤ fansIn bytes
-  pub most-fans : fansIn bytes ≤ 64
-  pub some-system : 1 ≤ systemsIn bytes
-  pub most-systems : systemsIn bytes ≤ 32
-  pub survival-place : numberAt 4 bytes 8 ≡ survivalOffset
-  pub weights-place : numberAt 4 bytes 12 ≡ weightsOffset (fansIn bytes)
-  pub systems-place : numberAt 4 bytes 16 ≡ systemsOffset (fansIn bytes)
-  pub whole : length bytes ≡ fileLength (fansIn bytes) (systemsIn bytes)
+  pub most-fans : fansIn bytes ≤ mostFans
+  pub some-system : 1 ≤ countIn bytes
+  pub most-systems : countIn bytes ≤ mostSystems
+  pub survival-place : numberAt 4 bytes survivalField ≡ survivalOffset
+  pub weights-place : numberAt 4 bytes weightsField ≡ weightsOffset (fansIn bytes)
+  pub systems-place : numberAt 4 bytes systemsField ≡ systemsOffset (fansIn bytes)
+  pub whole : length bytes ≡ fileLength (fansIn bytes) (countIn bytes)
 
 pub sound : (bytes : List ℕ) → fileRefusal bytes ≡ 0 → Sound bytes
 unfolding fileRefusal
@@ -31,8 +32,8 @@ sound bytes e =
     let count = none-first 11 _ _ (size .1) in
     let layout = none-first 12 _ _ (count .1) in
     let zeros = both _ _ (not-false _ (version .0)) in
-    let fans = within-true 1 (fansIn bytes) 64 (not-false _ (size .0)) in
-    let systems = within-true 1 (systemsIn bytes) 32 (not-false _ (count .0)) in
+    let fans = within-true 1 (fansIn bytes) mostFans (not-false _ (size .0)) in
+    let systems = within-true 1 (countIn bytes) mostSystems (not-false _ (count .0)) in
     let whole = both _ _ (not-false _ (layout .0)) in
     let third = both _ _ (whole .0) in
     let offsets = both _ _ (third .0) in
@@ -54,7 +55,7 @@ pub not-refused : (bytes : List ℕ) → Sound bytes → fileRefusal bytes ≡ 0
 unfolding fileRefusal firstOf
 not-refused bytes s =
     simp (
-      le-ltb (length bytes) 20 (s .long),
+      le-ltb (length bytes) headerLength (s .long),
       eq-eqb _ _ (s .version),
       eq-eqb _ _ (s .nought),
       le-leb _ _ (s .some-fan),

@@ -9,7 +9,7 @@ use native.Mathlib.Omega.{arith}
 use lib.ListN.{length, getD}
 use Rattle.rules.specs.declared.System.{System}
 use Rattle.rules.specs.Below.{listBelow}
-use Rattle.rules.specs.File.{numberAt, systemNumbers, systemAt}
+use Rattle.rules.specs.File.{numberAt, nthNumber, numbersFrom, systemNumbers, systemBytes, systemAt, nthSystem}
 use Rattle.deck.specs.Read.{noSystem}
 use Rattle.rules.proofs.Lists.{below-is}
 
@@ -46,19 +46,19 @@ five-in (x ∷ ss) (suc s) =
     ∙ five-in ss s
 
 -- the system at a place, and the s-th system from a place on, by their numbers
-at-numbers : (bytes : List ℕ) (at : ℕ) → systemAt bytes at ≡ fiveOf (λ i. numberAt 2 bytes (at + 2 * i))
+at-numbers : (bytes : List ℕ) (at : ℕ) → systemAt bytes at ≡ fiveOf (nthNumber 2 bytes at)
 unfolding systemAt
 at-numbers bytes at = rw (add-zero at)
 
-at-five : (bytes : List ℕ) (at s : ℕ) → systemAt bytes (at + 10 * s) ≡ fiveOf (λ i. numberAt 2 bytes (at + 2 * (5 * s + i)))
+at-five : (bytes : List ℕ) (at s : ℕ) → nthSystem bytes at s ≡ fiveOf (λ i. nthNumber 2 bytes at (5 * s + i))
 at-five bytes at s =
-    at-numbers bytes (at + 10 * s)
+    at-numbers bytes (at + systemBytes * s)
     ∙ five-same _ _
-    (λ i h. let e : at + 10 * s + 2 * i ≡ at + 2 * (5 * s + i) = omega arith in ap (numberAt 2 bytes) e)
+    (λ i h. let e : at + systemBytes * s + 2 * i ≡ at + 2 * (5 * s + i) = omega arith in ap (numberAt 2 bytes) e)
 
 pub systems-back : (ss : List System) (bytes : List ℕ) (at m : ℕ) → length ss ≡ m
-    → ((i : ℕ) → i < 5 * m → numberAt 2 bytes (at + 2 * i) ≡ getD (systemNumbers ss) i 0)
-    → listBelow m (λ s. systemAt bytes (at + 10 * s)) ≡ ss
+    → ((i : ℕ) → i < 5 * m → nthNumber 2 bytes at i ≡ getD (systemNumbers ss) i 0)
+    → listBelow m (nthSystem bytes at) ≡ ss
 systems-back ss bytes at m l h =
     below-is ss noSystem m _ l
     (λ s g. at-five bytes at s ∙ five-same _ _ (λ i j. h (5 * s + i) (omega arith)) ∙ five-in ss s)
@@ -69,16 +69,16 @@ unfolding listBelow
 below-five n f = simp (add-zero, towards-suc, append-assoc)
 
 pub numbers-of : (bytes : List ℕ) (at m : ℕ)
-    → systemNumbers (listBelow m (λ s. systemAt bytes (at + 10 * s))) ≡ listBelow (5 * m) (λ i. numberAt 2 bytes (at + 2 * i))
+    → systemNumbers (listBelow m (nthSystem bytes at)) ≡ numbersFrom 2 bytes at (5 * m)
 unfolding systemNumbers listBelow
 numbers-of bytes at zero = refl
 numbers-of bytes at (suc m) =
-    let f : ℕ → ℕ = λ i. numberAt 2 bytes (at + 2 * i) in
+    let f = nthNumber 2 bytes at in
     let e : 5 * suc m ≡ 5 * m + 5 = omega arith in
     rw (
       e,
       below-five (5 * m) f,
       at-five bytes at m,
-      numbers-append (listBelow m (λ s. systemAt bytes (at + 10 * s))) (fiveOf (λ i. f (5 * m + i)) ∷ []),
+      numbers-append (listBelow m (nthSystem bytes at)) (fiveOf (λ i. f (5 * m + i)) ∷ []),
       numbers-of bytes at m,
     )

@@ -3,7 +3,7 @@ use mathlib.Core.Path.{_≡_}
 use mathlib.Core.List.{List}
 use Prim.Native.Nat.{ℕ, _^_, _≤_, _<_}
 use lib.ListN.{length, getD}
-use Rattle.rules.specs.File.{Deck, systemNumbers}
+use Rattle.rules.specs.File.{Deck, systemNumbers, mostFans, mostSystems}
 
 -- every number of a list is below a limit
 pub record Under (limit : ℕ) (xs : List ℕ) : Type 0 where
@@ -16,10 +16,10 @@ Bytes bytes = Under 256 bytes
 -- "P (4 bytes each), weights (2 each)", a system's five numbers "2 each"
 pub record Bounds (d : Deck) : Type 0 where
   pub some-fan : 1 ≤ length (d .survival)
-  pub most-fans : length (d .survival) ≤ 64
+  pub most-fans : length (d .survival) ≤ mostFans
   pub weighed : length (d .weights) ≡ length (d .survival)
   pub some-system : 1 ≤ length (d .systems)
-  pub most-systems : length (d .systems) ≤ 32
+  pub most-systems : length (d .systems) ≤ mostSystems
   pub survival-fits : Under (2 ^ 32) (d .survival)
   pub weights-fit : Under (2 ^ 16) (d .weights)
   pub systems-fit : Under (2 ^ 16) (systemNumbers (d .systems))

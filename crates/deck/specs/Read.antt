@@ -5,7 +5,7 @@ use lib.ListN.{length, replicate}
 use Rattle.rules.specs.declared.System.{System}
 use Rattle.rules.specs.Answer.{unless}
 use Rattle.rules.specs.File as file
-use Rattle.rules.specs.File.{fansIn, systemsIn, deckIn, fileRefusal}
+use Rattle.rules.specs.File.{mostFans, mostSystems, fansIn, countIn, deckIn, fileRefusal}
 use Rattle.deck.specs.declared.Deck.{Deck}
 use Rattle.deck.specs.declared.Read.{Read}
 
@@ -20,30 +20,30 @@ noSystem = record { rule = record { kind = 0; first = 0; second = 0 }; a = 0; b 
 abbrev pub noDeck : Deck
 noDeck = record {
   fans = 0;
-  systems = 0;
-  survival = replicate 64 0;
-  weights = replicate 64 0;
-  rated = replicate 32 noSystem;
+  count = 0;
+  survival = replicate mostFans 0;
+  weights = replicate mostFans 0;
+  systems = replicate mostSystems noSystem;
 }
 
 -- a deck in arrays
 abbrev pub arraysOf : file.Deck → Deck
 arraysOf d = record {
   fans = length (d .survival);
-  systems = length (d .systems);
-  survival = padded 64 0 (d .survival);
-  weights = padded 64 0 (d .weights);
-  rated = padded 32 noSystem (d .systems);
+  count = length (d .systems);
+  survival = padded mostFans 0 (d .survival);
+  weights = padded mostFans 0 (d .weights);
+  systems = padded mostSystems noSystem (d .systems);
 }
 
 -- the deck that a file holds, in arrays: its n and m are those of the file
 unfoldable pub keptDeck : List ℕ → Deck
 keptDeck bytes = record {
   fans = fansIn bytes;
-  systems = systemsIn bytes;
-  survival = padded 64 0 (deckIn bytes .survival);
-  weights = padded 64 0 (deckIn bytes .weights);
-  rated = padded 32 noSystem (deckIn bytes .systems);
+  count = countIn bytes;
+  survival = padded mostFans 0 (deckIn bytes .survival);
+  weights = padded mostFans 0 (deckIn bytes .weights);
+  systems = padded mostSystems noSystem (deckIn bytes .systems);
 }
 
 -- the reader's answer

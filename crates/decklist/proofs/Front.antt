@@ -10,28 +10,34 @@ use lib.ListN.{length, take}
 use lib.Seq.{length-take-le, getD-take}
 use borrow.Author.Tests.{le-ltb, ne-eqb, not-false}
 use Rattle.rules.specs.Refusal.{badSize}
-use Rattle.rules.specs.File.{numberAt, fansIn, systemsIn, survivalOffset, weightsOffset, systemsOffset, fileLength, badLayout, fileRefusal}
+use Rattle.rules.specs.File.{versionField, zeroField, fansField, countField, survivalField, weightsField, systemsField, headerLength}
+use Rattle.rules.specs.File.{mostFans, mostSystems, survivalOffset, weightsOffset, systemsOffset, fileLength}
+use Rattle.rules.specs.File.{numberAt, fansIn, countIn, badLayout, fileRefusal}
 use Rattle.rules.proofs.Seven.{within-true}
 use Rattle.rules.proofs.Accepted.{first-same}
 use Rattle.deck.proofs.Sound.{sound}
 use Rattle.decklist.specs.Lines.{listText}
-use Rattle.decklist.proofs.Printed.{refused-list}
+use Rattle.decklist.proofs.Printing.{refused-list}
+
+-- the length of the longest sound file, 724
+abbrev longest : ℕ
+longest = fileLength mostFans mostSystems
 
 -- a length that differs is refused, whatever the offsets are
-long-layout : (bytes : List ℕ) → 724 < length bytes → fansIn bytes ≤ 64 → systemsIn bytes ≤ 32 → badLayout bytes ≡ true
+long-layout : (bytes : List ℕ) → longest < length bytes → fansIn bytes ≤ mostFans → countIn bytes ≤ mostSystems → badLayout bytes ≡ true
 long-layout bytes long fans systems =
     let n = fansIn bytes in
-    let placed = eqb (numberAt 4 bytes 8) survivalOffset && eqb (numberAt 4 bytes 12) (weightsOffset n) && eqb (numberAt 4 bytes 16) (systemsOffset n) in
-    rw (ne-eqb (length bytes) (fileLength n (systemsIn bytes)) (λ e. omega arith)) (never placed)
+    let placed = eqb (numberAt 4 bytes survivalField) survivalOffset && eqb (numberAt 4 bytes weightsField) (weightsOffset n) && eqb (numberAt 4 bytes systemsField) (systemsOffset n) in
+    rw (ne-eqb (length bytes) (fileLength n (countIn bytes)) (λ e. omega arith)) (never placed)
   where
     never : (b : Bool) → not (b && false) ≡ true
     never true = refl
     never false = refl
 
-long-refused : (bytes : List ℕ) → 724 < length bytes → fileRefusal bytes ≡ 0 → ⊥
+long-refused : (bytes : List ℕ) → longest < length bytes → fileRefusal bytes ≡ 0 → ⊥
 long-refused bytes long none = let s = sound bytes none in omega arith
 
-module _ (bytes : List ℕ) (k : ℕ) (long : 724 < k) (within : k ≤ length bytes) where
+module _ (bytes : List ℕ) (k : ℕ) (long : longest < k) (within : k ≤ length bytes) where
   abbrev front : List ℕ
   front = take k bytes
 
@@ -47,15 +53,15 @@ module _ (bytes : List ℕ) (k : ℕ) (long : 724 < k) (within : k ≤ length by
   same-refusal : fileRefusal front ≡ fileRefusal bytes
   unfolding fileRefusal
   same-refusal =
-      first-same 10 _ _ _ _ (rw (size, le-ltb k 20 (omega arith), le-ltb (length bytes) 20 (omega arith))) (λ short.
-      first-same 11 _ _ _ _ (rw (same-number 2 0 (omega arith), same-number 2 2 (omega arith))) (λ version.
-      first-same 2 _ _ _ _ (ap badSize (same-number 2 4 (omega arith))) (λ fans.
-      first-same 12 _ _ _ _ (rw (same-number 2 6 (omega arith))) (λ systems.
-      let n = within-true 1 _ 64 (not-false _ fans) .1 in
-      let m = within-true 1 _ 32 (not-false _ systems) .1 in
+      first-same 10 _ _ _ _ (rw (size, le-ltb k headerLength (omega arith), le-ltb (length bytes) headerLength (omega arith))) (λ short.
+      first-same 11 _ _ _ _ (rw (same-number 2 versionField (omega arith), same-number 2 zeroField (omega arith))) (λ version.
+      first-same 2 _ _ _ _ (ap badSize (same-number 2 fansField (omega arith))) (λ fans.
+      first-same 12 _ _ _ _ (rw (same-number 2 countField (omega arith))) (λ systems.
+      let n = within-true 1 _ mostFans (not-false _ fans) .1 in
+      let m = within-true 1 _ mostSystems (not-false _ systems) .1 in
       first-same 13 _ _ _ _
       (long-layout front (rw size long) n m
-      ∙ sym (long-layout bytes (omega arith) (rw (same-number 2 4 (omega arith)) at n) (rw (same-number 2 6 (omega arith)) at m)))
+      ∙ sym (long-layout bytes (omega arith) (rw (same-number 2 fansField (omega arith)) at n) (rw (same-number 2 countField (omega arith)) at m)))
       (λ layout. refl)))))
 
   pub front-prints : listText front ≡ listText bytes

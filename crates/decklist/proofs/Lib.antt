@@ -1,5 +1,4 @@
--- The laws of texts in a buffer, of the listing of a file, and of input that is cut.
-mod Digits
-mod Adding
-mod Printed
+-- The laws of the listing of a file, and of input that is cut.
+mod Lengths
+mod Printing
 mod Front

@@ -1,3 +1,3 @@
--- What decklist prints, and how its lines come to stand in a buffer.
+-- What decklist prints, and the buffer that its lines fill.
 pub mod Lines
-pub mod Added
+pub mod Outcome

@@ -1,9 +1,22 @@
 -- A case that is whole: it ends within the file, and its lists and its table fit the rooms made for them.
+use mathlib.Core.List.{List}
 use Prim.Native.Nat.{ℕ, _+_, _≤_}
+use lib.ListN.{length}
+use Rattle.casefile.specs.Rooms.{mostNumbers}
 use Rattle.figures_cases.specs.declared.Sizes.{Sizes}
 
-pub record Whole (bytes at : ℕ) (s : Sizes) : Type 0 where
-  pub fans : s .fans ≤ 256
-  pub weights : s .weights ≤ 256
-  pub room : s .room ≤ 8000
-  pub ends : at + 10 + s .fans + s .weights ≤ bytes
+-- the words before the survival numbers, and those of a case beside its lists
+abbrev pub headWords : ℕ
+headWords = 9
+
+abbrev pub otherWords : ℕ
+otherWords = 10
+
+abbrev pub mostCells : ℕ
+mostCells = 8000
+
+pub record Whole (bytes : List ℕ) (at : ℕ) (s : Sizes) : Type 0 where
+  pub fans : s .fans ≤ mostNumbers
+  pub weights : s .weights ≤ mostNumbers
+  pub room : s .room ≤ mostCells
+  pub ends : at + otherWords + s .fans + s .weights ≤ length bytes

@@ -1,16 +1,40 @@
 // Runs the cases of standard input and writes a rating and the checksum of the lent table a line. All of the input is words of 64 bits, lowest
 // byte first: the number of cases, then each case: call (0 whole list, 1 stretch), kind, first, second, a, b, room, seed, the number of survival
 // numbers, the survival numbers, the number of weights, the weights. A case that is cut short ends the run.
-ghost use mathlib.Core.Path.{_≡_};
-ghost use mathlib.Core.Bool.{true, false};
+mod size; // size.rt: how long a case is
+
 ghost use Prim.Native.Nat.{_+_, _≤_};
 ghost use lib.ListN.{length};
 ghost use Rattle.io.specs.Counts.{Counts};
-ghost use Rattle.figures_cases.specs.Whole.{Whole};
+ghost use Rattle.figures_cases.specs.Whole.{headWords, Whole};
+use casefile::MOST_NUMBERS;
+use casefile::cases;
+use casefile::tables;
+use casefile::words;
 use libc::STDIN_FILENO;
 use libc::STDOUT_FILENO;
 use rules::Rating;
-use rules::Rule;
+
+// Where a case has its rule, a, b, the cells of the table, the seed and the number of survival numbers.
+const RULE: usize = 1;
+
+const A: usize = 4;
+
+const B: usize = 5;
+
+const CELLS: usize = 6;
+
+const SEED: usize = 7;
+
+const FANS: usize = 8;
+
+// The words before the survival numbers, and those of a case beside its lists.
+const HEAD: usize = 9;
+
+const OTHERS: usize = 10;
+
+// The cells of a table, at most.
+const MOST_CELLS: usize = 8000;
 
 // How many survival numbers, weights and cells a case has, and whether it is whole.
 pub struct Sizes {
@@ -20,86 +44,29 @@ pub struct Sizes {
     pub whole: bool,
 }
 
-// The sizes of a case that is not whole.
-fn cut_short() -> Sizes
-    ensures { λ r. ⌜ r .whole ≡ false ⌝ }
-{
-    Sizes {
-        fans: 0,
-        weights: 0,
-        room: 0,
-        whole: false,
-    }
-}
-
-// Does the case at `at`, of n survival numbers and w weights, end within the file, and does each number fit its list?
-fn fits(bytes: &[u8], at: usize, n: usize, w: usize) -> bool
-    requires { ⌜ (at ≤ length (now bytes)) × (n ≤ 256) × (w ≤ 256) ⌝ }
-    ensures { λ r. ⌜ (r ≡ true → at + 10 + n + w ≤ length (now (bytes .entry))) ⌝ }
-{
-    if casefile::words(bytes) < at + 10 + n + w {
-        return false;
-    }
-    if casefile::fit(bytes, at + 9, n, 4294967296) {
-        return casefile::fit(bytes, at + 10 + n, w, 65536);
-    }
-    false
-}
-
-// The sizes of the case at `at`.
-fn sizes_at(bytes: &[u8], at: usize) -> Sizes
-    requires { ⌜ at ≤ length (now bytes) ⌝ }
-    ensures { λ r. ⌜ (r .whole ≡ true → Whole (length (now (bytes .entry))) at r) ⌝ }
-{
-    let room = casefile::word(bytes, at + 6);
-    let n = casefile::word(bytes, at + 8);
-    if 8000 < room {
-        return cut_short();
-    }
-    if 256 < n {
-        return cut_short();
-    }
-    let fans = n as usize;
-    let w = casefile::word(bytes, at + 9 + fans);
-    if 256 < w {
-        return cut_short();
-    }
-    let whole = fits(bytes, at, fans, w as usize);
-    Sizes {
-        fans,
-        weights: w as usize,
-        room: room as usize,
-        whole,
-    }
-}
-
 // The rating that the case at `at` asks of its lists.
 fn asked(bytes: &[u8], at: usize, survival: &[u32], weights: &[u16], table: &mut [u64]) -> Rating
-    requires { ⌜ at ≤ length (now bytes) ⌝ }
+    requires { ⌜ at + headWords ≤ length (now bytes) ⌝ }
 {
-    let rule = Rule {
-        kind: casefile::word(bytes, at + 1),
-        first: casefile::word(bytes, at + 2),
-        second: casefile::word(bytes, at + 3),
-    };
-    if casefile::word(bytes, at) == 0 {
+    let rule = cases::rule_at(bytes, at + RULE);
+    if words::word(bytes, at) == 0 {
         return figures::figures(rule, survival, weights, table);
     }
-    let a = casefile::word(bytes, at + 4);
-    let b = casefile::word(bytes, at + 5);
+    let a = words::word(bytes, at + A);
+    let b = words::word(bytes, at + B);
     figures::stretch(rule, a, b, survival, weights, table)
 }
 
 // The same, with the lists read from the case.
-fn rated(bytes: &[u8], at: usize, s: Sizes, table: &mut [u64]) -> Rating
-    requires { ⌜ Whole (length (now bytes)) at s ⌝ }
+fn answered(bytes: &[u8], at: usize, s: Sizes, table: &mut [u64]) -> Rating
+    requires { ⌜ Whole (now bytes) at s ⌝ }
 {
     let n = s.fans;
     let w = s.weights;
-    let mut survival = [0u32; 256];
-    casefile::longs(bytes, at + 9, &mut survival[..n]);
+    let mut survival = [0u32; MOST_NUMBERS];
+    words::longs(bytes, at + HEAD, &mut survival[..n]);
     let mut weights = casefile::weights_room();
-    casefile::shorts(bytes, at + 10 + n, &mut weights[..w]);
+    words::shorts(bytes, at + OTHERS + n, &mut weights[..w]);
     asked(bytes, at, &survival[..n], &weights[..w], table)
 }
 
@@ -110,15 +77,10 @@ fn put_rating(rating: Rating, out: &mut [u8], at: usize) -> usize
 {
     match rating {
         Rating::Range { low, high } => {
-            let name = casefile::put(out, at, b"low ");
-            let number = casefile::put_number(out, name, low);
-            let end = casefile::put(out, number, b" high ");
-            casefile::put_number(out, end, high)
+            let end = text::put_named(b"low ", low, out, at);
+            text::put_named(b" high ", high, out, end)
         }
-        Rating::Refused(number) => {
-            let end = casefile::put(out, at, b"refused ");
-            casefile::put_number(out, end, number)
-        }
+        Rating::Refused(number) => text::put_named(b"refused ", number, out, at),
     }
 }
 
@@ -127,10 +89,9 @@ fn put_line(rating: Rating, cells: u64, out: &mut [u8], at: usize) -> usize
     requires { ⌜ at ≤ length (now out) ⌝ }
     ensures { λ r. ⌜ r ≤ length (now (out .exit)) ⌝ }
 {
-    let rated = put_rating(rating, out, at);
-    let name = casefile::put(out, rated, b" cells ");
-    let end = casefile::put_number(out, name, cells);
-    casefile::put(out, end, b"\n")
+    let answered = put_rating(rating, out, at);
+    let end = text::put_named(b" cells ", cells, out, answered);
+    text::put(out, end, b"\n")
 }
 
 // Runs one case over a table that it fills with rubbish, and puts its line.
@@ -142,21 +103,23 @@ fn run_over(
     out: &mut [u8],
     end: usize,
 ) -> usize
-    requires { ⌜ Whole (length (now bytes)) at s × (end ≤ length (now out)) ⌝ }
+    requires case { ⌜ Whole (now bytes) at s ⌝ }
+    requires within { ⌜ end ≤ length (now out) ⌝ }
     ensures { λ r. ⌜ r ≤ length (now (out .exit)) ⌝ }
 {
-    casefile::rubbish(casefile::word(bytes, at + 7), table);
-    let rating = rated(bytes, at, s, table);
-    put_line(rating, casefile::checksum(table), out, end)
+    tables::rubbish(words::word(bytes, at + SEED), table);
+    let rating = answered(bytes, at, s, table);
+    put_line(rating, tables::checksum(table), out, end)
 }
 
 // The same, with a table of as many cells as the case says.
 fn run_case(bytes: &[u8], at: usize, s: Sizes, out: &mut [u8], end: usize) -> usize
-    requires { ⌜ Whole (length (now bytes)) at s × (end ≤ length (now out)) ⌝ }
+    requires case { ⌜ Whole (now bytes) at s ⌝ }
+    requires within { ⌜ end ≤ length (now out) ⌝ }
     ensures { λ r. ⌜ r ≤ length (now (out .exit)) ⌝ }
 {
     let room = s.room;
-    let mut cells = [0u64; 8000];
+    let mut cells = [0u64; MOST_CELLS];
     run_over(bytes, at, s, &mut cells[..room], out, end)
 }
 
@@ -164,20 +127,20 @@ fn run_case(bytes: &[u8], at: usize, s: Sizes, out: &mut [u8], end: usize) -> us
 fn run(bytes: &[u8], out: &mut [u8]) -> usize
     ensures { λ r. ⌜ Counts r (now (out .exit)) ⌝ }
 {
-    if casefile::words(bytes) < 1 {
+    if words::whole(bytes) < 1 {
         return 0;
     }
-    let cases = casefile::word(bytes, 0);
+    let cases = words::word(bytes, 0);
     let mut done: u64 = 0;
     let mut at: usize = 1;
     let mut end: usize = 0;
     while done < cases {
-        let s = sizes_at(bytes, at);
+        let s = size::sizes_at(bytes, at);
         if !s.whole {
             return end;
         }
         end = run_case(bytes, at, s, out, end);
-        at += 10 + s.fans + s.weights;
+        at += OTHERS + s.fans + s.weights;
         done += 1;
     }
     end

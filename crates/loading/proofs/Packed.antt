@@ -20,19 +20,19 @@ use Rattle.rules.specs.File.{Deck, badNumber, fileRefusal, systemOf, packed, lo
 use Rattle.rules.proofs.Enclosure.{value-le}
 use Rattle.rules.proofs.Conditions.{below-unit}
 use Rattle.rules.proofs.Accepted.{stretch-sound}
-use Rattle.loading.specs.Packing.{Packable}
+use Rattle.loading.specs.Packing.{mostRefusal, Packable}
 
 -- a refusal of a list of conditions is 0 or one of the list's numbers
-first-le : (n : ℕ) (b : Bool) (cs : List (ℕ × Bool)) → n ≤ 14 → firstOf cs ≤ 14 → firstOf ((n, b) ∷ cs) ≤ 14
+first-le : (n : ℕ) (b : Bool) (cs : List (ℕ × Bool)) → n ≤ mostRefusal → firstOf cs ≤ mostRefusal → firstOf ((n, b) ∷ cs) ≤ mostRefusal
 unfolding firstOf
 first-le n true cs h l = h
 first-le n false cs h l = l
 
-first-none : firstOf [] ≤ 14
+first-none : firstOf [] ≤ mostRefusal
 unfolding firstOf
 first-none = omega arith
 
-unless-packable : (r : ℕ) (answer : Rating) → r ≤ 14 → (r ≡ 0 → Packable answer) → Packable (unless r Refused answer)
+unless-packable : (r : ℕ) (answer : Rating) → r ≤ mostRefusal → (r ≡ 0 → Packable answer) → Packable (unless r Refused answer)
 unfolding unless
 unless-packable zero answer h l = l refl
 unless-packable (suc r) answer h l = h
@@ -42,7 +42,7 @@ figure-le : (up : Bool) (rule : Rule) (survival weights : List ℕ) → aboveUni
 figure-le up rule survival weights units =
     value-le (machine rule weights) S (numberOf survival) (omega arith) up (length survival) (λ i l. below-unit survival units i) _
 
-stretch-le : (rule : Rule) (a b : ℕ) (survival weights table : List ℕ) → stretchRefusal rule a b survival weights table ≤ 14
+stretch-le : (rule : Rule) (a b : ℕ) (survival weights table : List ℕ) → stretchRefusal rule a b survival weights table ≤ mostRefusal
 unfolding stretchRefusal
 stretch-le rule a b survival weights table =
     first-le 1 _ _ (omega arith) (first-le 2 _ _ (omega arith) (first-le 3 _ _ (omega arith) (first-le 4 _ _ (omega arith)

@@ -1,3 +1,2 @@
--- What the loading computer's call cites: the deck that a reader's arrays hold, and the answers that one number can carry.
-pub mod Parts
+-- What the loading computer's call cites: the answers that one number can carry.
 pub mod Packing

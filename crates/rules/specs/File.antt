@@ -26,51 +26,103 @@ unfoldable pub numberAt : (width : ℕ) (bytes : List ℕ) (at : ℕ) → ℕ
 numberAt zero bytes at = 0
 numberAt (suc width) bytes at = getD bytes at 0 + 256 * numberAt width bytes (suc at)
 
+-- the i-th of the numbers that stand one after the other from a place on, and the first n of them
+abbrev pub nthNumber : (width : ℕ) (bytes : List ℕ) (from i : ℕ) → ℕ
+nthNumber width bytes from i = numberAt width bytes (from + width * i)
+
+abbrev pub numbersFrom : (width : ℕ) (bytes : List ℕ) (from n : ℕ) → List ℕ
+numbersFrom width bytes from n = listBelow n (nthNumber width bytes from)
+
 -- the numbers of a list, each in so many bytes
 unfoldable pub allBytes : (width : ℕ) → List ℕ → List ℕ
 allBytes width [] = []
 allBytes width (x ∷ xs) = bytesOf width x ++ allBytes width xs
 
+-- where the header has each of its numbers: "version (2 bytes, 1), zero (2), n (2), systems m (2)", then the three offsets; and its length
+abbrev pub versionField : ℕ
+versionField = 0
+
+abbrev pub zeroField : ℕ
+zeroField = 2
+
+abbrev pub fansField : ℕ
+fansField = 4
+
+abbrev pub countField : ℕ
+countField = 6
+
+abbrev pub survivalField : ℕ
+survivalField = 8
+
+abbrev pub weightsField : ℕ
+weightsField = 12
+
+abbrev pub systemsField : ℕ
+systemsField = 16
+
+abbrev pub headerLength : ℕ
+headerLength = 20
+
+-- "Then P (4 bytes each), weights (2 each), systems of 10 bytes"
+abbrev pub survivalBytes : ℕ
+survivalBytes = 4
+
+abbrev pub weightBytes : ℕ
+weightBytes = 2
+
+abbrev pub systemBytes : ℕ
+systemBytes = 10
+
+-- the version, and the most fans and systems that a file has
+abbrev pub version : ℕ
+version = 1
+
+abbrev pub mostFans : ℕ
+mostFans = 64
+
+abbrev pub mostSystems : ℕ
+mostSystems = 32
+
 -- "offset of survival numbers (4) = 20, of weights (4) = 20 + 4n, of systems (4) = 20 + 6n", "Length 20 + 6n + 10m exactly"
 abbrev pub survivalOffset : ℕ
-survivalOffset = 20
+survivalOffset = headerLength
 
 abbrev pub weightsOffset : ℕ → ℕ
-weightsOffset n = 20 + 4 * n
+weightsOffset n = survivalOffset + survivalBytes * n
 
 abbrev pub systemsOffset : ℕ → ℕ
-systemsOffset n = 20 + 6 * n
+systemsOffset n = weightsOffset n + weightBytes * n
 
 abbrev pub fileLength : (n m : ℕ) → ℕ
-fileLength n m = 20 + 6 * n + 10 * m
+fileLength n m = systemsOffset n + systemBytes * m
 
--- "version (2 bytes, 1), zero (2), n (2), systems m (2)", then the three offsets
+-- the header's bytes
 unfoldable pub headerOf : (n m : ℕ) → List ℕ
 headerOf n m =
-    allBytes 2 (1 ∷ 0 ∷ n ∷ m ∷ []) ++ allBytes 4 (survivalOffset ∷ weightsOffset n ∷ systemsOffset n ∷ [])
+    allBytes 2 (version ∷ 0 ∷ n ∷ m ∷ []) ++ allBytes 4 (survivalOffset ∷ weightsOffset n ∷ systemsOffset n ∷ [])
 
--- "systems of 10 bytes: kind, first, second, a, b (2 each)"
+-- "kind, first, second, a, b (2 each)"
 unfoldable pub systemNumbers : List System → List ℕ
 systemNumbers [] = []
 systemNumbers (s ∷ ss) =
     s .rule .kind ∷ s .rule .first ∷ s .rule .second ∷ s .a ∷ s .b ∷ systemNumbers ss
 
--- the layout: the header, "Then P (4 bytes each), weights (2 each), systems"
+-- the layout
 unfoldable pub fileOf : Deck → List ℕ
 fileOf d =
     headerOf (length (d .survival)) (length (d .systems))
-    ++ allBytes 4 (d .survival)
-    ++ allBytes 2 (d .weights)
+    ++ allBytes survivalBytes (d .survival)
+    ++ allBytes weightBytes (d .weights)
     ++ allBytes 2 (systemNumbers (d .systems))
 
 -- n and m as a file has them
 abbrev pub fansIn : List ℕ → ℕ
-fansIn bytes = numberAt 2 bytes 4
+fansIn bytes = numberAt 2 bytes fansField
 
-abbrev pub systemsIn : List ℕ → ℕ
-systemsIn bytes = numberAt 2 bytes 6
+abbrev pub countIn : List ℕ → ℕ
+countIn bytes = numberAt 2 bytes countField
 
--- reading by position
+-- reading by position: a system, the s-th of those from a place on, a file's s-th, counted from 0, and its deck
 unfoldable pub systemAt : (bytes : List ℕ) (at : ℕ) → System
 systemAt bytes at = record {
   rule = record { kind = numberAt 2 bytes at; first = numberAt 2 bytes (at + 2); second = numberAt 2 bytes (at + 4) };
@@ -78,36 +130,42 @@ systemAt bytes at = record {
   b = numberAt 2 bytes (at + 8);
 }
 
+abbrev pub nthSystem : (bytes : List ℕ) (from s : ℕ) → System
+nthSystem bytes from s = systemAt bytes (from + systemBytes * s)
+
+abbrev pub systemIn : (bytes : List ℕ) (s : ℕ) → System
+systemIn bytes s = nthSystem bytes (systemsOffset (fansIn bytes)) s
+
 unfoldable pub deckIn : List ℕ → Deck
 deckIn bytes =
     let n = fansIn bytes in
     record {
-      survival = listBelow n (λ i. numberAt 4 bytes (survivalOffset + 4 * i));
-      weights = listBelow n (λ i. numberAt 2 bytes (weightsOffset n + 2 * i));
-      systems = listBelow (systemsIn bytes) (λ s. systemAt bytes (systemsOffset n + 10 * s));
+      survival = numbersFrom survivalBytes bytes survivalOffset n;
+      weights = numbersFrom weightBytes bytes (weightsOffset n) n;
+      systems = listBelow (countIn bytes) (systemIn bytes);
     }
 
 -- 10: deck file under 20 bytes
 abbrev pub shortFile : List ℕ → Bool
-shortFile bytes = ltb (length bytes) 20
+shortFile bytes = ltb (length bytes) headerLength
 
 -- 11: version not 1, or the zero field not 0
 abbrev pub badVersion : List ℕ → Bool
-badVersion bytes = not (eqb (numberAt 2 bytes 0) 1 && eqb (numberAt 2 bytes 2) 0)
+badVersion bytes = not (eqb (numberAt 2 bytes versionField) version && eqb (numberAt 2 bytes zeroField) 0)
 
 -- 12: number of systems not 1..32
 abbrev pub badSystems : List ℕ → Bool
-badSystems bytes = not (within 1 (systemsIn bytes) 32)
+badSystems bytes = not (within 1 (countIn bytes) mostSystems)
 
 -- 13: an offset or the file's length differs from the layout
 abbrev pub badLayout : List ℕ → Bool
 badLayout bytes =
     let n = fansIn bytes in
     not
-    (eqb (numberAt 4 bytes 8) survivalOffset
-    && eqb (numberAt 4 bytes 12) (weightsOffset n)
-    && eqb (numberAt 4 bytes 16) (systemsOffset n)
-    && eqb (length bytes) (fileLength n (systemsIn bytes)))
+    (eqb (numberAt 4 bytes survivalField) survivalOffset
+    && eqb (numberAt 4 bytes weightsField) (weightsOffset n)
+    && eqb (numberAt 4 bytes systemsField) (systemsOffset n)
+    && eqb (length bytes) (fileLength n (countIn bytes)))
 
 -- "A file is checked 10, 11, 2, 12, 13"
 unfoldable pub fileRefusal : List ℕ → ℕ
@@ -124,17 +182,24 @@ fileRefusal bytes =
 unfoldable pub systemOf : Deck → System → Rating
 systemOf d s = stretchOf (s .rule) (s .a) (s .b) (d .survival) (d .weights) (replicate cells 0)
 
+-- the answer of a file's system, counted from 0
+abbrev pub answerIn : List ℕ → ℕ → Rating
+answerIn bytes s = systemOf (deckIn bytes) (systemIn bytes s)
+
 -- "low times 2^32 plus high; for a refusal, (2^32 - 1) times 2^32 plus its number"
+abbrev pub halfWord : ℕ
+halfWord = 2 ^ 32
+
 abbrev pub packed : Rating → ℕ
-packed (Range low high) = low * 2 ^ 32 + high
-packed (Refused number) = (2 ^ 32 - 1) * 2 ^ 32 + number
+packed (Range low high) = low * halfWord + high
+packed (Refused number) = (halfWord - 1) * halfWord + number
 
 -- 14: system number 0 or above the file's count
 abbrev pub badNumber : List ℕ → ℕ → Bool
-badNumber bytes s = not (within 1 s (systemsIn bytes))
+badNumber bytes s = not (within 1 s (countIn bytes))
 
 -- "the loading computer's call then checks 14, and only then the system's own 1 and 3 to 6"
 unfoldable pub loadingOf : (bytes : List ℕ) (s : ℕ) → Rating
 loadingOf bytes s =
     unless (fileRefusal bytes) Refused
-    (cond (badNumber bytes s) (Refused 14) (systemOf (deckIn bytes) (systemAt bytes (systemsOffset (fansIn bytes) + 10 * (s - 1)))))
+    (cond (badNumber bytes s) (Refused 14) (answerIn bytes (s - 1)))

@@ -1,25 +1,24 @@
 -- `deck::bad_layout` meets its contract: the first test that differs decides, else the length's. No sum wraps, since n and m are numbers of two
 -- bytes. Assumes nothing.
-use Prim.Native.Nat.{_<_}
+use Prim.Native.Nat.{_^_, _<_}
 use native.Mathlib.Omega.{arith}
 use borrow.Author.Tests.{eq-eqb, ne-eqb}
 use borrow.Author.Needs.{needs}
-use Rattle.deck.specs.Bounds.{Bytes}
-use Rattle.deck.proofs.Numbers.{number-fits}
+use Rattle.deck.proofs.Numbers.{spelled-fits}
 use Rattle.deck.proofs.bad_layout.Statement.{statement}
 use Rattle.deck.proofs.bad_layout.Tie as tie
 
 -- n and m are numbers of two bytes
-counts-fit : (c : tie.After-number22) → (c .before .number2 .result < 65536) × (c .number22 .result < 65536)
+counts-fit : (c : tie.After-count-in) → (c .before .fans-in .result < 2 ^ 16) × (c .count-in .result < 2 ^ 16)
 counts-fit c =
-    let small : Bytes (c .before .before .before .args .bytes .now) = record { each = λ i. c .before .before .shared-slice-known .given i .fits } in
-    (rw (c .before .number2 .ensures) (number-fits 2 _ _ small), rw (c .number22 .ensures) (number-fits 2 _ _ small))
+    let known = c .before .before .shared-slice-known .given in
+    (spelled-fits 2 _ _ (c .before .fans-in .ensures) (λ i. known i .fits), spelled-fits 2 _ _ (c .count-in .ensures) (λ i. known i .fits))
 
-number2-requires : tie.Need-number2-requires
-number2-requires c κs = search needs
+fans-in-requires : tie.Need-fans-in-requires
+fans-in-requires c κs = search needs
 
-number2-requires-2 : tie.Need-number2-requires-2
-number2-requires-2 c κs = search needs
+count-in-requires : tie.Need-count-in-requires
+count-in-requires c κs = search needs
 
 number4-requires : tie.Need-number4-requires
 number4-requires c κs = search needs
@@ -30,68 +29,61 @@ returns c = rw (← c .before .number4 .ensures, ne-eqb _ _ (c .if1 .taken))
 number4-requires-2 : tie.Need-number4-requires-2
 number4-requires-2 c κs = search needs
 
-mul-if2 : tie.Need-mul-if2
-mul-if2 c = omega (arith, counts-fit (c .before .before .before))
-
-add-if2 : tie.Need-add-if2
-add-if2 c = omega (arith, counts-fit (c .before .before .before))
+weights-offset-requires : tie.Need-weights-offset-requires
+weights-offset-requires c κs = counts-fit (c .before .before .before) .0
 
 returns-2 : tie.Need-returns-2
 returns-2 c =
-    let at = c .before .before .before in
+    let at = c .before .before .before .before in
     rw (
-      ← c .before .number42 .ensures,
+      ← c .before .before .number42 .ensures,
       ← at .number4 .ensures,
-      ← at .before .before .number2 .ensures,
-      eq-eqb _ _ (c .before .before .if1 .left),
+      ← at .before .before .fans-in .ensures,
+      ← c .before .weights-offset .ensures,
+      eq-eqb _ _ (c .before .before .before .if1 .left),
       ne-eqb _ _ (c .if2 .taken),
     )
+
+systems-offset-requires : tie.Need-systems-offset-requires
+systems-offset-requires c κs = counts-fit (c .before .before .before .before .before) .0
 
 number4-requires-3 : tie.Need-number4-requires-3
 number4-requires-3 c κs = search needs
 
-mul-if3 : tie.Need-mul-if3
-mul-if3 c = omega (arith, counts-fit (c .before .before .before .before .before))
-
-add-if3 : tie.Need-add-if3
-add-if3 c = omega (arith, counts-fit (c .before .before .before .before .before))
-
 returns-3 : tie.Need-returns-3
 returns-3 c =
-    let at = c .before .before .before .before .before in
+    let at = c .before .before .before .before .before .before .before in
     rw (
       ← c .before .number43 .ensures,
-      ← c .before .before .before .number42 .ensures,
+      ← c .before .before .before .before .before .number42 .ensures,
       ← at .number4 .ensures,
-      ← at .before .before .number2 .ensures,
-      eq-eqb _ _ (c .before .before .before .before .if1 .left),
-      eq-eqb _ _ (c .before .before .if2 .left),
+      ← at .before .before .fans-in .ensures,
+      ← c .before .before .systems-offset .ensures,
+      ← c .before .before .before .before .weights-offset .ensures,
+      eq-eqb _ _ (c .before .before .before .before .before .before .if1 .left),
+      eq-eqb _ _ (c .before .before .before .if2 .left),
       ne-eqb _ _ (c .if3 .taken),
     )
 
 mul-result : tie.Need-mul-result
-mul-result c = search needs
+mul-result c = omega (arith, counts-fit (c .before .before .before .before .before .before .before .before))
 
 add-result : tie.Need-add-result
-add-result c = search needs
-
-mul-result-2 : tie.Need-mul-result-2
-mul-result-2 c = omega (arith, counts-fit (c .before .before .before .before .before .before))
-
-add-result-2 : tie.Need-add-result-2
-add-result-2 c = omega (arith, counts-fit (c .before .before .before .before .before .before))
+add-result c = omega (arith, counts-fit (c .before .before .before .before .before .before .before .before))
 
 returns-4 : tie.Need-returns-4
 returns-4 c =
-    let at = c .before .before .before .before .before in
+    let at = c .before .before .before .before .before .before .before in
     rw (
       ← c .before .number43 .ensures,
-      ← c .before .before .before .number42 .ensures,
+      ← c .before .before .before .before .before .number42 .ensures,
       ← at .number4 .ensures,
-      ← at .before .number22 .ensures,
-      ← at .before .before .number2 .ensures,
-      eq-eqb _ _ (c .before .before .before .before .if1 .left),
-      eq-eqb _ _ (c .before .before .if2 .left),
+      ← at .before .count-in .ensures,
+      ← at .before .before .fans-in .ensures,
+      ← c .before .before .systems-offset .ensures,
+      ← c .before .before .before .before .weights-offset .ensures,
+      eq-eqb _ _ (c .before .before .before .before .before .before .if1 .left),
+      eq-eqb _ _ (c .before .before .before .if2 .left),
       eq-eqb _ _ (c .if3 .left),
     )
 
@@ -99,20 +91,16 @@ pub bad-layout-spec : {M : Type 1} → statement M
 bad-layout-spec =
     tie.close
     (tie.spec
-    number2-requires
-    number2-requires-2
+    fans-in-requires
+    count-in-requires
     number4-requires
     returns
     number4-requires-2
-    mul-if2
-    add-if2
+    weights-offset-requires
     returns-2
+    systems-offset-requires
     number4-requires-3
-    mul-if3
-    add-if3
     returns-3
     mul-result
     add-result
-    mul-result-2
-    add-result-2
     returns-4)

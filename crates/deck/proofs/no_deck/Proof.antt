@@ -3,6 +3,7 @@ use mathlib.Core.Path.{ap}
 use lib.ListN.{replicate}
 use borrow.Author.Needs.{needs}
 use Rattle.rules.specs.declared.System.{System}
+use Rattle.rules.specs.File.{mostFans, mostSystems}
 use Rattle.deck.proofs.no_deck.Statement.{statement}
 use Rattle.deck.proofs.no_deck.Tie as tie
 
@@ -12,7 +13,7 @@ no-system-requires c κs = search needs
 returns : tie.Need-returns
 returns c =
     ap
-    (λ (s : System). record { fans = 0; systems = 0; survival = replicate 64 0; weights = replicate 64 0; rated = replicate 32 s })
+    (λ (s : System). record { fans = 0; count = 0; survival = replicate mostFans 0; weights = replicate mostFans 0; systems = replicate mostSystems s })
     (c .no-system .ensures)
 
 pub no-deck-spec : {M : Type 1} → statement M

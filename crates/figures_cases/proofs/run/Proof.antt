@@ -1,24 +1,24 @@
 -- `figures_cases::run` meets its contract: the next case stands within the file, and the lines so far within the buffer. The measure is the
 -- number of cases left. Assumes nothing.
-use mathlib.Core.Path.{_≡_, refl, sym}
-use Prim.Native.Nat.{_-_, _≤_}
+use mathlib.Core.Path.{refl}
+use Prim.Native.Nat.{_-_}
 use native.Mathlib.Omega.{arith}
-use lib.ListN.{length}
-use lib.Seq.{length-take-le}
 use borrow.Author.Tests.{not-false}
 use borrow.Author.Needs.{needs}
+use Rattle.casefile.specs.Cases.{Running}
+use Rattle.casefile.proofs.Run.{case-passed, run-written}
 use Rattle.figures_cases.proofs.run.Statement.{statement}
 use Rattle.figures_cases.proofs.run.Tie as tie
 
 abbrev Inv-loop : tie.InvT-loop
 Inv-loop bytes out₀ cases done₀ at₀ end₀ out done at end =
-    (at ≤ length bytes) × (length out ≡ length out₀) × (end ≤ length out)
+    Running bytes out₀ at out end
 
 abbrev μ-loop : tie.MeasureT-loop
 μ-loop bytes out₀ cases done₀ at₀ end₀ out done at end = cases - done
 
-words-requires : tie.Need-words-requires Inv-loop μ-loop
-words-requires c κs = search needs
+whole-requires : tie.Need-whole-requires Inv-loop μ-loop
+whole-requires c κs = search needs
 
 returns : tie.Need-returns Inv-loop μ-loop
 returns c = (omega arith, refl)
@@ -27,19 +27,19 @@ word-requires : tie.Need-word-requires Inv-loop μ-loop
 word-requires c κs = search needs
 
 loop-holds : tie.Need-loop-holds Inv-loop μ-loop
-loop-holds c = omega arith
+loop-holds c = record { place = omega arith; kept = refl; within = omega arith }
 
 sizes-at-requires : tie.Need-sizes-at-requires Inv-loop μ-loop
 sizes-at-requires c κs = omega arith
 
 same-length : tie.Need-same-length Inv-loop μ-loop
-same-length c = c .before .before .before .before .loop .inv .1
+same-length c = c .before .before .before .before .loop .inv .kept
 
 returns-2 : tie.Need-returns-2 Inv-loop μ-loop
-returns-2 c = let l = c .before .before .before .before .loop in (l .inv .2, sym (length-take-le _ _ (l .inv .2)))
+returns-2 c = run-written (c .before .before .before .before .loop .inv)
 
 run-case-requires : tie.Need-run-case-requires Inv-loop μ-loop
-run-case-requires c κs = (c .before .before .before .sizes-at .ensures (not-false _ (c .before .if2 .left)), c .before .before .before .before .before .loop .inv .2)
+run-case-requires c κs = (c .before .before .before .sizes-at .ensures (not-false _ (c .before .if2 .left)), c .before .before .before .before .before .loop .inv .within)
 
 add-at : tie.Need-add-at Inv-loop μ-loop
 add-at c = omega (arith, c .before .before .before .before .before .before .before .sizes-at .ensures (not-false _ (c .before .before .before .before .before .if2 .left)))
@@ -60,13 +60,14 @@ loop-again : tie.Need-loop-again Inv-loop μ-loop
 loop-again c =
     let l = c .before .before .before .before .before .before .before .before .before .before .loop in
     let case = c .before .before .before .before .run-case in
-    omega (arith, l .inv, c .before .before .before .before .before .before .before .before .sizes-at .ensures (not-false _ (c .before .before .before .before .before .before .if2 .left)), case .kept, case .ensures)
+    let whole = c .before .before .before .before .before .before .before .before .sizes-at .ensures (not-false _ (c .before .before .before .before .before .before .if2 .left)) in
+    case-passed (l .inv) (omega (arith, whole .ends)) (omega (arith, case .kept)) (case .ensures)
 
 same-length-2 : tie.Need-same-length-2 Inv-loop μ-loop
-same-length-2 c = c .before .loop .inv .1
+same-length-2 c = c .before .loop .inv .kept
 
 returns-3 : tie.Need-returns-3 Inv-loop μ-loop
-returns-3 c = let l = c .before .loop in (l .inv .2, sym (length-take-le _ _ (l .inv .2)))
+returns-3 c = run-written (c .before .loop .inv)
 
 pub run-spec : {M : Type 1} → statement M
 run-spec =
@@ -74,7 +75,7 @@ run-spec =
     (tie.spec
     Inv-loop
     μ-loop
-    words-requires
+    whole-requires
     returns
     word-requires
     loop-holds

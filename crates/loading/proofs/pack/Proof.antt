@@ -16,9 +16,6 @@ add-result c = omega (arith, rw (c .before .rating .given .1) at (c .before .bef
 enum-known-rating-2 : tie.Need-enum-known-rating-2
 enum-known-rating-2 c = search needs
 
-mul-result-2 : tie.Need-mul-result-2
-mul-result-2 c = search needs
-
 add-result-2 : tie.Need-add-result-2
 add-result-2 c = omega (arith, rw (c .before .rating2 .given .1) at (c .before .before .before .pre))
 
@@ -36,7 +33,6 @@ pack-spec =
     mul-result
     add-result
     enum-known-rating-2
-    mul-result-2
     add-result-2
     returns
     returns-2)

@@ -7,8 +7,10 @@ use borrow.Author.Tests.{not-false}
 use Rattle.rules.specs.declared.Rating.the-variants.{Refused}
 use Rattle.rules.proofs.Seven.{within-true}
 use Rattle.deck.specs.Read.{keptDeck}
-use Rattle.loading.specs.Parts.{ratedAt}
-use Rattle.loading.proofs.Answers.{read-refusal, read-none, read-deck, kept-rated, kept-held, numbered, loading-refused, loading-outside, loading-rated}
+use Rattle.deck.proofs.Kept.{read-refusal, read-none, read-deck}
+use Rattle.systems.specs.Arrays.{answerAt}
+use Rattle.systems.proofs.Kept.{kept-answer, kept-held}
+use Rattle.loading.proofs.Answers.{numbered, loading-refused, loading-outside, loading-answer}
 use Rattle.loading.proofs.rate_file.Statement.{statement}
 use Rattle.loading.proofs.rate_file.Tie as tie
 
@@ -57,9 +59,9 @@ returns-3 c =
     let inside = rw deck at (sym (c .before .before .before .outside .ensures) ∙ c .before .if2 .left) in
     let a = c .before .before .before .before .before .before .before .args in
     c .rate-system .ensures
-    ∙ ap (λ d. ratedAt d (a .system - 1)) deck
-    ∙ kept-rated _ _ (numbered (a .file .now) (a .system) inside)
-    ∙ sym (loading-rated _ _ (read-none _ _ read left) inside)
+    ∙ ap (λ d. answerAt d (a .system - 1)) deck
+    ∙ kept-answer _ _ (numbered (a .file .now) (a .system) inside)
+    ∙ sym (loading-answer _ _ (read-none _ _ read left) inside)
 
 pub rate-file-spec : {M : Type 1} → statement M
 rate-file-spec =

@@ -1,23 +1,23 @@
 -- `verdict_cases::run` meets its contract: the next case stands within the file, and the lines so far within the buffer. The measure is the
 -- number of cases left. Assumes nothing.
-use mathlib.Core.Path.{_≡_, refl, sym}
-use Prim.Native.Nat.{_-_, _≤_}
+use mathlib.Core.Path.{refl}
+use Prim.Native.Nat.{_-_}
 use native.Mathlib.Omega.{arith}
-use lib.ListN.{length}
-use lib.Seq.{length-take-le}
 use borrow.Author.Needs.{needs}
+use Rattle.casefile.specs.Cases.{Running}
+use Rattle.casefile.proofs.Run.{case-passed, run-written}
 use Rattle.verdict_cases.proofs.run.Statement.{statement}
 use Rattle.verdict_cases.proofs.run.Tie as tie
 
 abbrev Inv-loop : tie.InvT-loop
 Inv-loop bytes out₀ cases done₀ at₀ end₀ out done at end =
-    (at ≤ length bytes) × (length out ≡ length out₀) × (end ≤ length out)
+    Running bytes out₀ at out end
 
 abbrev μ-loop : tie.MeasureT-loop
 μ-loop bytes out₀ cases done₀ at₀ end₀ out done at end = cases - done
 
-words-requires : tie.Need-words-requires Inv-loop μ-loop
-words-requires c κs = search needs
+whole-requires : tie.Need-whole-requires Inv-loop μ-loop
+whole-requires c κs = search needs
 
 returns : tie.Need-returns Inv-loop μ-loop
 returns c = (omega arith, refl)
@@ -26,16 +26,16 @@ word-requires : tie.Need-word-requires Inv-loop μ-loop
 word-requires c κs = search needs
 
 loop-holds : tie.Need-loop-holds Inv-loop μ-loop
-loop-holds c = omega arith
+loop-holds c = record { place = omega arith; kept = refl; within = omega arith }
 
 case-size-requires : tie.Need-case-size-requires Inv-loop μ-loop
 case-size-requires c κs = omega arith
 
 same-length : tie.Need-same-length Inv-loop μ-loop
-same-length c = c .before .before .before .loop .inv .1
+same-length c = c .before .before .before .loop .inv .kept
 
 returns-2 : tie.Need-returns-2 Inv-loop μ-loop
-returns-2 c = let l = c .before .before .before .loop in (l .inv .2, sym (length-take-le _ _ (l .inv .2)))
+returns-2 c = run-written (c .before .before .before .loop .inv)
 
 judged-requires : tie.Need-judged-requires Inv-loop μ-loop
 judged-requires c κs = omega arith
@@ -53,13 +53,15 @@ loop-less : tie.Need-loop-less Inv-loop μ-loop
 loop-less c = omega arith
 
 loop-again : tie.Need-loop-again Inv-loop μ-loop
-loop-again c = omega arith
+loop-again c =
+    let l = c .before .before .before .before .before .before .before .before .loop in
+    case-passed (l .inv) (omega arith) (omega arith) (omega arith)
 
 same-length-2 : tie.Need-same-length-2 Inv-loop μ-loop
-same-length-2 c = c .before .loop .inv .1
+same-length-2 c = c .before .loop .inv .kept
 
 returns-3 : tie.Need-returns-3 Inv-loop μ-loop
-returns-3 c = let l = c .before .loop in (l .inv .2, sym (length-take-le _ _ (l .inv .2)))
+returns-3 c = run-written (c .before .loop .inv)
 
 pub run-spec : {M : Type 1} → statement M
 run-spec =
@@ -67,7 +69,7 @@ run-spec =
     (tie.spec
     Inv-loop
     μ-loop
-    words-requires
+    whole-requires
     returns
     word-requires
     loop-holds

@@ -1,9 +1,9 @@
 -- `listing::list` meets its contract, on a refusal and on none: all lines fit. Assumes nothing.
 use native.Mathlib.Omega.{arith}
-use Rattle.loading.proofs.Answers.{read-refusal, read-none, read-deck}
-use Rattle.decklist.proofs.Digits.{head-short}
-use Rattle.decklist.proofs.Adding.{put-added, added-more}
-use Rattle.decklist.proofs.Printed.{listed, refused-list, kept-listable, kept-list}
+use Rattle.deck.proofs.Kept.{read-refusal, read-none, read-deck}
+use Rattle.text.proofs.Adding.{put-added, added-more}
+use Rattle.decklist.proofs.Lengths.{head-short}
+use Rattle.decklist.proofs.Printing.{printed, refused-list, kept-listable, kept-list}
 use borrow.Author.Needs.{needs}
 use Rattle.decklist.proofs.listing.list.Statement.{statement}
 use Rattle.decklist.proofs.listing.list.Tie as tie
@@ -31,7 +31,7 @@ returns c =
     let start = c .before .before .before .before .before .before .before .before .before .before .before .before .before .before in
     let read = c .before .before .before .before .before .before .before .before .before .before .before .read-deck in
     let file = put-added (omega (arith, start .pre)) (c .before .before .before .before .before .before .put .ensures) in
-    listed (added-more file (c .before .before .put-refused .ensures))
+    printed (added-more file (c .before .before .put-refused .ensures))
     (refused-list (start .args .bytes .now) (read .result .refusal) (read-refusal _ _ (read .ensures)) (c .before .before .before .before .before .before .before .before .before .if1 .taken))
 
 slice-aggregate-put-pair : tie.Need-slice-aggregate-put-pair
@@ -50,7 +50,7 @@ put-systems-requires c κs =
     let left = c .before .before .before .before .before .before .before .before .if1 .left in
     let head = c .before .before .before .put-pair in (
       kept-listable (start .args .bytes .now) _ (read-deck _ _ (read .ensures) left) (read-none _ _ (read .ensures) left),
-      omega (arith, start .pre, head .kept, head .ensures .ends, head-short (read .result .deck .fans) (read .result .deck .systems)),
+      omega (arith, start .pre, head .kept, head .ensures .ends, head-short (read .result .deck .fans) (read .result .deck .count)),
     )
 
 same-length-2 : tie.Need-same-length-2
@@ -61,7 +61,7 @@ returns-2 c =
     let start = c .before .before .before .before .before .before .before .before .before .before .before .before .before .before .before .before in
     let read = c .before .before .before .before .before .before .before .before .before .before .before .before .before .read-deck in
     let left = c .before .before .before .before .before .before .before .before .before .before .before .if1 .left in
-    listed (added-more (c .before .before .before .before .before .before .put-pair .ensures) (c .before .before .put-systems .ensures))
+    printed (added-more (c .before .before .before .before .before .before .put-pair .ensures) (c .before .before .put-systems .ensures))
     (kept-list (start .args .bytes .now) _ (read-deck _ _ (read .ensures) left) (read-none _ _ (read .ensures) left))
 
 pub list-spec : {M : Type 1} → statement M

@@ -1,7 +1,7 @@
 -- `listing::put_system` meets its contract: the system's number and its rating fit. Assumes nothing.
 use native.Mathlib.Omega.{arith}
-use Rattle.decklist.proofs.Digits.{decimal-short}
-use Rattle.decklist.proofs.Adding.{added-more}
+use Rattle.text.specs.Decimal.{text}
+use Rattle.text.proofs.Adding.{named-added, named-reach, added-more}
 use borrow.Author.Needs.{needs}
 use Rattle.decklist.proofs.listing.put_system.Statement.{statement}
 use Rattle.decklist.proofs.listing.put_system.Tie as tie
@@ -16,13 +16,17 @@ put-rating-requires : tie.Need-put-rating-requires
 put-rating-requires c κs =
     let start = c .before .before .before .before .before .before .before in
     let named = c .before .before .before .put-named in
-    omega (arith, start .pre, named .kept, named .ensures .ends, decimal-short (start .args .system))
+    let one = named-added (omega (arith, start .pre)) (named .ensures) in
+    omega (arith, start .pre, named .kept, named-reach (text "system ") (start .args .system) one)
 
 same-length : tie.Need-same-length
 same-length c = search needs
 
 returns : tie.Need-returns
-returns c = added-more (c .before .before .before .before .before .before .put-named .ensures) (c .before .before .put-rating .ensures)
+returns c =
+    let start = c .before .before .before .before .before .before .before .before .before .before in
+    let one = named-added (omega (arith, start .pre)) (c .before .before .before .before .before .before .put-named .ensures) in
+    added-more one (c .before .before .put-rating .ensures)
 
 pub put-system-spec : {M : Type 1} → statement M
 put-system-spec =

@@ -5,20 +5,20 @@ use Prim.Native.Nat.{_-_, _≤_}
 use native.Mathlib.Omega.{arith}
 use native.Mathlib.Numerals.{add-one}
 use lib.ListN.{length}
-use Rattle.loading.specs.Parts.{ratedAt}
+use Rattle.text.specs.Added.{Added}
+use Rattle.text.proofs.Adding.{none-added, added-more}
+use Rattle.systems.specs.Arrays.{answerAt}
 use Rattle.decklist.specs.Lines.{linesText}
-use Rattle.decklist.specs.Added.{Added}
-use Rattle.decklist.proofs.Digits.{lines-short}
-use Rattle.decklist.proofs.Adding.{none-added, added-more}
+use Rattle.decklist.proofs.Lengths.{lines-short}
 use Rattle.decklist.proofs.listing.put_systems.Statement.{statement}
 use Rattle.decklist.proofs.listing.put_systems.Tie as tie
 
 abbrev Inv-loop : tie.InvT-loop
 Inv-loop deck out₀ at end₀ s₀ out end s =
-    (s ≤ deck .systems) × (length out ≡ length out₀) × Added (linesText s (ratedAt deck)) out₀ at out end
+    (s ≤ deck .count) × (length out ≡ length out₀) × Added (linesText s (answerAt deck)) out₀ at out end
 
 abbrev μ-loop : tie.MeasureT-loop
-μ-loop deck out₀ at end₀ s₀ out end s = deck .systems - s
+μ-loop deck out₀ at end₀ s₀ out end s = deck .count - s
 
 loop-holds : tie.Need-loop-holds Inv-loop μ-loop
 unfolding linesText
@@ -34,7 +34,7 @@ put-system-requires : tie.Need-put-system-requires Inv-loop μ-loop
 put-system-requires c κs =
     let start = c .before .before .before .before .before .before in
     let l = c .before .before .before .before .loop in
-    omega (arith, start .pre .1, start .pre .0 .most, l .inv .1, l .inv .2 .ends, lines-short (l .s) (ratedAt (start .args .deck)))
+    omega (arith, start .pre .1, start .pre .0 .most, l .inv .1, l .inv .2 .ends, lines-short (l .s) (answerAt (start .args .deck)))
 
 loop-less : tie.Need-loop-less Inv-loop μ-loop
 loop-less c = omega arith
@@ -54,7 +54,7 @@ same-length c = c .before .before .loop .inv .1
 returns : tie.Need-returns Inv-loop μ-loop
 returns c =
     let l = c .before .before .loop in
-    let e : l .s ≡ c .before .before .before .before .args .deck .systems = omega (arith, l .inv .0) in
+    let e : l .s ≡ c .before .before .before .before .args .deck .count = omega (arith, l .inv .0) in
     rw e at (l .inv .2)
 
 pub put-systems-spec : {M : Type 1} → statement M

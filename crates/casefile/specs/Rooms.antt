@@ -1,0 +1,8 @@
+-- How much a case file and its cases hold at most.
+use Prim.Native.Nat.{ℕ}
+
+abbrev pub mostBytes : ℕ
+mostBytes = 1048576
+
+abbrev pub mostNumbers : ℕ
+mostNumbers = 256

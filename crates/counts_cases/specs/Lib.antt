@@ -1,0 +1,2 @@
+-- How long a count case is.
+pub mod Case

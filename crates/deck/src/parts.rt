@@ -1,0 +1,95 @@
+// The parts of a file, each read into an array of fixed length: what the file does not fill is zeros.
+ghost use mathlib.Core.Path.{_≡_};
+ghost use Prim.Native.Nat.{_+_, _*_, _≤_};
+ghost use lib.ListN.{length};
+ghost use Rattle.rules.specs.Below.{listBelow};
+ghost use Rattle.rules.specs.File.{mostFans, mostSystems, survivalBytes, weightBytes, systemBytes, survivalOffset, weightsOffset, systemsOffset};
+ghost use Rattle.rules.specs.File.{numbersFrom, systemAt, nthSystem};
+ghost use Rattle.deck.specs.Read.{padded, noSystem};
+use crate::layout;
+use crate::layout::MOST_FANS;
+use crate::layout::MOST_SYSTEMS;
+use crate::number;
+use rules::Rule;
+use rules::System;
+
+// The survival numbers of n fans, and zeros.
+pub fn survival_in(bytes: &[u8], n: usize) -> [u32; MOST_FANS]
+    requires few { ⌜ n ≤ mostFans ⌝ }
+    requires whole { ⌜ survivalOffset + survivalBytes * n ≤ length (now bytes) ⌝ }
+    ensures { λ r. ⌜ r ≡ padded mostFans 0 (numbersFrom survivalBytes (now (bytes .entry)) survivalOffset n) ⌝ }
+{
+    let mut survival = [0u32; MOST_FANS];
+    let mut i = 0;
+    while i < n {
+        let at = layout::SURVIVAL_OFFSET + layout::SURVIVAL_BYTES * i;
+        survival[i] = number::number4(bytes, at) as u32;
+        i += 1;
+    }
+    survival
+}
+
+// The weights of n fans, and zeros.
+pub fn weights_in(bytes: &[u8], n: usize) -> [u16; MOST_FANS]
+    requires few { ⌜ n ≤ mostFans ⌝ }
+    requires whole { ⌜ weightsOffset n + weightBytes * n ≤ length (now bytes) ⌝ }
+    ensures { λ r. ⌜ r ≡ padded mostFans 0 (numbersFrom weightBytes (now (bytes .entry)) (weightsOffset n) n) ⌝ }
+{
+    let from = layout::weights_offset(n);
+    let mut weights = [0u16; MOST_FANS];
+    let mut i = 0;
+    while i < n {
+        let at = from + layout::WEIGHT_BYTES * i;
+        weights[i] = number::number2(bytes, at) as u16;
+        i += 1;
+    }
+    weights
+}
+
+// The system in the ten bytes from a place on.
+fn system_at(bytes: &[u8], at: usize) -> System
+    requires { ⌜ at + systemBytes ≤ length (now bytes) ⌝ }
+    ensures { λ r. ⌜ r ≡ systemAt (now (bytes .entry)) at ⌝ }
+{
+    let kind = number::number2(bytes, at);
+    let first = number::number2(bytes, at + 2);
+    let second = number::number2(bytes, at + 4);
+    let a = number::number2(bytes, at + 6);
+    let b = number::number2(bytes, at + 8);
+    let rule = Rule {
+        kind,
+        first,
+        second,
+    };
+    System { rule, a, b }
+}
+
+// The system of zeros.
+pub fn no_system() -> System
+    ensures { λ r. ⌜ r ≡ noSystem ⌝ }
+{
+    let rule = Rule {
+        kind: 0,
+        first: 0,
+        second: 0,
+    };
+    System { rule, a: 0, b: 0 }
+}
+
+// The m systems of a deck of n fans, and systems of zeros.
+pub fn systems_in(bytes: &[u8], n: usize, m: usize) -> [System; MOST_SYSTEMS]
+    requires few { ⌜ n ≤ mostFans ⌝ }
+    requires fewer { ⌜ m ≤ mostSystems ⌝ }
+    requires whole { ⌜ systemsOffset n + systemBytes * m ≤ length (now bytes) ⌝ }
+    ensures { λ r. ⌜ r ≡ padded mostSystems noSystem (listBelow m (nthSystem (now (bytes .entry)) (systemsOffset n))) ⌝ }
+{
+    let from = layout::systems_offset(n);
+    let zeros = no_system();
+    let mut systems = [zeros; MOST_SYSTEMS];
+    let mut s = 0;
+    while s < m {
+        systems[s] = system_at(bytes, from + layout::SYSTEM_BYTES * s);
+        s += 1;
+    }
+    systems
+}

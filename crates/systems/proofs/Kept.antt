@@ -1,0 +1,30 @@
+-- The deck that the reader hands on for a file: the system at a place can be rated, and answers as the file's system does. Assumes nothing.
+use mathlib.Core.Path.{_≡_, ap, ap₂, _∙_}
+use mathlib.Core.List.{List}
+use Prim.Native.Nat.{ℕ, _<_}
+use native.Mathlib.Omega.{arith}
+use lib.ListN.{getD, replicate, length-append}
+use Rattle.rules.specs.Refusal.{cells}
+use Rattle.rules.specs.Answer.{stretchOf}
+use Rattle.rules.specs.File.{countIn, deckIn, fileRefusal, systemOf, answerIn}
+use Rattle.rules.proofs.Lists.{below-length}
+use Rattle.deck.specs.Read.{padded, noSystem, keptDeck}
+use Rattle.deck.proofs.Kept.{kept-survival, kept-weights, kept-system}
+use Rattle.deck.proofs.Sound.{sound}
+use Rattle.systems.specs.Arrays.{answerAt, Held}
+
+module _ (bytes : List ℕ) (s : ℕ) where
+  pub kept-answer : s < countIn bytes → answerAt (keptDeck bytes) s ≡ answerIn bytes s
+  unfolding answerAt systemOf keptDeck
+  kept-answer h =
+      let y = getD (keptDeck bytes .systems) s noSystem in
+      ap₂ (λ xs ws. stretchOf (y .rule) (y .a) (y .b) xs ws (replicate cells 0)) (kept-survival bytes) (kept-weights bytes)
+      ∙ ap (systemOf (deckIn bytes)) (kept-system bytes noSystem s h)
+
+  pub kept-held : fileRefusal bytes ≡ 0 → s < countIn bytes → Held (keptDeck bytes) s
+  unfolding keptDeck deckIn padded
+  kept-held e h = record {
+    survival = simp (length-append, below-length) (omega arith);
+    weights = simp (length-append, below-length) (omega arith);
+    place = omega (arith, sound bytes e);
+  }

@@ -1,0 +1,26 @@
+-- The deck that a reader's arrays hold, and the answer of one of its systems.
+use Prim.Native.Nat.{ℕ, _≤_, _<_}
+use lib.ListN.{length, take, getD}
+use Rattle.rules.specs.declared.Rating.{Rating}
+use Rattle.rules.specs.File as file
+use Rattle.rules.specs.File.{mostSystems, systemOf}
+use Rattle.deck.specs.declared.Deck.{Deck}
+use Rattle.deck.specs.Read.{noSystem}
+
+-- the first n or m entries of each array
+abbrev pub deckOf : Deck → file.Deck
+deckOf d = record {
+  survival = take (d .fans) (d .survival);
+  weights = take (d .fans) (d .weights);
+  systems = take (d .count) (d .systems);
+}
+
+-- the answer of the system at a place of the array, counted from 0
+unfoldable pub answerAt : Deck → ℕ → Rating
+answerAt d s = systemOf (deckOf d) (getD (d .systems) s noSystem)
+
+-- the arrays hold n fans, and there is such a place
+pub record Held (d : Deck) (s : ℕ) : Type 0 where
+  pub survival : d .fans ≤ length (d .survival)
+  pub weights : d .fans ≤ length (d .weights)
+  pub place : s < mostSystems

@@ -1,0 +1,33 @@
+// The figures of a system of a deck.
+ghost use mathlib.Core.Path.{_≡_};
+ghost use lib.ListN.{replicate};
+ghost use Rattle.rules.specs.Refusal.{cells};
+ghost use Rattle.rules.specs.Answer.{stretchOf};
+ghost use Rattle.systems.specs.Arrays.{answerAt, Held};
+use deck::Deck;
+use rules::Rating;
+use rules::System;
+
+// The cells of a working table.
+const CELLS: usize = 7800;
+
+// A system's figures over a deck's lists, in a working table of the call's own.
+fn rate_lists(system: System, survival: &[u32], weights: &[u16]) -> Rating
+    ensures { λ r. ⌜ r ≡ stretchOf (system .rule) (system .a) (system .b) (now (survival .entry)) (now (weights .entry)) (replicate cells 0) ⌝ }
+{
+    let mut table = [0u64; CELLS];
+    let rule = system.rule;
+    figures::stretch(rule, system.a, system.b, survival, weights, &mut table)
+}
+
+// The figures of the system at a place of a deck, counted from 0.
+pub fn rate_system(deck: Deck, s: usize) -> Rating
+    requires { ⌜ Held deck s ⌝ }
+    ensures { λ r. ⌜ r ≡ answerAt deck s ⌝ }
+{
+    let n = deck.fans as usize;
+    let survival = deck.survival;
+    let weights = deck.weights;
+    let system = deck.systems[s];
+    rate_lists(system, &survival[..n], &weights[..n])
+}

@@ -1,0 +1,41 @@
+-- `lines::put_refused` meets its contract: the name, the number and the line's end fit. Assumes nothing.
+use native.Mathlib.Omega.{arith}
+use Rattle.text.specs.Decimal.{text}
+use Rattle.text.proofs.Adding.{put-added, named-added, named-reach, added-more}
+use borrow.Author.Needs.{needs}
+use Rattle.text.proofs.lines.put_refused.Statement.{statement}
+use Rattle.text.proofs.lines.put_refused.Tie as tie
+
+slice-aggregate-put-named : tie.Need-slice-aggregate-put-named
+slice-aggregate-put-named c = search needs
+
+put-named-requires : tie.Need-put-named-requires
+put-named-requires c κs = search needs
+
+slice-aggregate-put : tie.Need-slice-aggregate-put
+slice-aggregate-put c = search needs
+
+put-requires : tie.Need-put-requires
+put-requires c κs = search needs
+
+same-length : tie.Need-same-length
+same-length c = search needs
+
+returns : tie.Need-returns
+returns c =
+    let start = c .before .before .before .before .before .before .before .before .before .before .before in
+    let named = c .before .before .before .before .before .before .before .put-named in
+    let one = named-added (omega (arith, start .pre)) (named .ensures) in
+    let reach = named-reach (text " refused ") (start .args .number) one in
+    added-more one (put-added (omega (arith, start .pre, named .kept, reach)) (c .before .before .put .ensures))
+
+pub put-refused-spec : {M : Type 1} → statement M
+put-refused-spec =
+    tie.close
+    (tie.spec
+    slice-aggregate-put-named
+    put-named-requires
+    slice-aggregate-put
+    put-requires
+    same-length
+    returns)

@@ -1,0 +1,26 @@
+-- Named numbers and lines, and the room that each takes at most.
+use mathlib.Core.List.{List, _++_}
+use Prim.Native.Nat.{ℕ, _+_}
+use lib.ListN.{length}
+use Rattle.text.specs.Decimal.{text, mostDigits, decimal}
+
+-- a name and a number
+abbrev pub named : (name : List ℕ) (n : ℕ) → List ℕ
+named name n = name ++ decimal n
+
+abbrev pub namedRoom : (name : List ℕ) → ℕ
+namedRoom name = length name + mostDigits
+
+-- two of them, and the line's end
+abbrev pub pairText : (first : List ℕ) (a : ℕ) (second : List ℕ) (b : ℕ) → List ℕ
+pairText first a second b = named first a ++ named second b ++ text "\n"
+
+abbrev pub pairRoom : (first second : List ℕ) → ℕ
+pairRoom first second = namedRoom first + namedRoom second + 1
+
+-- a refusal, and the line's end
+abbrev pub refusedText : ℕ → List ℕ
+refusedText number = named (text " refused ") number ++ text "\n"
+
+abbrev pub refusedRoom : ℕ
+refusedRoom = namedRoom (text " refused ") + 1

@@ -1,0 +1,2 @@
+-- How long a verdict case is.
+pub mod Case
