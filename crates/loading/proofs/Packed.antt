@@ -5,7 +5,7 @@ use mathlib.Core.Bool.{Bool, true, false, cond}
 use mathlib.Core.List.{List, [], _∷_}
 use Prim.Native.Nat.{ℕ, zero, suc, _≤_}
 use native.Mathlib.Omega.{arith}
-use lib.ListN.{length, replicate}
+use lib.ListN.{length, replicate, getD}
 use Rattle.rules.specs.declared.Rule.{Rule}
 use Rattle.rules.specs.declared.System.{System}
 use Rattle.rules.specs.declared.Rating.{Rating}
@@ -14,7 +14,7 @@ use Rattle.rules.specs.State.{S, numberOf}
 use Rattle.rules.specs.Memory.{machine}
 use Rattle.rules.specs.Figure.{figure}
 use Rattle.rules.specs.Stretch.{stretch}
-use Rattle.rules.specs.Refusal.{cells, firstOf, aboveUnit, stretchRefusal}
+use Rattle.rules.specs.Refusal.{cells, firstOf, stretchRefusal}
 use Rattle.rules.specs.Answer.{unless, stretchOf}
 use Rattle.rules.specs.File.{Deck, badNumber, fileRefusal, systemOf, packed, loadingOf}
 use Rattle.rules.proofs.Enclosure.{value-le}
@@ -38,7 +38,7 @@ unless-packable zero answer h l = l refl
 unless-packable (suc r) answer h l = h
 
 -- a figure is a value of a memory, and stays within the unit
-figure-le : (up : Bool) (rule : Rule) (survival weights : List ℕ) → aboveUnit survival ≡ false → figure up S rule survival weights ≤ S
+figure-le : (up : Bool) (rule : Rule) (survival weights : List ℕ) → ((i : ℕ) → getD survival i 0 ≤ S) → figure up S rule survival weights ≤ S
 figure-le up rule survival weights units =
     value-le (machine rule weights) S (numberOf survival) (omega arith) up (length survival) (λ i l. below-unit survival units i) _
 
@@ -52,7 +52,7 @@ pub stretch-packable : (rule : Rule) (a b : ℕ) (survival weights table : List 
 unfolding stretchOf
 stretch-packable rule a b survival weights table =
     let within : (up : Bool) → stretchRefusal rule a b survival weights table ≡ 0 → figure up S rule (stretch a b survival) (stretch a b weights) ≤ S
-    = λ up e. figure-le up rule _ _ (stretch-sound rule a b survival weights table e .1 .units) in
+    = λ up e. figure-le up rule _ _ (stretch-sound rule a b survival weights table e .2 .units) in
     unless-packable _ _ (stretch-le rule a b survival weights table) (λ e. (within false e, within true e))
 
 system-packable : (d : Deck) (s : System) → Packable (systemOf d s)
