@@ -12,6 +12,10 @@ programs := $(filter-out %_cases,$(patsubst crates/%/src/main.rt,%,$(wildcard cr
 proved := $(programs:%=target/stamp/%)
 linked := $(programs:%=target/programs/%)
 library := target/lib/libfoambeetle.a target/lib/libfoambeetle.so.$(version) target/lib/foambeetle.h
+pages := $(wildcard man/*.[0-9])
+place = $(DESTDIR)$(PREFIX)
+installed := $(programs:%=bin/%) include/foambeetle.h lib/libfoambeetle.a lib/libfoambeetle.so lib/libfoambeetle.so.$(major) \
+    lib/libfoambeetle.so.$(version) lib/pkgconfig/foambeetle.pc $(foreach page,$(pages),share/man/man$(subst .,,$(suffix $(page)))/$(notdir $(page)))
 progress := tests/progress.py target/build.log
 # a compiler for x86-64, and the kit's C code for programs that take words or open files
 cc = $(shell tests/tools.sh | head -n 1)
@@ -33,10 +37,18 @@ test: ## the gate: every proof from nothing, every must-fail edit, every program
 lib: $(library) ## target/lib: libfoambeetle.a, libfoambeetle.so and foambeetle.h, for C on x86-64
 
 install: lib $(linked) ## programs, library, header and man pages to PREFIX (/usr/local), below DESTDIR where it is given
-	@tests/install.sh install "$(DESTDIR)$(PREFIX)" "$(PREFIX)" $(programs)
+	@mkdir -p $(foreach folder,$(sort $(dir $(installed))),"$(place)/$(folder)")
+	@install -m 755 $(linked) "$(place)/bin"
+	@install -m 644 target/lib/foambeetle.h "$(place)/include"
+	@install -m 644 target/lib/libfoambeetle.a target/lib/libfoambeetle.so.$(version) "$(place)/lib"
+	@ln -sf libfoambeetle.so.$(version) "$(place)/lib/libfoambeetle.so.$(major)"
+	@ln -sf libfoambeetle.so.$(version) "$(place)/lib/libfoambeetle.so"
+	@sed -e "s|@PREFIX@|$(PREFIX)|" -e "s|@VERSION@|$(version)|" include/foambeetle.pc.in > "$(place)/lib/pkgconfig/foambeetle.pc"
+	@for page in $(pages); do install -m 644 "$$page" "$(place)/share/man/man$${page##*.}/" || exit 1; done
+	@echo "installed below $(place): $(installed)"
 
 uninstall: ## takes away what install put there
-	@tests/install.sh uninstall "$(DESTDIR)$(PREFIX)" "$(PREFIX)" $(programs)
+	@rm -f $(foreach file,$(installed),"$(place)/$(file)")
 
 bench: ## the cost of a rating beside peers (docs/BENCH.md); no part of the tests
 	@bench/run
@@ -65,6 +77,7 @@ target/lib/foambeetle.h: include/foambeetle.h
 	@cp $< $@
 
 target/lib/libfoambeetle.so.$(version): target/lib/libfoambeetle.a
-	@$(cc) -shared -nostartfiles -Wl,-soname,libfoambeetle.so.$(major),--no-undefined -o $@ -Wl,--whole-archive $< -Wl,--no-whole-archive
+	@$(cc) -shared -nostartfiles -Wl,-soname,libfoambeetle.so.$(major),--no-undefined -Wl,-z,noexecstack \
+	    -o $@ -Wl,--whole-archive $< -Wl,--no-whole-archive
 	@ln -sf $(@F) $(@D)/libfoambeetle.so.$(major)
 	@ln -sf $(@F) $(@D)/libfoambeetle.so
