@@ -69,14 +69,14 @@ class RtLines:
                 self.count[word] = self.count.get(word, 0) + 1
                 took = next((part for part in found.groups()[1:] if part), None)
                 return f"{word} {self.count[word]} of {self.total[word]}: {found[1]}" + (f" ({took})" if took else "")
-        if ": error" in line and self.errors < MOST_ERRORS:
+        if ": error" in line and "was not admitted (" not in line and self.errors < MOST_ERRORS:
             self.errors += 1
             return line[:SHOWN]
         return line if line.startswith("rt: ") and not line.startswith("rt: ok") else None
 
     @staticmethod
     def logged(line):
-        # the last line of the whole log is to be the only one of its form
+        # the last line of the gate's log is to be the only one of its form
         return f"rt {line}" if TALLY.match(line) else line
 
     @staticmethod
@@ -162,6 +162,7 @@ def main(arguments):
     log = ROOT / arguments[0]
     if arguments[1] == "rt":
         words, lines = arguments[1:], RtLines(arguments[2:])
+        log.unlink(missing_ok=True)
     else:
         words, lines = arguments[3:], TestLines(arguments[1], arguments[2])
     try:
