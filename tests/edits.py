@@ -3,7 +3,7 @@
     edits.py [TARGET]
 
 Reads the logs that rt ci leaves below TARGET (target/ otherwise), must-fail/NAME/LABEL/.log, and prints a line for each edit: fact or shape, and
-the first thing that was refused. An edit shows something where it keeps the operations of the code and changes an operand.
+the first thing that was refused. An edit shows something where it keeps the code's operations and changes an operand.
 """
 
 import re
@@ -15,6 +15,9 @@ from common import root
 
 SHOWN = 150  # characters of a refusal
 
+# A refusal in a proof file or a specification, which names the declaration unless the file could not be read; and one in a proof that rattle made.
+ERROR = re.compile(r"(?P<place>\S+:\d+):\d+: error: (`(?P<name>[^`]*)`: )?(?P<text>.*)")
+NOTE = re.compile(r"note: (?P<place>\S+:\d+):\d+: (?P<text>it is not proved that .*) \(`(?P<name>[^`]*)`\)")
 # What the prover says of a proof file that was written for code of another shape.
 SHAPE = re.compile("|".join((
     r"has no `[^`]*` that can be named from here",  # a need, an invariant or a measure that the code no longer asks for
@@ -22,6 +25,7 @@ SHAPE = re.compile("|".join((
     r"not in scope|is ambiguous|exports no such name",
     r"does not parse|unexpected token|unexpected closing delimiter|unclosed delimiter",
     r"this is applied to an argument but has type|this pattern needs a function|too (few|many) arguments|more argument\(s\)",
+    r"a dimension \(.*\) is expected here",  # a fact of another form, taken for a path
     r"the borrow checker (does not cover|has no part)",
 )))
 # Declarations of a proof file that fit one shape of the code alone: the invariant and the measure of a loop take its variables, and the last
@@ -37,23 +41,22 @@ OPERATIONS = {
 
 
 class Refused(NamedTuple):
-    """One refusal of the prover's: the file and line, the declaration, and what was said of it."""
+    """One refusal of the prover's: the file and line, the declaration if any, and what was said of it."""
 
     place: str
-    name: str
+    name: str | None
     text: str
 
 
 def refusals(log, folder):
     """What was refused for itself; what only rests on something refused is left out."""
-    lines = iter(log.splitlines())
     found = []
-    for line in lines:
-        # of a proof file, of a specification, or of the proof that rattle makes itself
-        error = re.match(r"(\S+:\d+):\d+: error: `([^`]*)`: (.*)", line) or re.match(r"note: (\S+:\d+):\d+: (it is not proved that .*) \(`([^`]*)`\)", line)
+    for line in log.splitlines():
+        error, note = ERROR.match(line), NOTE.match(line)
         if error and "was not admitted (" not in line:
-            name, text = error.group(2, 3) if line[:5] != "note:" else error.group(3, 2)
-            found.append(Refused(error[1].removeprefix(f"{folder}/"), name, text))
+            found.append(Refused(error["place"].removeprefix(f"{folder}/"), error["name"], error["text"]))
+        elif note:
+            found.append(Refused(note["place"].removeprefix(f"{folder}/"), note["name"], note["text"]))
         elif found and line.startswith("  "):
             found[-1] = found[-1]._replace(text=found[-1].text + line)
     return found
@@ -84,7 +87,7 @@ def misfit(edit, found):
     if not found:
         return "no proof was refused"
     for one in found:
-        if SHAPE.search(one.text) or OF_THE_SHAPE.match(one.name):
+        if one.name is None or OF_THE_SHAPE.match(one.name) or SHAPE.search(one.text):
             return f"the proof no longer fits at {one.place}, `{one.name}`"
     changed = changed_operations(edit)
     return f"the edit has another number of: {', '.join(changed)}" if changed else None
@@ -92,22 +95,27 @@ def misfit(edit, found):
 
 def substance(text):
     """The part of a refusal that says what differs."""
-    part = re.search(r"(computed as far as they go, the two types (first )?differ.*?\(found\)|the goal does not follow)", text)
-    return re.sub(r"\s+", " ", part[1] if part else text)[:SHOWN]
+    part = re.search(r"computed as far as they go, (the two \w+ (first differ|differ|are) .*)|(the goal does not follow)", text)
+    return re.sub(r"\s+", " ", (part[1] or part[3]) if part else text)[:SHOWN]
+
+
+def judged(edit, target):
+    """Whether the edit shows something, and the line that says so."""
+    name = f"{edit.parent.parent.name}/{edit.stem}"
+    log = target / "must-fail" / name / ".log"
+    found = refusals(log.read_text(errors="replace"), log.parent) if log.exists() else []
+    first = f"{found[0].place} `{found[0].name}`: {substance(found[0].text)}" if found else f"nothing refused in {log}"
+    why = misfit(edit, found)
+    return (False, f"shape {name}: {why}; first {first}") if why else (True, f"fact  {name}: {first}")
 
 
 def main(arguments):
     target = Path(arguments[0]).resolve() if arguments else root / "target"
     edits = sorted((target.parent / "crates").glob("*/must-fail/*.edit"))
-    bad = 0
-    for edit in edits:
-        folder = target / "must-fail" / edit.parent.parent.name / edit.stem
-        log = folder / ".log"
-        found = refusals(log.read_text(errors="replace"), folder) if log.exists() else []
-        why = misfit(edit, found)
-        first = f"{found[0].place} `{found[0].name}`: {substance(found[0].text)}" if found else "no log, or nothing refused in it"
-        print(f"{'shape' if why else 'fact '} {edit.parent.parent.name}/{edit.stem}: {first}" + (f"\n      {why}" if why else ""))
-        bad += why is not None
+    lines = sorted((judged(edit, target) for edit in edits), key=lambda line: not line[0])  # what shows nothing stands last
+    for _, line in lines:
+        print(line)
+    bad = sum(not good for good, _ in lines)
     print(f"{len(edits)} must-fail edits, {bad} refused for their shape")
     return 1 if bad or not edits else 0
 
