@@ -87,8 +87,10 @@ def misfit(edit, found):
     if not found:
         return "no proof was refused"
     for one in found:
+        if one.place.startswith("specs/"):
+            return f"a definition was refused, and no proof, at {one.place}"
         if one.name is None or OF_THE_SHAPE.match(one.name) or SHAPE.search(one.text):
-            return f"the proof no longer fits at {one.place}, `{one.name}`"
+            return f"the proof no longer fits at {one.place}"
     changed = changed_operations(edit)
     return f"the edit has another number of: {', '.join(changed)}" if changed else None
 
@@ -96,7 +98,7 @@ def misfit(edit, found):
 def substance(text):
     """The part of a refusal that says what differs."""
     part = re.search(r"computed as far as they go, (the two \w+ (first differ|differ|are) .*)|(the goal does not follow)", text)
-    return re.sub(r"\s+", " ", (part[1] or part[3]) if part else text)[:SHOWN]
+    return re.sub(r"\s+", " ", (part[1] or part[3]) if part else text).split(" expected type")[0][:SHOWN]
 
 
 def judged(edit, target):
@@ -104,7 +106,7 @@ def judged(edit, target):
     name = f"{edit.parent.parent.name}/{edit.stem}"
     log = target / "must-fail" / name / ".log"
     found = refusals(log.read_text(errors="replace"), log.parent) if log.exists() else []
-    first = f"{found[0].place} `{found[0].name}`: {substance(found[0].text)}" if found else f"nothing refused in {log}"
+    first = f"{found[0].place} {found[0].name}: {substance(found[0].text)}" if found else f"nothing refused in {log}"
     why = misfit(edit, found)
     return (False, f"shape {name}: {why}; first {first}") if why else (True, f"fact  {name}: {first}")
 
