@@ -24,6 +24,8 @@ export DECK
 
 .PHONY: help run test lib install uninstall bench
 .DELETE_ON_ERROR:
+# rt works on one folder, and by itself on several crates at once
+.NOTPARALLEL:
 
 help: ## this list
 	@awk -F ':.*## ' '/^[a-z]+:.*## / { printf "make %-10s %s\n", $$1, $$2 }' Makefile
