@@ -1,8 +1,9 @@
 /* foambeetle.h: the loading computer's call.
  *
- * Link with libloading.a (x86-64). The call reads a deck file's bytes, rates one of its systems, and answers one
- * 64-bit number. It writes nothing of the caller's, keeps nothing between calls, and may run in several threads at
- * once. It uses up to 67,000 bytes of stack, 62,400 of them its working table.
+ * Link with libfoambeetle.a or libfoambeetle.so (x86-64), which need nothing but memcpy and memset. The call reads a
+ * deck file's bytes, rates one of its systems, and answers one 64-bit number. It writes nothing of the caller's, keeps
+ * nothing between calls, and may run in several threads at once. It uses up to 67,000 bytes of stack, 62,400 of them its
+ * working table.
  *
  * Figures are parts of FOAMBEETLE_UNIT: the exact chance that the system works lies between low / 2^30 and
  * high / 2^30.
@@ -31,6 +32,9 @@
 #ifdef __cplusplus
 extern "C" {
 #endif
+
+/* The file VERSION. */
+#define FOAMBEETLE_VERSION "1.0.0"
 
 /* What a chance of 1 is. */
 #define FOAMBEETLE_UNIT 1073741824u

@@ -61,6 +61,8 @@ def hold3():
     ])
 
 
+DECKS = (example, hold1, hold2, hold3)
+
 if __name__ == "__main__":
-    for deck in (example, hold1, hold2, hold3):
+    for deck in DECKS:
         (here / f"{deck.__name__}.deck").write_bytes(deck_bytes(deck()))

@@ -3,6 +3,7 @@
 import random
 from typing import NamedTuple
 
+import published
 from foambeetle import (
     KINDS, MOST_WEIGHT, TABLE_CELLS, Refusal, Rule, count_slots_after, count_table, working_table_after,
 )
@@ -36,6 +37,11 @@ class Case(NamedTuple):
         if isinstance(answer, Refusal):
             return f"refused {answer.number} {sums}"
         return f"counts {' '.join(map(str, answer))} {sums}"
+
+
+def published_cases():
+    """What the documents print, each on a table full of rubbish."""
+    return [Case(one.rule, one.n, TABLE_CELLS, one.n + 1, SEEDS[1], one.weights) for one in published.COUNTS]
 
 
 def lent(rng, n):
@@ -123,5 +129,5 @@ def refused_cases(rng):
 
 def make_cases():
     rng = random.Random(202)
-    return [*run_only_cases(rng), *small_cases(rng), *long_cases(rng), *rule_cases(rng),
-            *slot_cases(rng), *refused_cases(rng)]
+    return [*published_cases(), *run_only_cases(rng), *small_cases(rng), *long_cases(rng),
+            *rule_cases(rng), *slot_cases(rng), *refused_cases(rng)]

@@ -6,6 +6,7 @@ Words of a case: call, kind, first, second, a, b, room, seed, N, the survival nu
 import random
 from typing import NamedTuple
 
+import published
 from foambeetle import KINDS, MOST_WEIGHT, TABLE_CELLS, UNIT, Refusal, Rule, figures, stretch
 from foambeetle import working_table_after
 from samples import (
@@ -46,6 +47,11 @@ class Case(NamedTuple):
         if isinstance(answer, Refusal):
             return f"refused {answer.number} {cells}"
         return f"low {answer[0]} high {answer[1]} {cells}"
+
+
+def published_cases():
+    """What the documents print, each on a table full of rubbish."""
+    return [Case(WHOLE, one.rule, 0, 0, TABLE_CELLS, SEEDS[1], one.survivals, one.weights) for one in published.FIGURES]
 
 
 def whole(rng, rule, survivals, weights):
@@ -234,4 +240,4 @@ def make_cases():
     makers = (small_cases, alike_cases, every_length_cases, long_cases, sound_fan_cases, weight_cases,
               stretch_cases, rule_cases, room_cases, wrong_stretch_cases, survival_cases, length_cases,
               refused_cases)
-    return [case for maker in makers for case in maker(rng)]
+    return [*published_cases(), *(case for maker in makers for case in maker(rng))]

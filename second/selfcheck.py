@@ -8,6 +8,7 @@ import sys
 from fractions import Fraction
 from math import factorial
 
+import published
 import sources
 import words
 from files import DAMAGES, random_deck, random_files
@@ -17,17 +18,9 @@ from foambeetle import (
     decklist_output, exact_sum, exact_sum_by_words, fails, figures, file_refusal, low_and_high,
     low_and_high_by_words, pascal_row, rate, read_deck, stretch, verdict, working_table_after,
 )
+from published import DECK_FILE, DECK_LINES
 from samples import all_rules, random_rule, random_survivals, random_weights, rules_in_range
 
-EXAMPLE_FILE = bytes.fromhex(
-    "01 00 00 00 03 00 03 00 14 00 00 00 20 00 00 00 26 00 00 00"
-    + " 00 00 00 20" * 3 + " 00" * 6
-    + "01 00 02 00 00 00 01 00 03 00 04 00 02 00 00 00 01 00 03 00 04 00 04 00 00 00 01 00 03 00")
-EXAMPLE_LINES = """deck 3 systems 3
-system 1 low 536870912 high 536870912
-system 2 low 671088640 high 671088640
-system 3 refused 6
-"""
 SMALL_WEIGHTS = ([], [3], [2, 1], [2, 1, 1], [0, 3, 1, 2], [1, 0, 4, 0, 2], [1, 2, 0, 1, 3, 1],
                  [1, 1, 1, 1, 1, 1, 1], [2, 0, 1, 3, 0, 1, 1, 2], [1, 3, 0, 0, 2, 1, 1, 0, 2])
 
@@ -49,77 +42,46 @@ def small_systems(most):
             yield rule, n, SMALL_WEIGHTS[n]
 
 
-def counted_examples():
-    # document 01, 'Proved examples', A to F
-    examples = (
-        (Rule(6, 2, 3), 7, [], [1, 7, 10, 1, 0, 0, 0, 0]),
-        (Rule(7, 2, 3), 7, [], [1, 7, 7, 0, 0, 0, 0, 0]),
-        (Rule(4, 2, 0), 4, [], [1, 4, 3, 0, 0]),
-        (Rule(5, 2, 0), 4, [], [1, 4, 2, 0, 0]),
-        (Rule(3, 1, 2), 4, [], [1, 0, 0, 4, 1]),
-        (Rule(2, 2, 0), 3, [2, 1, 1], [1, 2, 0, 0]),
-    )
-    for rule, n, weights, counts in examples:
-        yield count_table(rule, n, weights), counts
-        yield counts_by_choice(rule, n, weights), counts
-        yield counts_by_reading(rule, n, weights), counts
+def published_figures():
+    """What the documents print, by each way of answering that this program has."""
+    for one in published.COUNTS:
+        answer = count_table(one.rule, one.n, one.weights)
+        yield published.agrees(answer, one.printed), True
+        if not isinstance(answer, Refusal):
+            yield counts_by_choice(one.rule, one.n, one.weights), answer
+            yield counts_by_reading(one.rule, one.n, one.weights), answer
+    for one in published.FIGURES:
+        yield published.agrees(figures(one.rule, one.survivals, one.weights), one.printed), True
+    for one in published.VERDICTS:
+        yield published.agrees(verdict(one.rule, one.n, one.state, one.weights), one.printed), True
 
 
-def judged_and_rated_examples():
-    # document 01, 'Proved examples', G to K
-    yield verdict(Rule(6, 2, 3), 7, 9, []), "works"
-    yield verdict(Rule(6, 2, 3), 7, 5, []), "fails"
-    yield verdict(Rule(6, 2, 3), 7, 33, []), "works"
-    yield verdict(Rule(7, 2, 3), 7, 33, []), "fails"
-    yield figures(Rule(1, 1, 0), [1, 1], []), (0, 1)
-    yield figures(Rule(1, 2, 0), [1, 1], []), (1, 2)
-    yield figures(Rule(1, 1, 0), [UNIT], []), (UNIT, UNIT)
-
-
-def run_only_examples():
-    # document 01, 'Proved examples': "Run only"
-    counts = count_table(Rule(1, 64, 0), 64, [])
-    yield (counts[32], counts[64], len(counts)), (1832624140942590534, 0, 65)
-    yield count_table(Rule(1, 64, 0), 65, []), Refusal(2)
-    yield verdict(Rule(1, 64, 0), 65, 0, []), Refusal(2)
-    yield figures(Rule(1, 64, 0), [UNIT] * 65, []), Refusal(2)
-    for kind in (6, 7):
-        for n in (2, 5, 64):
-            yield verdict(Rule(kind, 2, n), n, 0, []), WORKS
-            yield count_table(Rule(kind, 2, n), n, []), [1, n] + [0] * (n - 1)
-            yield figures(Rule(kind, 2, n), [UNIT] * n, []), (UNIT, UNIT)
-            yield verdict(Rule(kind, 2, n + 1), n, 0, []), Refusal(6)
-            yield count_table(Rule(kind, 2, n + 1), n, []), Refusal(6)
-            yield figures(Rule(kind, 2, n + 1), [UNIT] * n, []), Refusal(6)
-    rule = Rule(2, 120, 0)
-    yield verdict(rule, 2, 3, [100, 20]), FAILS
-    yield count_table(rule, 2, [100, 20]), [1, 2, 0]
-    yield figures(rule, [0, 0], [100, 20]), (0, 0)
-    yield verdict(rule, 2, 3, [100, 21]), Refusal(5)
-    yield count_table(rule, 2, [100, 21]), Refusal(5)
-    yield figures(rule, [0, 0], [100, 21]), Refusal(5)
+def table_1_exactly():
+    """Table 1 of document 002 with chances in tenths, which no survival number is."""
+    for low, high, n, printed in published.TABLE_1:
+        for tenths, figure in zip(published.TABLE_1_TENTHS, printed):
+            works = Fraction(exact_sum(Rule(3, low, high), [10 - tenths] * n, [], 10), 10 ** n)
+            yield f"{float(1 - works):.6f}", figure
 
 
 def example_file():
     # document 01, 'Deck file and printing': the hex and its four lines
-    yield decklist_output(EXAMPLE_FILE), EXAMPLE_LINES
-    yield rate(EXAMPLE_FILE, 1), 536870912 * 2 ** 32 + 536870912
-    yield rate(EXAMPLE_FILE, 2), 671088640 * 2 ** 32 + 671088640
+    yield decklist_output(DECK_FILE), DECK_LINES
+    yield rate(DECK_FILE, 1), 536870912 * 2 ** 32 + 536870912
+    yield rate(DECK_FILE, 2), 671088640 * 2 ** 32 + 671088640
     for system, number in ((3, 6), (0, 14), (4, 14), (2 ** 64 - 1, 14)):
-        yield rate(EXAMPLE_FILE, system), 2 ** 64 - 2 ** 32 + number
+        yield rate(DECK_FILE, system), 2 ** 64 - 2 ** 32 + number
     systems = [System(Rule(kind, first, 0), 1, 3) for kind, first in ((1, 2), (4, 2), (4, 4))]
     half = Deck([UNIT // 2] * 3, [0] * 3, systems)
-    yield deck_bytes(half), EXAMPLE_FILE
-    yield read_deck(EXAMPLE_FILE), half
+    yield deck_bytes(half), DECK_FILE
+    yield read_deck(DECK_FILE), half
 
 
 def traps():
     # document 01, 'Traps on this deck'
     half = [UNIT // 2] * 3
     yield Fraction(exact_sum_by_words(Rule(7, 2, 3), half, []), UNIT ** 3), Fraction(1, 2)
-    yield figures(Rule(7, 2, 3), half, []), (UNIT // 2, UNIT // 2)
     yield sources.ring_window_as_printed(3, [Fraction(1, 2)] * 3), Fraction(11, 32)
-    yield figures(Rule(6, 2, 2), [0, UNIT, 0], []), (UNIT, UNIT)
     repeated = Fraction(exact_sum_by_words(Rule(6, 2, 3), half + half[:2], []), UNIT ** 5)
     yield repeated == Fraction(1, 2), False
     for rule, survivals, weights in random_systems(1, 70, 8):
@@ -135,19 +97,6 @@ def rounded_down_failure(rule, survivals, weights):
         values = [(p * values[at] + (UNIT - p) * values[at + 1]) // UNIT
                   for at in range(0, len(values), 2)]
     return values[0]
-
-
-def published_figures():
-    """Table 1 of document 002 prints the chance of failing for a failure chance p."""
-    # document 01, 'What is rated': a survival number is never handed over where a failure number is read
-    for low, high, n, printed in sources.TABLE_1:
-        rule = Rule(3, low, high)
-        for tenths, figure in zip(sources.TABLE_1_TENTHS, printed):
-            works = Fraction(exact_sum(rule, [10 - tenths] * n, [], 10), 10 ** n)
-            yield f"{float(1 - works):.6f}", figure
-            survival = round(Fraction(10 - tenths, 10) * UNIT)
-            for end in figures(rule, [survival] * n, []):
-                yield f"{1 - end / UNIT:.6f}", figure
 
 
 def source_equations():
@@ -378,7 +327,7 @@ def header_damage():
     order = ((0, 2, 11), (2, 1, 11), (4, 0, 2), (4, 65, 2), (6, 0, 12), (6, 33, 12), (8, 21, 13),
              (9, 1, 13), (12, 33, 13), (13, 1, 13), (16, 39, 13), (19, 1, 13))
     for at, number, refused in order:
-        data = bytearray(EXAMPLE_FILE)
+        data = bytearray(DECK_FILE)
         data[at] = number
         yield file_refusal(bytes(data)), refused
         yield rate(bytes(data), 0), 2 ** 64 - 2 ** 32 + refused
@@ -387,8 +336,8 @@ def header_damage():
                 both = bytearray(data)
                 both[later] = other
                 yield file_refusal(bytes(both)), refused
-    yield file_refusal(EXAMPLE_FILE + b"\0"), 13
-    yield file_refusal(EXAMPLE_FILE[:-1]), 13
+    yield file_refusal(DECK_FILE + b"\0"), 13
+    yield file_refusal(DECK_FILE[:-1]), 13
     yield file_refusal(b"\2" * 19), 10
 
 
@@ -408,8 +357,7 @@ def lent_tables():
 
 
 GROUPS = (
-    counted_examples, judged_and_rated_examples, run_only_examples, example_file, traps,
-    published_figures, source_equations, pascal, verdicts_three_ways, long_verdicts_three_ways,
+    published_figures, table_1_exactly, example_file, traps, source_equations, pascal, verdicts_three_ways, long_verdicts_three_ways,
     counts_three_ways, enclosure, figures_two_ways, rules_accepted, refusals_of_calls,
     refusals_of_states_and_counts, stretches_read_inside_only, deck_files, printed_and_packed,
     header_damage, lent_tables,

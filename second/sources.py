@@ -1,14 +1,7 @@
-"""Equations and printed figures of documents 002 and 000, to hold the verdicts against."""
+"""Equations of documents 002 and 000, to hold the verdicts against; published.py has what they print."""
 
 from fractions import Fraction
 from math import prod
-
-# document 002, table 1: l, h, n and the figures printed for 0.5 to 0.9; its first row is not printed
-TABLE_1_TENTHS = (5, 6, 7, 8, 9)
-TABLE_1 = (
-    (5, 9, 12, ("0.786865", "0.859247", "0.737695", "0.441073", "0.110867")),
-    (10, 12, 15, ("0.147186", "0.376102", "0.594794", "0.540925", "0.181811")),
-)
 
 
 def at_least_failed(k, chances):

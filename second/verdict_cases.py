@@ -3,6 +3,7 @@
 import random
 from typing import NamedTuple
 
+import published
 from foambeetle import FAILS, KINDS, WORKS, Refusal, Rule, fails, verdict
 from samples import (
     random_rule, random_weights, rules_in_range, spoil_rule, unread_weights, weights_of_total, wrong_rules,
@@ -30,6 +31,10 @@ class Case(NamedTuple):
     def line(self):
         answer = verdict(self.rule, self.n, self.state, self.weights)
         return f"refused {answer.number}" if isinstance(answer, Refusal) else answer
+
+
+def published_cases():
+    return [Case(one.rule, one.n, one.state, one.weights) for one in published.VERDICTS]
 
 
 def small_cases(rng):
@@ -158,5 +163,5 @@ def refused_cases(rng):
 
 def make_cases():
     rng = random.Random(101)
-    return [*small_cases(rng), *long_cases(rng), *full_window_cases(), *stray_bit_cases(rng),
+    return [*published_cases(), *small_cases(rng), *long_cases(rng), *full_window_cases(), *stray_bit_cases(rng),
             *weight_cases(rng), *refused_cases(rng)]

@@ -1,41 +1,41 @@
 #!/usr/bin/env bash
 # The whole gate. `rt ci` proves every listed crate from nothing, tries the must-fail edits and runs the programs; then the project's other
-# tests. Everything goes to target/ci.log; the last line is rt's count, with each other test that failed counted as a failure.
+# tests. What each says goes to target/ci.log, and a line to the screen as each thing passes; the last line is rt's count, with each other test
+# that failed counted as a failure.
 set -u
 cd "$(dirname "$0")/.."
-log=$(mktemp) rt_log=$(mktemp)
-trap 'rm -f "$log" "$rt_log"' EXIT
+log=target/ci.log
+export PYTHONDONTWRITEBYTECODE=1 PYTHONUNBUFFERED=1
 
-others=0
-other() { # NAME COMMAND..: one of the project's other tests
-    printf '== %s\n' "$1"
-    shift
-    if ! "$@"; then
-        echo "FAILED: $*"
-        others=$((others + 1))
-    fi
+# NAME: COMMAND
+others=(
+    "the second program checks itself: python3 second/selfcheck.py"
+    "the stored cases are the second program's: tests/cases.sh"
+    "the published figures are what the proved programs print: python3 tests/published.py"
+    "each must-fail edit is refused for a fact: python3 tests/edits.py"
+    "the loading computer's call and decklist against the second program: python3 tests/run.py"
+    "the walk through a deck is true as printed: python3 tests/walk.py"
+    "the library links every way, and exports its calls alone: python3 tests/library.py"
+    "what is installed runs, and goes again: python3 tests/install.py"
+    "one version everywhere: python3 tests/version.py"
+)
+
+command -v rt >/dev/null || {
+    echo "rt is not on the path (README.md says what is wanted)"
+    echo "0 passed, 1 failed"
+    exit 1
 }
+tests/progress.py "$log" rt ci
+rt_status=$?
+count=$(sed -n 's/^rt \([0-9]* passed, [0-9]* failed\)$/\1/p' "$log" | tail -n 1)
+passed=${count%% passed*} failed=${count##*, } failed=${failed%% failed*}
+[ -n "$count" ] || passed=0 failed=1
+[ "$rt_status" -eq 0 ] || [ "$failed" -gt 0 ] || failed=1
 
-gate() {
-    rt ci >"$rt_log" 2>&1
-    rt_status=$?
-    sed '$d' "$rt_log"
-    last=$(tail -n 1 "$rt_log")
-    other "the second program checks itself" python3 second/selfcheck.py
-    other "the stored cases are the second program's" tests/cases.sh
-    other "the loading computer's call and decklist against the second program" python3 tests/run.py
-    passed=${last%% passed*} failed=${last##*, } failed=${failed%% failed*}
-    case $passed$failed in
-    '' | *[!0-9]*) echo "rt ci ended with: $last" && passed=0 failed=1 ;;
-    esac
-    [ "$rt_status" -eq 0 ] || [ "$failed" -gt 0 ] || failed=1
-    failed=$((failed + others))
-    echo "$passed passed, $failed failed"
-    [ "$failed" -eq 0 ]
-}
-
-gate 2>&1 | tee "$log"
-status=${PIPESTATUS[0]}
-mkdir -p target
-cp "$log" target/ci.log
-exit "$status"
+for at in "${!others[@]}"; do
+    name=${others[at]%%: *} command=${others[at]#*: }
+    # shellcheck disable=SC2086
+    tests/progress.py "$log" "$((at + 1)) of ${#others[@]}" "$name" $command || failed=$((failed + 1))
+done
+echo "$passed passed, $failed failed" | tee -a "$log"
+[ "$failed" -eq 0 ]

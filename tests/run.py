@@ -1,36 +1,21 @@
 """The loading computer's call and decklist against the second program, byte for byte.
 
-5,200 random deck files, sound and damaged by turns, go through a C program linked with libloading.a, with guard pages on either side of the
+5,200 random deck files, sound and damaged by turns, go through a C program linked with libfoambeetle.a, with guard pages on either side of the
 lent bytes and a stack that shows how deep a call goes; some of them, and inputs of odd lengths, through decklist; the samples through decklist
 and through the C sample.
 """
 
-import subprocess
 import sys
-from pathlib import Path
 
-root = Path(__file__).resolve().parent.parent
-sys.path.insert(0, str(root / "second"))
+from common import compare, decks, make, root, run, static
 
-from files import random_files  # noqa: E402
-from foambeetle import UNIT, Deck, Rule, System, deck_bytes, decklist_output, rate  # noqa: E402
+from files import random_files
+from foambeetle import UNIT, Deck, Rule, System, deck_bytes, decklist_output, rate
 
 FILES = 5200
 PRINTED = 150  # a process each, so fewer
 MOST_ASKED = 33
 MOST_STACK = 70000  # of which the working table takes 62,400
-
-
-def run(words, data=b""):
-    return subprocess.run([str(word) for word in words], input=data, stdout=subprocess.PIPE, check=True).stdout
-
-
-def build(compiler, source, room):
-    """A C program for x86-64, linked with the archive."""
-    program = room / Path(source).stem
-    run([compiler, "-std=c99", "-Wall", "-Wextra", "-Werror", "-O1", "-static", f"-I{root / 'include'}", "-o", program,
-         root / source, root / "target/staticlib/libloading.a"])
-    return program
 
 
 def asked(data):
@@ -58,16 +43,6 @@ def odd_inputs():
         yield from (front[:length] + b"\0" * (length - len(front)) for length in (723, 724, 725, 1023, 1024, 1025, 4096, 70000))
 
 
-def compare(what, got, wanted):
-    """Counts what agrees, and shows the first that does not."""
-    for place, (one, other) in enumerate(zip(got, wanted, strict=True)):
-        if one != other:
-            print(f"{what} {place}: got {one!r}, the second program has {other!r}")
-            return False
-    print(f"{what}: {len(wanted)} agree with the second program")
-    return True
-
-
 def compare_stack(line):
     """The last line of the C program: the deepest stack that a call used."""
     depth = int(line.removeprefix("stack "))
@@ -76,17 +51,12 @@ def compare_stack(line):
 
 
 def main():
-    compiler, emulator = run([root / "tests/tools.sh"]).decode().split("\n")[:2]
-    under = [emulator] if emulator else []
-    run(["rt", "check", "decklist"])
-    run(["rt", "staticlib", "loading"])
-    room = root / "target/tests"
-    room.mkdir(parents=True, exist_ok=True)
-    test, sample = build(compiler, "tests/loading_test.c", room), build(compiler, "samples/rate.c", room)
+    make("lib", "target/stamp/decklist")
+    test, sample = static(root / "tests/loading_test.c", "loading_test"), static(root / "samples/rate.c", "rate")
 
     files = list(random_files(2026, FILES))
     cases = b"".join(len(data).to_bytes(4, "little") + data for data in files)
-    called = run([*under, test], cases).decode().splitlines()
+    called = run(test, cases).decode().splitlines()
     good = compare_stack(called.pop())
     good &= compare("files through the loading computer's call", called, [answers(data) for data in files])
 
@@ -95,10 +65,9 @@ def main():
     printed = [run(decklist, data).decode() for data in inputs]
     good &= compare("inputs through decklist", printed, [decklist_output(data) for data in inputs])
 
-    decks = sorted((root / "samples").glob("*.deck"))
-    wanted = [decklist_output(deck.read_bytes()) for deck in decks]
-    good &= compare("samples through decklist", [run(decklist, deck.read_bytes()).decode() for deck in decks], wanted)
-    by_call = [run([*under, sample, deck]).decode() for deck in decks]
+    wanted = [decklist_output(deck.read_bytes()) for deck in decks()]
+    good &= compare("samples through decklist", [run(decklist, deck.read_bytes()).decode() for deck in decks()], wanted)
+    by_call = [run([*sample, deck]).decode() for deck in decks()]
     good &= compare("samples through the C sample", by_call, [text.split("\n", 1)[1] for text in wanted])
     return 0 if good else 1
 

@@ -1,0 +1,57 @@
+"""What the tests share: the project's folder, running a command, building by make, and the C compiler for x86-64."""
+
+import os
+import subprocess
+import sys
+from functools import lru_cache
+from pathlib import Path
+
+root = Path(__file__).resolve().parent.parent
+room = root / "target/tests"
+sys.path.insert(0, str(root / "second"))
+
+STRICT = ("-Wall", "-Wextra", "-Werror", "-O1")
+
+
+def run(words, data=b"", **more):
+    return subprocess.run([str(word) for word in words], input=data, stdout=subprocess.PIPE, check=True, **more).stdout
+
+
+def make(*words):
+    """make as a person starts it, also below another make."""
+    plain = {name: value for name, value in os.environ.items() if name not in ("MAKEFLAGS", "MAKELEVEL", "MFLAGS")}
+    return run(["make", "--no-print-directory", "-C", root, *words], env=plain)
+
+
+@lru_cache(maxsize=None)
+def tools():
+    """The compiler's name, and the words that start a static program that it built."""
+    compiler, emulator = run([root / "tests/tools.sh"]).decode().split("\n")[:2]
+    return compiler, [emulator] if emulator else []
+
+
+def build(source, program, *words, compiler=None, standard="-std=c99"):
+    """A C program for x86-64, below target/tests."""
+    room.mkdir(parents=True, exist_ok=True)
+    run([compiler or tools()[0], standard, *STRICT, "-o", room / program, source, *words])
+    return room / program
+
+
+def static(source, program):
+    """The same, linked with the library's archive into one file; the words that start it."""
+    library = root / "target/lib"
+    return [*tools()[1], build(source, program, "-static", f"-I{library}", library / "libfoambeetle.a")]
+
+
+def decks():
+    return sorted((root / "samples").glob("*.deck"))
+
+
+def compare(what, got, wanted):
+    """Counts what agrees, and shows the first that does not."""
+    for place, (one, other) in enumerate(zip(got, wanted, strict=True)):
+        if one != other:
+            print(f"{what} {place}: got {one!r}, wanted {other!r}")
+            return False
+    print(f"{what}: {len(wanted)} agree with the second program")
+    return True
