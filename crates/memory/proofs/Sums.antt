@@ -11,7 +11,7 @@ use Rattle.rules.specs.Memory.{Memory, live, dead, moved, ended, machineOf, row
 use Rattle.rules.proofs.Simulation.{Alike, Same, alike-same}
 use Rattle.rules.proofs.Dead.{Dead}
 use Rattle.memory.specs.declared.sum.Sum.{Sum}
-use Rattle.memory.specs.Sum.{sum, sumBelow, sumOutside, summing}
+use Rattle.memory.specs.Sum.{sum, belowLimit, sumOutside, summing}
 
 -- a number past the upper end
 pub past-high : (h c : ℕ) → ltb h c ≡ not (leb c h)
@@ -31,7 +31,7 @@ more k c true e = still (ltb-true _ _ e)
 more k c false e = gone (ltb-false _ _ e)
 
 module _ (k : ℕ) (weight : ℕ → ℕ) where
-  adds : Alike (summing weight (sumBelow k)) (machineOf (row1 k weight)) (λ i. Adds k)
+  adds : Alike (summing weight (belowLimit k)) (machineOf (row1 k weight)) (λ i. Adds k)
   unfolding moved ended
   adds = record { works = λ i m m'. on-working; fails = λ i m m'. on-failed (suc i); last = λ m m'. at-end }
     where
@@ -39,19 +39,19 @@ module _ (k : ℕ) (weight : ℕ → ℕ) where
       on-working (still h) = still h
       on-working (gone h) = gone h
 
-      on-failed : (i : ℕ) {m : Sum} {m' : Memory ℕ} → Adds k m m' → Adds k (summing weight (sumBelow k) .failed i m) (moved (row1 k weight .failing i) m')
+      on-failed : (i : ℕ) {m : Sum} {m' : Memory ℕ} → Adds k m m' → Adds k (summing weight (belowLimit k) .failed i m) (moved (row1 k weight .failing i) m')
       on-failed i (still {c = c} h) = more k (c + weight i) (ltb (c + weight i) k) refl
       on-failed i (gone {c = c} h) = gone {c = c + weight i} (omega arith)
 
-      at-end : {m : Sum} {m' : Memory ℕ} → Adds k m m' → sumBelow k m ≡ ended (λ c. true) m'
+      at-end : {m : Sum} {m' : Memory ℕ} → Adds k m m' → belowLimit k m ≡ ended (λ c. true) m'
       at-end (still h) = lt-ltb _ _ h
       at-end (gone h) = le-ltb _ _ h
 
-  pub sum-row1 : (n : ℕ) → 0 < k → Same (summing weight (sumBelow k)) (sum 0) (machineOf (row1 k weight)) (live 0) n
+  pub sum-row1 : (n : ℕ) → 0 < k → Same (summing weight (belowLimit k)) (sum 0) (machineOf (row1 k weight)) (live 0) n
   sum-row1 n some = alike-same adds n _ _ (still some)
 
   -- dead from k on
-  pub sum-dead : Dead (summing weight (sumBelow k)) (λ m. k ≤ m .sum)
+  pub sum-dead : Dead (summing weight (belowLimit k)) (λ m. k ≤ m .sum)
   sum-dead = record { works = λ i d. d; fails = λ i d. omega arith; last = λ d. le-ltb _ _ d }
 
 -- row 3

@@ -15,8 +15,8 @@ sumWorked m = m
 abbrev pub sumFailed : (weight : ℕ) → Sum → Sum
 sumFailed weight m = sum (m .sum + weight)
 
-abbrev pub sumBelow : (k : ℕ) → Sum → Bool
-sumBelow k m = ltb (m .sum) k
+abbrev pub belowLimit : (k : ℕ) → Sum → Bool
+belowLimit k m = ltb (m .sum) k
 
 abbrev pub sumOutside : (l h : ℕ) → Sum → Bool
 sumOutside l h m = not (within l (m .sum) h)

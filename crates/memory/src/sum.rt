@@ -1,7 +1,7 @@
 // Rows 1 to 3: what the failed components add up to.
 ghost use mathlib.Core.Path.{_≡_};
 ghost use Prim.Native.Nat.{_+_, _^_, _<_};
-ghost use Rattle.memory.specs.Sum.{sum, sumWorked, sumFailed, sumBelow, sumOutside};
+ghost use Rattle.memory.specs.Sum.{sum, sumWorked, sumFailed, belowLimit, sumOutside};
 
 pub struct Sum {
     pub sum: usize,
@@ -27,7 +27,7 @@ impl Sum {
 
     // Rows 1 and 2 at the end: "works", and "k or more is dead".
     pub fn below(self, k: usize) -> bool
-        ensures { λ r. ⌜ r ≡ sumBelow k self ⌝ }
+        ensures { λ r. ⌜ r ≡ belowLimit k self ⌝ }
     {
         self.sum < k
     }

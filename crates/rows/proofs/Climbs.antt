@@ -38,7 +38,8 @@ pub record Climb (rule : Rule) (survival weights : List ℕ) (left from : ℕ) (
   pub narrow : width + weight ≤ half
   pub row : Row (sumsWorth rule survival weights left) t from (width + weight)
 
-module _ {rule : Rule} {survival weights t₀ t : List ℕ} {left from p q weight width m : ℕ} (y : Climb rule survival weights left from t₀ p q weight width) (l : m < width)
+module _ {rule : Rule} {survival weights t₀ t : List ℕ} {left from p q weight width m : ℕ}
+    (y : Climb rule survival weights left from t₀ p q weight width) (l : m < width)
     (w : Written (sumsWorth rule survival weights (suc left)) m (half - from) t₀ t) where
   stands : (k : ℕ) → k < width + weight → (up : Bool) → cellAt t up (from + k) ≡ sumsWorth rule survival weights left up k
   stands k h up =

@@ -21,8 +21,9 @@ use Rattle.rules.proofs.Sums.{sum-add}
 use Rattle.rules.proofs.Tests.{by-test, by-both}
 use Rattle.memory.proofs.Sums.{sum-row1, sum-row3, sum-dead}
 use Rattle.memory.specs.Sum.{sum}
+use Rattle.places.specs.Cells.{half}
 use Rattle.places.proofs.Values.{worth-dead}
-use Rattle.rows.specs.Kinds.{weightOf, loadOf, limitOf, gapOf, endOf, summed}
+use Rattle.rows.specs.Kinds.{weightOf, loadOf, limitOf, gapOf, endOf}
 use Rattle.rows.specs.Level.{sumsWorth}
 
 -- weights
@@ -33,12 +34,11 @@ number-le [] (suc i) = omega arith
 number-le (x ∷ xs) (suc zero) = omega arith
 number-le (x ∷ xs) (suc (suc i)) = omega (arith, number-le xs (suc i))
 
-pub gap-le : (rule : Rule) → gapOf rule ≤ heaviest
-unfolding gapOf
+gap-le : (rule : Rule) → gapOf rule ≤ heaviest
 gap-le rule = by-test (λ x. x ≤ heaviest) (eqb (rule .kind) 2) _ _ (λ e. omega arith) (λ e. omega arith)
 
 pub weight-le : {rule : Rule} {n : ℕ} {weights : List ℕ} → Accepted rule n weights → (i : ℕ) → weightOf rule weights i ≤ gapOf rule
-unfolding weightOf gapOf
+unfolding weightOf
 weight-le {rule} {n} {weights} ok i =
     by-both (λ x y. x ≤ y) (eqb (rule .kind) 2) _ _ _ _ (λ e. omega (arith, number-le weights i, ok .weights-total (eqb-true _ _ e))) (λ e. omega arith)
 
@@ -63,7 +63,7 @@ load-upto rule weights i n l =
 -- an accepted rule of kind 1, 2 or 3
 pub record Early (rule : Rule) (survival weights : List ℕ) : Type 0 where
   pub some : 0 < limitOf rule
-  pub most : limitOf rule ≤ heaviest
+  pub most : limitOf rule + gapOf rule ≤ half
   pub gone : (up : Bool) (i k : ℕ) → limitOf rule ≤ k → k ≤ loadOf rule weights (length survival) → sumsWorth rule survival weights i up k ≡ 0
   pub whole : (up : Bool) → sumsWorth rule survival weights (length survival) up 0 ≡ figure up S rule survival weights
 
@@ -78,7 +78,7 @@ module _ (survival weights : List ℕ) (first second : ℕ) where
   late l early ok = absurd (omega arith)
 
   by-kind : (kind : ℕ) → 1 ≤ kind → kind ≤ 7 → ByKind kind
-  unfolding weightOf limitOf endOf readingOf
+  unfolding weightOf endOf readingOf
   by-kind =
       seven ByKind
       (λ early ok. let r = range1 ok refl in record {

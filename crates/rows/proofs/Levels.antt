@@ -8,7 +8,7 @@ use mathlib.Core.List.{List}
 use native.Mathlib.Decide.{decLt}
 use native.Mathlib.Nat.{add-zero}
 use native.Mathlib.Omega.{arith}
-use lib.ListN.{length, getD}
+use lib.ListN.{length}
 use Rattle.rules.specs.declared.Rule.{Rule}
 use Rattle.rules.specs.State.{S}
 use Rattle.rules.specs.Below.{sumBelow}
@@ -23,7 +23,7 @@ use Rattle.places.proofs.Values.{Chance, worth-suc}
 use Rattle.rows.specs.declared.Level.{Level}
 use Rattle.rows.specs.Kinds.{weightOf, loadOf, limitOf, gapOf, summed}
 use Rattle.rows.specs.Level.{sumsWorth, endsWorth, Side, Levelled}
-use Rattle.rows.proofs.Early.{gap-le, weight-le, load-more, load-upto, Early, early-is}
+use Rattle.rows.proofs.Early.{weight-le, load-more, load-upto, Early, early-is}
 use Rattle.rows.proofs.Climbs.{side-near, Climb}
 
 other-side : {from : ℕ} → Side from → Side (half - from)
@@ -50,7 +50,9 @@ module _ {rule : Rule} {survival weights : List ℕ} {s : Level} {t : List ℕ} 
       elim (decLt k (limitOf rule)) [
         | yes a ↦ y .row .is up k (omega arith)
         | no b ↦ let d : s .from + k ≡ s .from + limitOf rule + (k - limitOf rule) = omega arith in
-          ap (λ x. cellAt t up x) d ∙ y .behind (y .side) .is up (k - limitOf rule) (omega arith) ∙ sym (early .gone up (s .left) k (omega arith) (omega (arith, y .reach)))
+            ap (λ x. cellAt t up x) d
+            ∙ y .behind (y .side) .is up (k - limitOf rule) (omega arith)
+            ∙ sym (early .gone up (s .left) k (omega arith) (omega (arith, y .reach)))
       ]
 
   pub level-read : s .left ≡ length survival → {r : Ends} → Both (λ up. cellAt t up (s .from)) r → Both (λ up. figure up S rule survival weights) r
@@ -83,7 +85,7 @@ module _ {rule : Rule} {survival weights : List ℕ} {s : Level} {t : List ℕ} 
           side = y .side;
           chance = chance;
           is = refl;
-          narrow = omega (arith, early .most, gap-le rule);
+          narrow = omega (arith, early .most);
           row = record { is = λ up k l. known up k (omega (arith, spare)) (omega arith) };
         }
 
@@ -91,15 +93,15 @@ module _ {rule : Rule} {survival weights : List ℕ} {s : Level} {t : List ℕ} 
         → Levelled rule survival weights (record { reach = s .reach - heavy; left = suc (s .left); from = half - s .from }) t'
     level-up w =
         let most = early .most in
-        let gap = gap-le rule in
+        let to = other-side (y .side) in
         record {
           list = list-kept (w .kept) (y .list);
           early = y .early;
-          side = other-side (y .side);
+          side = to;
           some = omega arith;
           reach = omega (arith, y .reach, spare, load-more rule weights (s .left));
           row = w .row;
-          behind = λ {side} b. row-same (λ up k l. w .other up _ (omega (arith, side-near b)) (beside k b (other-side (y .side)) (omega arith) (omega arith))) (y .behind b);
+          behind = λ {side} b. row-same (λ up k l. w .other up _ (omega (arith, side-near b)) (beside k b to (omega arith) (omega arith))) (y .behind b);
         }
 
     -- a component of no weight
@@ -110,30 +112,37 @@ module _ {rule : Rule} {survival weights : List ℕ} {s : Level} {t : List ℕ} 
       side = y .side;
       some = omega arith;
       reach = omega (arith, y .reach, load-more rule weights (s .left));
-      row = row-as (λ up k l. sym (worth-suc (summed rule weights) survival (s .left) (sum k) up ∙ rw (none, add-zero) (unchanged up S (getD survival (s .left) 0) _ (omega arith) (y .list .units (s .left))))) (y .row);
+      row = row-as (λ up k l. sym (light up k)) (y .row);
       behind = y .behind;
     }
+      where
+        light : (up : Bool) (k : ℕ) → sumsWorth rule survival weights (suc (s .left)) up k ≡ sumsWorth rule survival weights (s .left) up k
+        light up k =
+            worth-suc (summed rule weights) survival (s .left) (sum k) up ∙ rw (none, add-zero) (unchanged up S _ _ (omega arith) (y .list .units (s .left)))
 
 -- with no components left
-pub level-none : {rule : Rule} {survival weights t₀ t₁ t₂ t₃ : List ℕ} → Ratable rule survival weights t₀ → rule .kind ≤ 3 → Written (endsWorth rule) (limitOf rule) 0 t₀ t₁
-    → Written (λ up k. 0) (gapOf rule) (limitOf rule) t₁ t₂ → Written (λ up k. 0) (gapOf rule) (half + limitOf rule) t₂ t₃
-    → Levelled rule survival weights (record { reach = loadOf rule weights (length survival) + 1; left = 0; from = 0 }) t₃
-unfolding value sumBelow
-level-none {rule} {t₃ = t₃} y small a b c =
-    let most = early-is y small .most in
-    let gap = gap-le rule in
-    record {
-      list = list-kept (c .kept) (list-kept (b .kept) (list-kept (a .kept) y));
-      early = small;
-      side = inl refl;
-      some = omega arith;
-      reach = omega arith;
-      row = record { is = λ up k l. c .other up (0 + k) (omega arith) (inl (omega arith)) ∙ b .other up (0 + k) (omega arith) (inl (omega arith)) ∙ a .row .is up k (omega arith) };
-      behind = behind;
-    }
-  where
-    behind : {side : ℕ} → Side side → Row (λ up k. 0) t₃ (side + limitOf rule) (gapOf rule)
-    behind {side} (inl e) =
-        let d : side + limitOf rule ≡ limitOf rule = omega arith in
-        rw d (row-same (λ up k l. c .other up _ (omega (arith, early-is y small .most, gap-le rule)) (inl (omega (arith, early-is y small .most, gap-le rule)))) (b .row))
-    behind (inr e) = rw e (c .row)
+module _ {rule : Rule} {survival weights t₀ t₁ t₂ t₃ : List ℕ} (y : Ratable rule survival weights t₀) (small : rule .kind ≤ 3)
+    (a : Written (endsWorth rule) (limitOf rule) 0 t₀ t₁) (b : Written (λ up k. 0) (gapOf rule) (limitOf rule) t₁ t₂)
+    (c : Written (λ up k. 0) (gapOf rule) (half + limitOf rule) t₂ t₃) where
+  abbrev most : limitOf rule + gapOf rule ≤ half
+  most = early-is y small .most
+
+  -- what was written first is still there
+  still : (up : Bool) (k : ℕ) → k < half → cellAt t₃ up k ≡ cellAt t₂ up k
+  still up k l = c .other up k (omega arith) (inl (omega arith))
+
+  zeros : {side : ℕ} → Side side → Row (λ up k. 0) t₃ (side + limitOf rule) (gapOf rule)
+  zeros {side} (inl e) = let d : side + limitOf rule ≡ limitOf rule = omega arith in rw d (row-same (λ up k l. still up _ (omega (arith, most))) (b .row))
+  zeros (inr e) = rw e (c .row)
+
+  pub level-none : Levelled rule survival weights (record { reach = loadOf rule weights (length survival) + 1; left = 0; from = 0 }) t₃
+  unfolding value sumBelow
+  level-none = record {
+    list = list-kept (c .kept) (list-kept (b .kept) (list-kept (a .kept) y));
+    early = small;
+    side = inl refl;
+    some = omega arith;
+    reach = omega arith;
+    row = record { is = λ up k l. still up _ (omega (arith, most)) ∙ b .other up _ (omega (arith, most)) (inl (omega arith)) ∙ a .row .is up k (omega arith) };
+    behind = zeros;
+  }

@@ -9,7 +9,7 @@ use Rattle.rules.specs.Below.{sumBelow}
 use Rattle.rules.specs.Memory.{Machine}
 use Rattle.rules.specs.Refusal.{heaviest}
 use Rattle.memory.specs.declared.sum.Sum.{Sum}
-use Rattle.memory.specs.Sum.{sumBelow as belowLimit, sumOutside, summing}
+use Rattle.memory.specs.Sum.{belowLimit, sumOutside, summing}
 
 -- how far component i carries a sum where it fails
 unfoldable pub weightOf : Rule → (weights : List ℕ) (i : ℕ) → ℕ
@@ -24,15 +24,15 @@ abbrev pub pastAll : ℕ
 pastAll = 65
 
 -- sums from here on are dead, or never come
-unfoldable pub limitOf : Rule → ℕ
+abbrev pub limitOf : Rule → ℕ
 limitOf rule = cond (eqb (rule .kind) 3) pastAll (rule .first)
 
 -- how many sums from the limit on one component can come to
-unfoldable pub gapOf : Rule → ℕ
+abbrev pub gapOf : Rule → ℕ
 gapOf rule = cond (eqb (rule .kind) 2) heaviest 1
 
 unfoldable pub endOf : Rule → Sum → Bool
-endOf rule m = cond (eqb (rule .kind) 3) (sumOutside (rule .first) (rule .second) m) (belowLimit (rule .first) m)
+endOf rule m = cond (eqb (rule .kind) 3) (sumOutside (rule .first) (rule .second) m) (belowLimit (limitOf rule) m)
 
 abbrev pub summed : Rule → (weights : List ℕ) → Machine Sum
 summed rule weights = summing (weightOf rule weights) (endOf rule)

@@ -1,5 +1,6 @@
 // What kinds 1 to 3 differ in: how far a failed component carries a sum, from where on sums are dead, and what is asked at the end.
 ghost use mathlib.Core.Path.{_≡_};
+ghost use mathlib.Core.Bool.{cond};
 ghost use Prim.Native.Nat.{suc, _<_};
 ghost use lib.ListN.{length};
 ghost use Rattle.rules.specs.Accepted.{Accepted};
@@ -13,24 +14,24 @@ const HEAVIEST: usize = 120;
 // One more than the most components: as many sums as kind 3 can come to.
 const PAST_ALL: usize = 65;
 
+fn either(test: bool, a: usize, b: usize) -> usize
+    ensures { λ r. ⌜ r ≡ cond test a b ⌝ }
+{
+    if test { a } else { b }
+}
+
 // From here on sums are dead, or never come.
 pub fn limit(rule: Rule) -> usize
     ensures { λ r. ⌜ r ≡ limitOf rule ⌝ }
 {
-    if rule.kind == 3 {
-        return PAST_ALL;
-    }
-    rule.first as usize
+    either(rule.kind == 3, PAST_ALL, rule.first as usize)
 }
 
 // How many sums from the limit on one component can come to.
 pub fn gap(rule: Rule) -> usize
     ensures { λ r. ⌜ r ≡ gapOf rule ⌝ }
 {
-    if rule.kind == 2 {
-        return HEAVIEST;
-    }
-    1
+    either(rule.kind == 2, HEAVIEST, 1)
 }
 
 fn wide(weight: u16) -> usize
@@ -64,12 +65,13 @@ pub fn load(rule: Rule, weights: &[u16], n: usize) -> usize
     sum
 }
 
-// Whether a sum works at the end.
-pub fn works(rule: Rule, m: Sum) -> bool
+// Whether a sum works at the end. Below the limit it does under kinds 1 and 2, and the compiler is shown so.
+pub fn works(rule: Rule, limit: usize, m: Sum) -> bool
+    requires { ⌜ limit ≡ limitOf rule ⌝ }
     ensures { λ r. ⌜ r ≡ endOf rule m ⌝ }
 {
     if rule.kind == 3 {
         return m.outside(rule.first as usize, rule.second as usize);
     }
-    m.below(rule.first as usize)
+    m.below(limit)
 }

@@ -13,10 +13,10 @@ use places::HALF;
 use rules::Rule;
 
 // At `from` stand the values with `left` components left of the sums that can still come, `reach` of them at the most.
-pub struct Level {
-    pub reach: usize,
-    pub left: usize,
-    pub from: usize,
+struct Level {
+    reach: usize,
+    left: usize,
+    from: usize,
 }
 
 // Low and high of a list of kind 1, 2 or 3.
@@ -28,7 +28,7 @@ pub fn rate(rule: Rule, survival: &[u32], weights: &[u16], table: &mut [u64]) ->
     let n = survival.len();
     let limit = kinds::limit(rule);
     let gap = kinds::gap(rule);
-    row::start(rule, table);
+    row::start(rule, limit, table);
     row::clear(limit, gap, table);
     row::clear(HALF + limit, gap, table);
     let mut s = Level {

@@ -1,25 +1,27 @@
 // Rows of places, a place for each sum.
 ghost use mathlib.Core.Path.{_≡_};
-ghost use Prim.Native.Nat.{suc, _<_};
+ghost use mathlib.Core.Bool.{Bool};
+ghost use Prim.Native.Nat.{suc, _+_, _<_, _≤_};
 ghost use lib.ListN.{length};
-ghost use Rattle.places.specs.Cells.{Written};
+ghost use Rattle.rules.specs.State.{S};
+ghost use Rattle.places.specs.Cells.{Both, Place, Written, cellAt};
 ghost use Rattle.rows.specs.Kinds.{limitOf};
 ghost use Rattle.rows.specs.Level.{Levelled, Raised, Span, endsWorth};
 use crate::Level;
 use crate::kinds;
 use memory::sum::Sum;
+use places::Ends;
 use places::HALF;
 use rules::Rule;
 
 // The row with no components left.
-pub fn start(rule: Rule, table: &mut [u64])
-    requires { ⌜ Span 0 (limitOf rule) (now table) ⌝ }
-    ensures { λ r. ⌜ Written (endsWorth rule) (limitOf rule) 0 (now (table .entry)) (now (table .exit)) ⌝ }
+pub fn start(rule: Rule, limit: usize, table: &mut [u64])
+    requires { ⌜ Span 0 limit (now table) × (limit ≡ limitOf rule) ⌝ }
+    ensures { λ r. ⌜ Written (endsWorth rule) limit 0 (now (table .entry)) (now (table .exit)) ⌝ }
 {
-    let limit = kinds::limit(rule);
     let mut m: usize = 0;
     while m < limit {
-        let works = kinds::works(rule, Sum { sum: m });
+        let works = kinds::works(rule, limit, Sum { sum: m });
         places::write(table, m, places::worth(works));
         m += 1;
     }
@@ -37,6 +39,14 @@ pub fn clear(off: usize, count: usize, table: &mut [u64])
     }
 }
 
+// The value of a sum, in the row at `from`.
+fn value(table: &[u64], from: usize, m: Sum) -> Ends
+    requires { ⌜ Place (from + m .sum) (now table) × ((up : Bool) → cellAt (now table) up (from + m .sum) ≤ S) ⌝ }
+    ensures { λ r. ⌜ Both (λ up. cellAt (now (table .entry)) up (from + m .sum)) r ⌝ }
+{
+    places::read_small(table, from + m.sum)
+}
+
 // One component more. Where it weighs nothing every value stays as it is. Else the row on one side is worked out of the row on the other, so the
 // compiler works several places at a time.
 pub fn turn(rule: Rule, survival: &[u32], weights: &[u16], s: Level, table: &mut [u64]) -> Level
@@ -44,12 +54,13 @@ pub fn turn(rule: Rule, survival: &[u32], weights: &[u16], s: Level, table: &mut
     ensures { λ r. ⌜ Raised rule (now (survival .entry)) (now (weights .entry)) (suc (s .left)) (now (table .entry)) (now (table .exit)) r ⌝ }
 {
     let left = s.left;
+    let next = left + 1;
     let from = s.from;
     let weight = kinds::weight(rule, weights, left);
     if weight == 0 {
         return Level {
             reach: s.reach,
-            left: left + 1,
+            left: next,
             from,
         };
     }
@@ -61,14 +72,14 @@ pub fn turn(rule: Rule, survival: &[u32], weights: &[u16], s: Level, table: &mut
     let mut m: usize = 0;
     while m < width {
         let sum = Sum { sum: m };
-        let works = places::read_small(table, from + sum.worked().sum);
-        let fails = places::read_small(table, from + sum.failed(weight).sum);
+        let works = value(table, from, sum.worked());
+        let fails = value(table, from, sum.failed(weight));
         places::write(table, to + m, places::step(p, q, works, fails));
         m += 1;
     }
     Level {
         reach,
-        left: left + 1,
+        left: next,
         from: to,
     }
 }

@@ -1,13 +1,12 @@
 -- `rate` makes the level with no components left and takes it up a component at a time; with all left, memory 0 has the figure. Assumes nothing.
 use borrow.Author.Needs.{needs}
 use Prim.Native.Nat.{_-_}
-use mathlib.Core.Path.{_≡_, sym, _∙_}
 use native.Mathlib.Omega.{arith}
 use lib.ListN.{length}
 use Rattle.places.specs.Cells.{Kept}
 use Rattle.places.proofs.Cells.{kept-none, kept-trans, room-kept}
 use Rattle.rows.specs.Level.{Levelled}
-use Rattle.rows.proofs.Early.{gap-le, load-le, early-is}
+use Rattle.rows.proofs.Early.{load-le, early-is}
 use Rattle.rows.proofs.Climbs.{side-near}
 use Rattle.rows.proofs.Levels.{level-none, level-read}
 use Rattle.rows.proofs.rate.Statement.{statement}
@@ -28,41 +27,56 @@ gap-requires c κs = search needs
 start-requires : tie.Need-start-requires Inv-loop μ-loop
 start-requires c κs =
     let pre = c .before .before .before .before .before .before .pre in
-    record { low = omega (arith, early-is (pre .0) (pre .1) .most); room = pre .0 .room }
+    (record { low = omega (arith, early-is (pre .0) (pre .1) .most); room = pre .0 .room }, c .before .before .limit .ensures)
 
 clear-requires : tie.Need-clear-requires Inv-loop μ-loop
 clear-requires c κs =
-    let o = c .before .before .before .before .before .before .before .before .before .before in
+    let s = c .before .before .before in
+    let g = s .before .before in
+    let pre = g .before .before .before .before .before .pre in
     record {
-      low = omega (arith, c .before .before .before .before .before .gap .ensures, c .before .before .before .before .before .before .limit .ensures, early-is (o .pre .0) (o .pre .1) .most, gap-le (o .args .rule));
-      room = room-kept (c .before .before .before .start .ensures .kept) (o .pre .0 .room);
+      low = omega (arith, g .gap .ensures, g .before .limit .ensures, early-is (pre .0) (pre .1) .most);
+      room = room-kept (s .start .ensures .kept) (pre .0 .room);
     }
 
 add-clear : tie.Need-add-clear Inv-loop μ-loop
-add-clear c = let pre = c .before .before .before .before .before .before .before .before .before .before .before .before .before .pre in omega (arith, c .before .before .before .before .before .before .before .before .before .limit .ensures, early-is (pre .0) (pre .1) .most)
+add-clear c =
+    let g = c .before .before .before .before .before .before .before .before in
+    let pre = g .before .before .before .before .before .pre in
+    omega (arith, g .before .limit .ensures, early-is (pre .0) (pre .1) .most)
 
 clear-requires-2 : tie.Need-clear-requires-2 Inv-loop μ-loop
 clear-requires-2 c κs =
-    let o = c .before .before .before .before .before .before .before .before .before .before .before .before .before .before in
+    let d = c .before .before .before in
+    let s = d .before .before .before .before in
+    let g = s .before .before in
+    let pre = g .before .before .before .before .before .pre in
     record {
-      low = omega (arith, c .before .before .before .before .before .before .before .before .before .gap .ensures, c .before .before .before .before .before .before .before .before .before .before .limit .ensures, early-is (o .pre .0) (o .pre .1) .most, gap-le (o .args .rule));
-      room = room-kept (c .before .before .before .clear .ensures .kept) (room-kept (c .before .before .before .before .before .before .before .start .ensures .kept) (o .pre .0 .room));
+      low = omega (arith, g .gap .ensures, g .before .limit .ensures, early-is (pre .0) (pre .1) .most);
+      room = room-kept (d .clear .ensures .kept) (room-kept (s .start .ensures .kept) (pre .0 .room));
     }
 
 load-requires : tie.Need-load-requires Inv-loop μ-loop
-load-requires c κs = c .before .before .before .before .before .before .before .before .before .before .before .before .before .before .before .before .before .pre .0 .accepted
+load-requires c κs =
+    let g = c .before .before .before .before .before .before .before .before .before .before .before .before in
+    g .before .before .before .before .before .pre .0 .accepted
 
 add-t17 : tie.Need-add-t17 Inv-loop μ-loop
 add-t17 c =
-    let ok = c .before .before .before .before .before .before .before .before .before .before .before .before .before .before .before .before .before .before .pre .0 .accepted in
-    omega (arith, c .load .ensures, load-le ok (length (c .before .before .before .before .before .before .before .before .before .before .before .before .before .before .before .before .before .before .args .survival .now)), ok .size-high)
+    let g = c .before .before .before .before .before .before .before .before .before .before .before .before .before in
+    let ok = g .before .before .before .before .before .pre .0 .accepted in
+    omega (arith, c .load .ensures, load-le ok (length (g .before .before .before .before .before .args .survival .now)), ok .size-high)
 
 loop-holds : tie.Need-loop-holds Inv-loop μ-loop
 loop-holds c =
-    let pre = c .before .before .before .before .before .before .before .before .before .before .before .before .before .before .before .before .before .before .pre in
-    let first = rw (c .before .before .before .before .before .before .before .before .before .before .before .before .before .gap .ensures, c .before .before .before .before .before .before .before .before .before .before .before .before .before .before .limit .ensures) at (c .before .before .before .before .before .before .before .clear .ensures) in
-    let second = rw (c .before .before .before .before .before .before .before .before .before .before .before .before .before .gap .ensures, c .before .before .before .before .before .before .before .before .before .before .before .before .before .before .limit .ensures) at (c .before .before .before .clear2 .ensures) in
-    (rw (c .load .ensures) (level-none (pre .0) (pre .1) (c .before .before .before .before .before .before .before .before .before .before .before .start .ensures) first second), kept-none)
+    let s = c .before .before .before .before .before .before .before .before .before .before .before in
+    let g = s .before .before in
+    let pre = g .before .before .before .before .before .pre in
+    let limit = g .before .limit .ensures in
+    let row = rw limit at (s .start .ensures) in
+    let first = rw (g .gap .ensures, limit) at (c .before .before .before .before .before .before .before .clear .ensures) in
+    let second = rw (g .gap .ensures, limit) at (c .before .before .before .clear2 .ensures) in
+    (rw (c .load .ensures) (level-none (pre .0) (pre .1) row first second), kept-none)
 
 turn-requires : tie.Need-turn-requires Inv-loop μ-loop
 turn-requires c κs = (c .before .before .before .loop .inv .0, c .before .if1 .taken)
@@ -80,18 +94,21 @@ read-requires c κs =
     let y = c .before .before .before .loop .inv .0 in
     record { low = omega (arith, side-near (y .side)); room = y .list .room }
 
-kept : (c : tie.After-read Inv-loop μ-loop) → Kept (c .before .before .before .before .before .before .before .before .before .before .before .before .before .before .before .before .before .before .before .before .before .before .before .args .table .now) (c .before .before .before .before .loop .table)
-kept c =
-    kept-trans (c .before .before .before .before .before .before .before .before .before .before .before .before .before .before .before .before .start .ensures .kept)
-    (kept-trans (c .before .before .before .before .before .before .before .before .before .before .before .before .clear .ensures .kept) (kept-trans (c .before .before .before .before .before .before .before .before .clear2 .ensures .kept) (c .before .before .before .before .loop .inv .1)))
-
 same-length : tie.Need-same-length Inv-loop μ-loop
-same-length c = kept c .long
+same-length c =
+    let o = c .before .before .before .before in
+    let d = o .before .before .before .before .before .before .before .before in
+    let second = o .before .before .before .before .clear2 .ensures .kept .long in
+    omega (arith, d .before .before .before .before .start .ensures .kept .long, d .clear .ensures .kept .long, o .loop .inv .1 .long)
 
 returns : tie.Need-returns Inv-loop μ-loop
 returns c =
-    let y = c .before .before .before .before .loop .inv .0 in
-    (level-read y (omega (arith, y .some)) (c .read .ensures), kept c)
+    let o = c .before .before .before .before in
+    let d = o .before .before .before .before .before .before .before .before in
+    let y = o .loop .inv .0 in
+    let first = kept-trans (d .before .before .before .before .start .ensures .kept) (d .clear .ensures .kept) in
+    let kept = kept-trans first (kept-trans (o .before .before .before .before .clear2 .ensures .kept) (o .loop .inv .1)) in
+    (level-read y (omega (arith, y .some)) (c .read .ensures), kept)
 
 pub rate-spec : {M : Type 1} → statement M
 rate-spec =

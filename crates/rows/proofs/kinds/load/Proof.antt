@@ -1,12 +1,12 @@
 -- `load` adds one weight more a turn. Assumes nothing.
 use borrow.Author.Needs.{needs}
-use Prim.Native.Nat.{suc, _≤_, _-_}
+use Prim.Native.Nat.{suc, _+_, _≤_, _-_}
 use mathlib.Core.Path.{_≡_, refl}
 use native.Mathlib.Omega.{arith}
 use native.Mathlib.Numerals.{add-one}
 use Rattle.rules.specs.Below.{sumBelow}
 use Rattle.rows.specs.Kinds.{loadOf}
-use Rattle.rows.proofs.Early.{gap-le, weight-le, load-le, load-more}
+use Rattle.rows.proofs.Early.{load-le, load-more}
 use Rattle.rows.proofs.kinds.load.Statement.{statement}
 use Rattle.rows.proofs.kinds.load.Tie as tie
 
@@ -23,12 +23,15 @@ loop-holds c = (omega arith, refl)
 weight-requires : tie.Need-weight-requires Inv-loop μ-loop
 weight-requires c κs = λ two. omega (arith, c .before .before .before .pre .weights-length two)
 
+-- one component more
+more : (c : tie.After-weight Inv-loop μ-loop) → let o = c .before .before in let a = o .before .before .args in
+    o .loop .sum + c .weight .result ≡ loadOf (a .rule) (a .weights .now) (suc (o .loop .i))
+more c = rw (load-more, c .weight .ensures, c .before .before .loop .inv .1)
+
 add-sum : tie.Need-add-sum Inv-loop μ-loop
 add-sum c =
-    let o = c .before .before in
-    let ok = o .before .before .pre in
-    let i = o .loop .i in
-    omega (arith, c .weight .ensures, o .loop .inv .1, load-le ok i, weight-le ok (suc i), gap-le (o .before .before .args .rule), ok .size-high)
+    let ok = c .before .before .before .before .pre in
+    omega (arith, more c, load-le ok (suc (c .before .before .loop .i)), ok .size-high)
 
 add-i : tie.Need-add-i Inv-loop μ-loop
 add-i c = search needs
@@ -37,9 +40,7 @@ loop-less : tie.Need-loop-less Inv-loop μ-loop
 loop-less c = search needs
 
 loop-again : tie.Need-loop-again Inv-loop μ-loop
-loop-again c =
-    let v = c .before .before .loop .inv in
-    (omega arith, rw (add-one) (omega (arith, c .weight .ensures, v .1, load-more (c .before .before .before .before .args .rule) (c .before .before .before .before .args .weights .now) (c .before .before .loop .i))))
+loop-again c = (omega arith, rw add-one (more c))
 
 returns : tie.Need-returns Inv-loop μ-loop
 returns c =

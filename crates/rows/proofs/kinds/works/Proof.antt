@@ -17,7 +17,7 @@ below-requires c κs = search needs
 
 returns-2 : tie.Need-returns-2
 unfolding endOf
-returns-2 c = simp (ne-eqb _ _ (c .before .if1 .left)) (c .below .ensures)
+returns-2 c = let other = ne-eqb _ 3 (c .before .if1 .left) in simp other (rw (c .before .before .before .pre, other) at (c .below .ensures))
 
 pub works-spec : {M : Type 1} → statement M
 works-spec = tie.close (tie.spec outside-requires returns below-requires returns-2)

@@ -38,7 +38,8 @@ loop-less c = search needs
 loop-again : tie.Need-loop-again Inv-loop μ-loop
 loop-again c =
     let o = c .before .before .before .before .before .before in
-    (omega arith, written-more (c .before .before .write .ensures) refl (omega (arith, o .before .before .pre .low)) (c .before .before .before .worth .ensures) (o .loop .inv .1))
+    let low = o .before .before .pre .low in
+    (omega arith, written-more (c .before .before .write .ensures) refl (omega arith) (c .before .before .before .worth .ensures) (o .loop .inv .1))
 
 same-length : tie.Need-same-length Inv-loop μ-loop
 same-length c = c .before .loop .inv .1 .kept .long

@@ -1,7 +1,7 @@
 -- `start` writes one sum more a turn. Assumes nothing.
 use borrow.Author.Needs.{needs}
 use Prim.Native.Nat.{_≤_, _-_}
-use mathlib.Core.Path.{_≡_, _∙_}
+use mathlib.Core.Path.{_≡_}
 use native.Mathlib.Omega.{arith}
 use Rattle.places.specs.Cells.{Written}
 use Rattle.places.proofs.Cells.{room-kept, written-none, written-more}
@@ -10,28 +10,24 @@ use Rattle.rows.proofs.row.start.Statement.{statement}
 use Rattle.rows.proofs.row.start.Tie as tie
 
 abbrev Inv-loop : tie.InvT-loop
-Inv-loop rule table₀ limit m₀ table m = (m ≤ limit) × Written (endsWorth rule) m 0 table₀ table
+Inv-loop rule limit table₀ m₀ table m = (m ≤ limit) × Written (endsWorth rule) m 0 table₀ table
 
 abbrev μ-loop : tie.MeasureT-loop
-μ-loop rule table₀ limit m₀ table m = limit - m
-
-limit-requires : tie.Need-limit-requires Inv-loop μ-loop
-limit-requires c κs = search needs
+μ-loop rule limit table₀ m₀ table m = limit - m
 
 loop-holds : tie.Need-loop-holds Inv-loop μ-loop
 loop-holds c = (omega arith, written-none)
 
 works-requires : tie.Need-works-requires Inv-loop μ-loop
-works-requires c κs = search needs
+works-requires c κs = c .before .before .before .pre .1
 
 worth-requires : tie.Need-worth-requires Inv-loop μ-loop
 worth-requires c κs = search needs
 
 write-requires : tie.Need-write-requires Inv-loop μ-loop
 write-requires c κs =
-    let o = c .before .before .before .before in
-    let pre = o .before .before .before .pre in
-    record { low = omega (arith, pre .low, o .before .limit .ensures); room = room-kept (o .loop .inv .1 .kept) (pre .room) }
+    let pre = c .before .before .before .before .before .before .pre in
+    record { low = omega (arith, pre .0 .low); room = room-kept (c .before .before .before .before .loop .inv .1 .kept) (pre .0 .room) }
 
 add-m : tie.Need-add-m Inv-loop μ-loop
 add-m c = search needs
@@ -42,30 +38,19 @@ loop-less c = search needs
 loop-again : tie.Need-loop-again Inv-loop μ-loop
 loop-again c =
     let o = c .before .before .before .before .before .before .before in
+    let low = o .before .before .pre .0 .low in
     let e = rw (c .before .before .before .before .before .works .ensures) at (c .before .before .before .worth .ensures) in
-    (omega arith, written-more (c .before .before .write .ensures) (omega arith) (omega (arith, o .before .before .before .pre .low, o .before .limit .ensures)) e (o .loop .inv .1))
+    (omega arith, written-more (c .before .before .write .ensures) (omega arith) (omega arith) e (o .loop .inv .1))
 
 same-length : tie.Need-same-length Inv-loop μ-loop
 same-length c = c .before .loop .inv .1 .kept .long
 
 returns : tie.Need-returns Inv-loop μ-loop
 returns c =
-    let e : c .before .loop .m ≡ c .before .before .limit .result = omega arith in
-    rw (e, c .before .before .limit .ensures) at (c .before .loop .inv .1)
+    let e : c .before .loop .m ≡ c .before .before .before .args .limit = omega arith in
+    rw e at (c .before .loop .inv .1)
 
 pub start-spec : {M : Type 1} → statement M
 start-spec =
     tie.close
-    (tie.spec
-    Inv-loop
-    μ-loop
-    limit-requires
-    loop-holds
-    works-requires
-    worth-requires
-    write-requires
-    add-m
-    loop-less
-    loop-again
-    same-length
-    returns)
+    (tie.spec Inv-loop μ-loop loop-holds works-requires worth-requires write-requires add-m loop-less loop-again same-length returns)

@@ -1,5 +1,5 @@
--- `turn` leaves a level for a component of no weight, or climbs: one sum more a turn of its loop, under whatever rule the climb is read.
--- Assumes nothing.
+-- `turn` leaves a level for a component of no weight, or climbs, one sum more a turn of its loop. The loop no longer has the rule, so its invariant
+-- holds under every rule that the climb may be read under. Assumes nothing.
 use borrow.Author.Needs.{needs}
 use Prim.Native.Nat.{suc, _≤_, _-_}
 use mathlib.Core.Path.{_≡_, refl, sym, _∙_}
@@ -15,33 +15,28 @@ use Rattle.rows.proofs.row.turn.Statement.{statement}
 use Rattle.rows.proofs.row.turn.Tie as tie
 
 abbrev Inv-loop : tie.InvT-loop
-Inv-loop survival weights table₀ left from weight reach width to p q m₀ table m =
+Inv-loop survival weights table₀ left next from weight reach width to p q m₀ table m =
     (m ≤ width)
     × ((rule : Rule) → Climb rule survival weights left from table₀ (p .0) (q .0) weight width
     → Written (sumsWorth rule survival weights (suc left)) m (half - from) table₀ table)
 
 abbrev μ-loop : tie.MeasureT-loop
-μ-loop survival weights table₀ left from weight reach width to p q m₀ table m = width - m
+μ-loop survival weights table₀ left next from weight reach width to p q m₀ table m = width - m
+
+add-next : tie.Need-add-next Inv-loop μ-loop
+add-next c = search needs
 
 weight-requires : tie.Need-weight-requires Inv-loop μ-loop
 weight-requires c κs = let pre = c .before .before .before .pre in λ two. omega (arith, pre .1, pre .0 .list .accepted .weights-length two)
 
-add-t19 : tie.Need-add-t19 Inv-loop μ-loop
-add-t19 c = search needs
-
 returns : tie.Need-returns Inv-loop μ-loop
 returns c =
     let pre = c .before .before .before .before .before .pre in
-    record {
-      level = rw add-one (level-same (pre .0) (pre .1) (sym (c .before .weight .ensures) ∙ c .if1 .taken));
-      is = add-one _;
-      kept = kept-none;
-    }
+    let none = sym (c .before .weight .ensures) ∙ c .if1 .taken in
+    record { level = rw add-one (level-same (pre .0) (pre .1) none); is = add-one _; kept = kept-none }
 
 sub-reach : tie.Need-sub-reach Inv-loop μ-loop
-sub-reach c =
-    let pre = c .before .before .before .before .before .before .pre in
-    omega (arith, c .before .before .weight .ensures, spare (pre .0) (pre .1))
+sub-reach c = let pre = c .before .before .before .before .before .before .pre in omega (arith, c .before .before .weight .ensures, spare (pre .0) (pre .1))
 
 limit-requires : tie.Need-limit-requires Inv-loop μ-loop
 limit-requires c κs = search needs
@@ -58,10 +53,11 @@ chance-requires c κs = search needs
 failure-requires : tie.Need-failure-requires Inv-loop μ-loop
 failure-requires c κs = rw (c .chance .ensures) (c .before .before .before .before .before .before .before .before .before .pre .0 .list .units _)
 
--- where the loop begins, the level can be climbed from
+-- where the loop begins
 climb : (c : tie.After-failure Inv-loop μ-loop)
-    → Climb (c .before .before .before .before .before .before .before .before .before .before .args .rule) (c .before .before .before .before .before .before .before .before .before .before .args .survival .now) (c .before .before .before .before .before .before .before .before .before .before .args .weights .now) (c .before .before .before .before .before .before .before .before .before .before .args .s .left) (c .before .before .before .before .before .before .before .before .before .before .args .s .from) (c .before .before .before .before .before .before .before .before .before .before .args .table .now)
-    (c .before .chance .result .0) (c .failure .result .0) (c .before .before .before .before .before .before .weight .result) (c .before .before .lesser .result)
+    → let w = c .before .before .before .before .before .before in let a = w .before .before .before .before .args in
+    Climb (a .rule) (a .survival .now) (a .weights .now) (a .s .left) (a .s .from) (a .table .now)
+    (c .before .chance .result .0) (c .failure .result .0) (w .weight .result) (c .before .before .lesser .result)
 climb c =
     let pre = c .before .before .before .before .before .before .before .before .before .before .pre in
     rw (c .before .before .lesser .ensures, c .before .before .before .limit .ensures, c .before .before .before .before .before .before .weight .ensures)
@@ -73,47 +69,36 @@ loop-holds c = (omega arith, λ rule y. written-none)
 worked-requires : tie.Need-worked-requires Inv-loop μ-loop
 worked-requires c κs = search needs
 
-add-read-small : tie.Need-add-read-small Inv-loop μ-loop
-add-read-small c =
-    let y = climb (c .before .before .before .before .before) in
-    rw (c .before .worked .ensures) (omega (arith, side-near (y .side), y .narrow))
-
-read-small-requires : tie.Need-read-small-requires Inv-loop μ-loop
-read-small-requires c κs =
-    let o = c .before .before .before .before in
-    let y = climb (o .before) in
-    rw (c .before .worked .ensures) (read-place y (c .before .before .before .loop-test .taken) (o .loop .inv .1 _ y) _ (omega arith))
+value-requires : tie.Need-value-requires Inv-loop μ-loop
+value-requires c κs =
+    let y = climb (c .before .before .before .before) in
+    rw (c .worked .ensures) (read-place y (c .before .before .loop-test .taken) (c .before .before .before .loop .inv .1 _ y) _ (omega arith))
 
 failed-requires : tie.Need-failed-requires Inv-loop μ-loop
-failed-requires c κs = omega (arith, climb (c .before .before .before .before .before .before .before) .narrow)
+failed-requires c κs = omega (arith, climb (c .before .before .before .before .before .before) .narrow)
 
-add-read-small-2 : tie.Need-add-read-small-2 Inv-loop μ-loop
-add-read-small-2 c =
-    let y = climb (c .before .before .before .before .before .before .before .before .before) in
-    rw (c .before .failed .ensures) (omega (arith, side-near (y .side), y .narrow))
-
-read-small-requires-2 : tie.Need-read-small-requires-2 Inv-loop μ-loop
-read-small-requires-2 c κs =
-    let o = c .before .before .before .before .before .before .before .before in
+value-requires-2 : tie.Need-value-requires-2 Inv-loop μ-loop
+value-requires-2 c κs =
+    let o = c .before .before .before .before .before .before in
     let y = climb (o .before) in
-    rw (c .before .failed .ensures) (read-place y (c .before .before .before .before .before .before .before .loop-test .taken) (o .loop .inv .1 _ y) _ (omega arith))
+    rw (c .failed .ensures) (read-place y (c .before .before .before .before .before .loop-test .taken) (o .loop .inv .1 _ y) _ (omega arith))
 
 add-write : tie.Need-add-write Inv-loop μ-loop
-add-write c = omega (arith, climb (c .before .before .before .before .before .before .before .before .before .before .before) .narrow)
+add-write c = omega (arith, climb (c .before .before .before .before .before .before .before .before .before) .narrow)
 
 step-requires : tie.Need-step-requires Inv-loop μ-loop
 step-requires c κs =
-    let o = c .before .before .before .before .before .before .before .before .before .before in
+    let o = c .before .before .before .before .before .before .before .before in
     let y = climb (o .before) in
-    let works = rw (c .before .before .before .before .before .before .before .worked .ensures) at (c .before .before .before .before .before .read-small .ensures) in
-    let fails = rw (c .before .before .before .failed .ensures) at (c .before .read-small2 .ensures) in
-    climb-steady y (c .before .before .before .before .before .before .before .before .before .loop-test .taken) (o .loop .inv .1 _ y) works fails
+    let works = rw (c .before .before .before .before .before .worked .ensures) at (c .before .before .before .before .value .ensures) in
+    let fails = rw (c .before .before .failed .ensures) at (c .before .value2 .ensures) in
+    climb-steady y (c .before .before .before .before .before .before .before .loop-test .taken) (o .loop .inv .1 _ y) works fails
 
 write-requires : tie.Need-write-requires Inv-loop μ-loop
 write-requires c κs =
-    let o = c .before .before .before .before .before .before .before .before .before .before .before in
+    let o = c .before .before .before .before .before .before .before .before .before in
     let y = climb (o .before) in
-    write-place y (c .before .before .before .before .before .before .before .before .before .before .loop-test .taken) (o .loop .inv .1 _ y)
+    write-place y (c .before .before .before .before .before .before .before .before .loop-test .taken) (o .loop .inv .1 _ y)
 
 add-m : tie.Need-add-m Inv-loop μ-loop
 add-m c = search needs
@@ -123,14 +108,15 @@ loop-less c = search needs
 
 loop-again : tie.Need-loop-again Inv-loop μ-loop
 loop-again c =
-    let o = c .before .before .before .before .before .before .before .before .before .before .before .before .before .before in
-    let l = c .before .before .before .before .before .before .before .before .before .before .before .before .before .loop-test .taken in
-    let works = rw (c .before .before .before .before .before .before .before .before .before .before .before .worked .ensures) at (c .before .before .before .before .before .before .before .before .before .read-small .ensures) in
-    let fails = rw (c .before .before .before .before .before .before .before .failed .ensures) at (c .before .before .before .before .before .read-small2 .ensures) in
-    (omega arith, λ rule y. let w = o .loop .inv .1 rule y in written-more (c .before .before .write .ensures) refl (write-place y l w .low) (climb-made y l w works fails (c .before .before .before .step .ensures)) w)
-
-add-t20 : tie.Need-add-t20 Inv-loop μ-loop
-add-t20 c = search needs
+    let e = c .before .before .before in
+    let l = e .before .before .before .before .before .before .before .before .loop-test .taken in
+    let works = rw (e .before .before .before .before .before .before .worked .ensures) at (e .before .before .before .before .before .value .ensures) in
+    let fails = rw (e .before .before .before .failed .ensures) at (e .before .before .value2 .ensures) in
+    let made = e .before .before .before .before .before .before .before .before .before .loop .inv .1 in (
+      omega arith,
+      λ rule y. written-more (c .before .before .write .ensures) refl (write-place y l (made rule y) .low)
+          (climb-made y l (made rule y) works fails (e .step .ensures)) (made rule y),
+    )
 
 same-length : tie.Need-same-length Inv-loop μ-loop
 same-length c = c .before .loop .inv .1 _ (climb (c .before .before)) .kept .long
@@ -139,13 +125,10 @@ returns-2 : tie.Need-returns-2 Inv-loop μ-loop
 returns-2 c =
     let o = c .before .before in
     let pre = o .before .before .before .before .before .before .before .before .before .before .pre in
+    let weight = o .before .before .before .before .before .before .weight .ensures in
     let e : c .before .loop .m ≡ o .before .before .lesser .result = omega arith in
-    let made = rw (e, o .before .before .lesser .ensures, o .before .before .before .limit .ensures, o .before .before .before .before .before .before .weight .ensures) at (c .before .loop .inv .1 _ (climb o)) in
-    record {
-      level = rw (o .before .before .before .before .before .before .weight .ensures, add-one) (level-up (pre .0) (pre .1) made);
-      is = add-one _;
-      kept = made .kept;
-    }
+    let made = rw (e, o .before .before .lesser .ensures, o .before .before .before .limit .ensures, weight) at (c .before .loop .inv .1 _ (climb o)) in
+    record { level = rw (weight, add-one) (level-up (pre .0) (pre .1) made); is = add-one _; kept = made .kept }
 
 pub turn-spec : {M : Type 1} → statement M
 turn-spec =
@@ -153,8 +136,8 @@ turn-spec =
     (tie.spec
     Inv-loop
     μ-loop
+    add-next
     weight-requires
-    add-t19
     returns
     sub-reach
     limit-requires
@@ -164,17 +147,14 @@ turn-spec =
     failure-requires
     loop-holds
     worked-requires
-    add-read-small
-    read-small-requires
+    value-requires
     failed-requires
-    add-read-small-2
-    read-small-requires-2
+    value-requires-2
     add-write
     step-requires
     write-requires
     add-m
     loop-less
     loop-again
-    add-t20
     same-length
     returns-2)
