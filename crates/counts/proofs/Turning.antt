@@ -2,8 +2,8 @@
 -- is the new count, by the split of a count at its top component. Cells of other rows lie elsewhere.
 -- Assumes nothing.
 use mathlib.Core.Path.{_≡_, refl, sym, ap, _∙_}
-use mathlib.Core.Bool.{Bool, true, false, cond}
-use mathlib.Core.Logic.{_⊎_, inl, inr, ⊎-elim}
+use mathlib.Core.Bool.{cond}
+use mathlib.Core.Logic.{⊎-elim}
 use mathlib.Core.List.{List, _++_}
 use Prim.Native.Nat.{ℕ, zero, suc, _+_, _-_, _*_, _^_, _≤_, _<_}
 use native.Mathlib.Nat.{add-zero, eq-zero-or-pos, mul-le-mul-right}
@@ -12,8 +12,7 @@ use lib.Dec.{eqb, ltb, leb, eqb·suc-zero}
 use lib.ListN.{length, getD, drop, replicate}
 use borrow.Author.Tests.{ltb-true, ltb-false, lt-leb, eq-eqb}
 use Rattle.rules.specs.declared.Rule.{Rule}
-use Rattle.rules.specs.State.{numberOf, down}
-use Rattle.rules.specs.Count.{countIf}
+use Rattle.rules.specs.State.{numberOf}
 use Rattle.rules.specs.Memory.{run}
 use Rattle.rules.specs.Refusal.{most, cells}
 use Rattle.rules.proofs.Tests.{by-test, by-both}
