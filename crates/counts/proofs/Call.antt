@@ -12,20 +12,20 @@ use borrow.Author.Tests.{ltb-false}
 use Rattle.rules.specs.declared.Rule.{Rule}
 use Rattle.rules.specs.declared.Counting.the-variants as counting
 use Rattle.rules.specs.Count.{countsOf}
-use Rattle.rules.specs.Refusal.{countRefusal}
+use Rattle.rules.specs.Refusal.{cells, countRefusal}
 use Rattle.rules.specs.Answer.{unless, countingOf, roomAfter}
 use Rattle.rules.proofs.Seven.{seven}
 use Rattle.refusals.specs.Shared.{after, ruleRefusal}
 use Rattle.rules.proofs.Unless.{unless-none, unless-some}
 use Rattle.refusals.proofs.Laws.{count-after, accepted}
-use Rattle.counts.specs.Fill.{refusalOf, Fillable, Filled, Line}
+use Rattle.counts.specs.Tally.{refusalOf, Countable, Tallied, OnLine}
 use Rattle.counts.specs.Outcome.{Outcome}
-use Rattle.counts.proofs.Cells.{outside-drop, written-list}
+use Rattle.counts.proofs.Cells.{outside-drop, stored-list}
 
 -- the kinds that are left
-pub line-left : (kind : ℕ) → 1 ≤ kind → kind ≤ 7 → ((kind ≡ 1) ⊎ (kind ≡ 3) → ⊥) → ((kind ≡ 5) ⊎ (kind ≡ 7) → ⊥) → Line kind
+pub line-left : (kind : ℕ) → 1 ≤ kind → kind ≤ 7 → ((kind ≡ 1) ⊎ (kind ≡ 3) → ⊥) → ((kind ≡ 5) ⊎ (kind ≡ 7) → ⊥) → OnLine kind
 line-left =
-    seven (λ k. ((k ≡ 1) ⊎ (k ≡ 3) → ⊥) → ((k ≡ 5) ⊎ (k ≡ 7) → ⊥) → Line k)
+    seven (λ k. ((k ≡ 1) ⊎ (k ≡ 3) → ⊥) → ((k ≡ 5) ⊎ (k ≡ 7) → ⊥) → OnLine k)
     (λ a b. absurd (a (inl refl)))
     (λ a b. inl refl)
     (λ a b. absurd (a (inr refl)))
@@ -45,11 +45,11 @@ none-short false true e = absurd (omega arith)
 none-short false false e = (refl, refl)
 
 module _ (rule : Rule) (n : ℕ) (weights table room : List ℕ) {number : ℕ} (e : number ≡ refusalOf rule n weights (length table) (length room)) where
-  pub fillable : number ≡ 0 → Fillable rule n weights table room
-  fillable z =
+  pub countable : number ≡ 0 → Countable rule n weights table room
+  countable z =
       let a = after-none (ruleRefusal rule n weights) _ (sym e ∙ z) in
-      let s = none-short (ltb (length table) 7800) (ltb (length room) (suc n)) (a .1) in
-      record { sound = accepted rule n weights (a .0); long = ltb-false _ _ (s .0); slots = ltb-false _ _ (s .1) }
+      let s = none-short (ltb (length table) cells) (ltb (length room) (suc n)) (a .1) in
+      record { accepted = accepted rule n weights (a .0); long = ltb-false _ _ (s .0); slots = ltb-false _ _ (s .1) }
 
   same : number ≡ countRefusal rule n weights table room
   same = e ∙ sym (count-after rule n weights table room)
@@ -64,12 +64,12 @@ module _ (rule : Rule) (n : ℕ) (weights table room : List ℕ) {number : ℕ} 
   unfolding countingOf roomAfter
   refused h = record { answered = otherwise _ _ h; cleared = otherwise (λ r. table) _ h; written = otherwise (λ r. room) _ h }
 
-  pub counted : {used tableExit roomExit : List ℕ} → number ≡ 0 → Filled rule n weights table room used roomExit
-      → tableExit ≡ replicate 7800 0 ++ drop 7800 used → Outcome rule n weights table room counting.Counted tableExit roomExit
+  pub counted : {used tableExit roomExit : List ℕ} → number ≡ 0 → Tallied rule n weights table room used roomExit
+      → tableExit ≡ replicate cells 0 ++ drop cells used → Outcome rule n weights table room counting.Counted tableExit roomExit
   unfolding countingOf roomAfter countsOf
   counted z f d =
       record {
         answered = answer _ _ z;
-        cleared = d ∙ ap (λ x. replicate 7800 0 ++ x) (outside-drop (f .used)) ∙ answer (λ r. table) _ z;
-        written = written-list (fillable z .slots) (f .counts) ∙ answer (λ r. room) _ z;
+        cleared = d ∙ ap (λ x. replicate cells 0 ++ x) (outside-drop (f .used)) ∙ answer (λ r. table) _ z;
+        written = stored-list (countable z .slots) (f .counts) ∙ answer (λ r. room) _ z;
       }

@@ -12,7 +12,7 @@ use lib.Seq.{ext-getD, getD-drop, getD-set-same, getD-set-other, getD-append-add
 use borrow.Author.Tests.{ltb-true, ltb-false}
 use Rattle.rules.specs.Below.{listBelow}
 use Rattle.rules.proofs.Lists.{below-length, below-get}
-use Rattle.counts.specs.Cells.{Row, Outside, Written}
+use Rattle.counts.specs.Cells.{Cells, Outside, Stored}
 
 pub below-or : (a b : ℕ) → (a < b) ⊎ (b ≤ a)
 below-or a b = go (ltb a b) refl
@@ -45,13 +45,13 @@ module _ {from to : ℕ} where
   outside-wider l h o = record { long = o .long; low = λ p m. o .low p (omega arith); high = λ p m. o .high p (omega arith) }
 
 module _ {f : ℕ → ℕ} {off from to : ℕ} where
-  pub written-none : {t : List ℕ} → to ≤ from → Written f off from to t t
-  written-none l = record { row = record { is = λ k p m h e. absurd (omega arith) }; rest = outside-none }
+  pub stored-none : {t : List ℕ} → to ≤ from → Stored f off from to t t
+  stored-none l = record { row = record { is = λ k p m h e. absurd (omega arith) }; rest = outside-none }
 
   -- one cell more, at the high end
-  pub written-up : {a b : List ℕ} (p v : ℕ) → from ≤ to → p ≡ off + to → p < length b → v ≡ f to → Written f off from to a b
-      → Written f off from (to + 1) a (set b p v)
-  written-up {b = b} p v order e l same w =
+  pub stored-up : {a b : List ℕ} (p v : ℕ) → from ≤ to → p ≡ off + to → p < length b → v ≡ f to → Stored f off from to a b
+      → Stored f off from (to + 1) a (set b p v)
+  stored-up {b = b} p v order e l same w =
       record {
         row = record { is = λ k q m h d. ⊎-elim (old k q m d) (new k q h d) (below-or k to) };
         rest = outside-set p v (omega arith) (omega arith) (outside-wider (omega arith) (omega arith) (w .rest));
@@ -67,9 +67,9 @@ module _ {f : ℕ → ℕ} {off from to : ℕ} where
           rw (at, here) (getD-set-same b p v 0 l ∙ same)
 
   -- one cell more, at the low end
-  pub written-down : {a b : List ℕ} (low p v : ℕ) → low + 1 ≡ from → from ≤ to → p ≡ off + low → p < length b → v ≡ f low → Written f off from to a b
-      → Written f off low to a (set b p v)
-  written-down {b = b} low p v next order e l same w =
+  pub stored-down : {a b : List ℕ} (low p v : ℕ) → low + 1 ≡ from → from ≤ to → p ≡ off + low → p < length b → v ≡ f low → Stored f off from to a b
+      → Stored f off low to a (set b p v)
+  stored-down {b = b} low p v next order e l same w =
       record {
         row = record { is = λ k q m h d. ⊎-elim (new k q m d) (old k q h d) (below-or k from) };
         rest = outside-set p v (omega arith) (omega arith) (outside-wider (omega arith) (omega arith) (w .rest));
@@ -85,11 +85,11 @@ module _ {f : ℕ → ℕ} {off from to : ℕ} where
           rw (at, here) (getD-set-same b p v 0 l ∙ same)
 
 -- a row that holds the same by another name
-pub row-same : {f g : ℕ → ℕ} {off from to : ℕ} {t : List ℕ} → ((k : ℕ) → from ≤ k → k < to → f k ≡ g k) → Row f off from to t → Row g off from to t
-row-same h r = record { is = λ k p l m e. r .is k p l m e ∙ h k l m }
+pub cells-same : {f g : ℕ → ℕ} {off from to : ℕ} {t : List ℕ} → ((k : ℕ) → from ≤ k → k < to → f k ≡ g k) → Cells f off from to t → Cells g off from to t
+cells-same h r = record { is = λ k p l m e. r .is k p l m e ∙ h k l m }
 
-pub written-same : {f g : ℕ → ℕ} {off from to : ℕ} {a b : List ℕ} → ((k : ℕ) → from ≤ k → k < to → f k ≡ g k) → Written f off from to a b → Written g off from to a b
-written-same h w = record { row = row-same h (w .row); rest = w .rest }
+pub stored-same : {f g : ℕ → ℕ} {off from to : ℕ} {a b : List ℕ} → ((k : ℕ) → from ≤ k → k < to → f k ≡ g k) → Stored f off from to a b → Stored g off from to a b
+stored-same h w = record { row = cells-same h (w .row); rest = w .rest }
 
 -- what stands past the cells that may differ is as it was
 pub outside-drop : {n : ℕ} {a b : List ℕ} → Outside 0 n a b → drop n b ≡ drop n a
@@ -129,8 +129,8 @@ module _ (a : List ℕ) {b : List ℕ} (n : ℕ) (fits : n ≤ length a) (e : b 
       }
 
 -- a table whose first n cells were written, as a list
-pub written-list : {f : ℕ → ℕ} {n : ℕ} {a b : List ℕ} → n ≤ length a → Written f 0 0 n a b → b ≡ listBelow n f ++ drop n a
-written-list {f} {n} {a} {b} fits w =
+pub stored-list : {f : ℕ → ℕ} {n : ℕ} {a b : List ℕ} → n ≤ length a → Stored f 0 0 n a b → b ≡ listBelow n f ++ drop n a
+stored-list {f} {n} {a} {b} fits w =
     ext-getD 0 b (listBelow n f ++ drop n a)
     (w .rest .long ∙ omega (arith, length-append (listBelow n f) (drop n a), below-length n f, length-drop n a))
     (λ i l. ⊎-elim (low i) (high i) (below-or i n))

@@ -9,85 +9,73 @@ use native.Mathlib.Omega.{arith}
 use lib.Dec.{eqb, eqb·suc-zero}
 use lib.ListN.{length, getD, drop, set, replicate}
 use lib.Seq.{getD-set-same, getD-set-other}
-use borrow.Author.Tests.{lt-ltb, le-ltb, eq-eqb, ne-eqb}
+use borrow.Author.Tests.{eq-eqb, ne-eqb}
 use Rattle.rules.specs.declared.Rule.{Rule}
 use Rattle.rules.specs.Count.{countIf, countOf}
-use Rattle.rules.specs.Memory.{run, machineOf, readingOf, moved, ended, below, live, lead, pair, row5, row7, working5, failing5, end7, working7, failing7}
-use Rattle.rules.specs.Refusal.{inRange}
-use Rattle.rules.proofs.Seven.{ruleOf}
-use Rattle.rules.proofs.Reading.{by-test, run-dead}
-use Rattle.rules.proofs.Words.{held-none, count-base, count-above}
+use Rattle.rules.specs.State.{ruleOf}
+use Rattle.rules.specs.Memory.{run, machineOf, readingOf, ended, live, pair, row5, row7, end7}
+use Rattle.rules.specs.Refusal.{most, cells, inRange}
+use Rattle.rules.specs.Accepted.{Accepted}
+use Rattle.rules.proofs.Tests.{by-test}
+use Rattle.rules.proofs.Dead.{row-run}
+use Rattle.rules.proofs.Words.{count-base, count-above, count-none}
 use Rattle.rules.proofs.Split.{count-zero, count-suc, count-same}
 use Rattle.rules.proofs.Conditions.{count-by-reading}
-use Rattle.memory.specs.Step.{limitOf}
-use Rattle.memory.proofs.Same.{pair5, pair7}
+use Rattle.rules.proofs.Accepted.{range5, range7}
+use Rattle.memory.specs.Open.{leadOpen, cleanOpen}
+use Rattle.memory.proofs.Opening.{lead-first, lead-start, lead-works, lead-fails, clean-start, clean-works, clean-fails}
 use Rattle.pascal.proofs.Triangle.{count-fit}
-use Rattle.refusals.specs.Accepted.{Accepted}
-use Rattle.refusals.proofs.Laws.{range5, range7}
-use Rattle.counts.specs.Cells.{Row, Outside, Written}
+use Rattle.counts.specs.Column.{limitOf}
+use Rattle.counts.specs.Cells.{Cells, Outside, Stored}
 use Rattle.counts.specs.Turn.{countFrom, Rows, Sweepable, Swept}
 use Rattle.counts.specs.Ring.{openOf, closing, joinedOf, Joinable, Openable, Opened}
-use Rattle.counts.specs.Fill.{Fillable, Filled, Ring, Open, Wider}
-use Rattle.counts.proofs.Cells.{row-same, outside-set, outside-wider, zero-cell, zero-outside}
+use Rattle.counts.specs.Tally.{Countable, Tallied, OnRing, Open, Wider}
+use Rattle.counts.proofs.Columns.{column5, column7}
+use Rattle.counts.proofs.Cells.{cells-same, outside-set, outside-wider, zero-cell, zero-outside}
 use Rattle.counts.proofs.Lines.{limited, rows-room}
 
 -- ---- kind 5
 
-module _ (k : ℕ) where
-  abbrev open5 : (n i j : ℕ) → ℕ
-  open5 n i j = countIf (run (machineOf (row5 k)) i (below (n - i) k (lead (n - i)))) i j
+module _ (k n : ℕ) where
+  abbrev open5 : (i j : ℕ) → ℕ
+  open5 i j = countIf (run (machineOf (row5 k)) i (leadOpen k n i)) i j
 
   abbrev closed5 : (t i j : ℕ) → ℕ
   closed5 t i j = countIf (run (machineOf (row5 k)) i (live (pair t 0))) i j
 
   -- with k components read the lead is dead
-  pub open5-first : (n j : ℕ) → k ≤ n → open5 n (n - k) j ≡ 0
-  unfolding countIf
-  open5-first n j h =
-      let e : n - (n - k) ≡ k = omega arith in
-      rw (e, le-ltb k k (omega arith)) (held-none _ (2 ^ (n - k)) (λ w l. rw (run-dead (row5 k) w (n - k))))
+  open5-first : (j : ℕ) → k ≤ n → open5 (n - k) j ≡ 0
+  open5-first j h = rw (lead-first k n h) (count-none _ (n - k) j (row-run (row5 k) (n - k)))
 
-  module _ (n i : ℕ) (left : i < n) (near : n ≤ i + k) where
-    lead-live : below (n - suc i) k (lead (n - suc i)) ≡ live (lead (n - suc i))
-    lead-live = rw (lt-ltb (n - suc i) k (omega arith))
+  module _ (i : ℕ) (left : i < n) (near : n ≤ i + k) where
+    open5-zero : open5 (suc i) 0 ≡ closed5 (n - suc i) i 0
+    open5-zero = count-zero (machineOf (row5 k)) i (leadOpen k n (suc i)) ∙ rw (lead-works k n i left near)
 
-    pub open5-zero : open5 n (suc i) 0 ≡ closed5 (n - suc i) i 0
-    unfolding moved working5
-    open5-zero = rw lead-live (count-zero (machineOf (row5 k)) i (live (lead (n - suc i))))
-
-    pub open5-suc : (j : ℕ) → open5 n (suc i) (suc j) ≡ closed5 (n - suc i) i (suc j) + open5 n i j
-    unfolding moved working5 failing5
-    open5-suc j =
-        let e : suc (n - suc i) ≡ n - i = omega arith in
-        rw (lead-live, ← e) (count-suc (machineOf (row5 k)) i (live (lead (n - suc i))) j)
+    open5-suc : (j : ℕ) → open5 (suc i) (suc j) ≡ closed5 (n - suc i) i (suc j) + open5 i j
+    open5-suc j = count-suc (machineOf (row5 k)) i (leadOpen k n (suc i)) j ∙ rw (lead-works k n i left near, lead-fails k n i left near)
 
 -- ---- kind 7
 
-module _ (r : ℕ) where
-  abbrev open7 : (n i j : ℕ) → ℕ
-  open7 n i j = countIf (run (machineOf (row7 r)) i (live (lead (min (n - i) (r - 1))))) i j
+module _ (r n : ℕ) where
+  abbrev open7 : (i j : ℕ) → ℕ
+  open7 i j = countIf (run (machineOf (row7 r)) i (cleanOpen r n i)) i j
 
   abbrev closed7 : (x i j : ℕ) → ℕ
   closed7 x i j = countIf (run (machineOf (row7 r)) i (live (pair x (r - 1)))) i j
 
-  pub open7-first : (n : ℕ) → open7 n 0 0 ≡ 1
-  unfolding run ended end7
-  open7-first n = count-base _
+  open7-first : open7 0 0 ≡ 1
+  unfolding run ended end7 cleanOpen
+  open7-first = count-base _
 
-  pub open7-none : (n j : ℕ) → open7 n 0 (suc j) ≡ 0
-  open7-none n j = count-above _ 0 (suc j) (omega arith)
+  open7-none : (j : ℕ) → open7 0 (suc j) ≡ 0
+  open7-none j = count-above _ 0 (suc j) (omega arith)
 
-  module _ (n i : ℕ) (left : i < n) where
-    same7 : min (suc (min (n - suc i) (r - 1))) (r - 1) ≡ min (n - i) (r - 1)
-    same7 = omega arith
+  module _ (i : ℕ) (left : i < n) where
+    open7-zero : open7 (suc i) 0 ≡ open7 i 0
+    open7-zero = count-zero (machineOf (row7 r)) i (cleanOpen r n (suc i)) ∙ rw (clean-works r n i left)
 
-    pub open7-zero : open7 n (suc i) 0 ≡ open7 n i 0
-    unfolding moved working7
-    open7-zero = rw (← same7) (count-zero (machineOf (row7 r)) i (live (lead (min (n - suc i) (r - 1)))))
-
-    pub open7-suc : (j : ℕ) → open7 n (suc i) (suc j) ≡ open7 n i (suc j) + closed7 (min (n - suc i) (r - 1)) i j
-    unfolding moved working7 failing7
-    open7-suc j = rw (← same7) (count-suc (machineOf (row7 r)) i (live (lead (min (n - suc i) (r - 1)))) j)
+    open7-suc : (j : ℕ) → open7 (suc i) (suc j) ≡ open7 i (suc j) + closed7 (min (n - suc i) (r - 1)) i j
+    open7-suc j = count-suc (machineOf (row7 r)) i (cleanOpen r n (suc i)) j ∙ rw (clean-works r n i left, clean-fails r n i left)
 
 -- ---- where the open memory begins
 
@@ -139,7 +127,7 @@ joined-same rule table room₀ room j same = rw (same 0 (omega arith), same j (o
 
 -- what is needed to work the entries below `count`, while those from `from` on are worked
 pub joinable-below : {rule : Rule} {from to : ℕ} {table room₀ room : List ℕ} → Joinable rule to table room₀
-    → Written (joinedOf rule table room₀) 0 from to room₀ room → (count : ℕ) → (count ≤ from) × (count ≤ to) → Joinable rule count table room
+    → Stored (joinedOf rule table room₀) 0 from to room₀ room → (count : ℕ) → (count ≤ from) × (count ≤ to) → Joinable rule count table room
 joinable-below {rule} {table = table} {room₀ = room₀} {room = room} able w count h =
     record {
       lent = able .lent;
@@ -152,12 +140,12 @@ module _ (n i : ℕ) (left : i < n) (weights table room : List ℕ) (first secon
   abbrev Joins : ℕ → Type 0
   Joins kind =
       let rule = ruleOf kind first second in
-      Rows rule weights (closing rule (n - suc i)) i (n + 1) table → Row (openOf rule n i) 0 0 (suc n) room → (j : ℕ) → j ≤ n
+      Rows rule weights (closing rule (n - suc i)) i (n + 1) table → Cells (openOf rule n i) 0 0 (suc n) room → (j : ℕ) → j ≤ n
       → joinedOf rule table room j ≡ openOf rule n (suc i) j
 
-  from5 : 0 < first → (t j : ℕ) → countFrom (ruleOf 5 first second) weights t i j 0 ≡ closed5 first t i j
+  from5 : 0 < first → (t j : ℕ) → countFrom (ruleOf 5 first second) weights t i j 0 ≡ closed5 first n t i j
   unfolding countFrom
-  from5 some t j = count-same _ _ i j (λ w l. pair5 first second weights i t 0 some .runs w)
+  from5 some t j = count-same _ _ i j (λ w l. column5 first second weights w i t some)
 
   joins5 : 0 < first → n ≤ i + first → Joins 5
   unfolding limitOf joinedOf openOf
@@ -174,16 +162,16 @@ module _ (n i : ℕ) (left : i < n) (weights table room : List ℕ) (first secon
       let cell = rows .is (suc j) 0 (omega arith) some ∙ from5 some _ (suc j) in
       rw (eqb·suc-zero, e, row .is j j (omega arith) (omega arith) (omega arith), d, cell, t) (sym (open5-suc first n i left near j))
 
-  from7 : 2 ≤ second → (x j : ℕ) → countFrom (ruleOf 7 first second) weights x i j 1 ≡ closed7 second x i j
+  from7 : 0 < second → (x j : ℕ) → countFrom (ruleOf 7 first second) weights x i j (second - 1) ≡ closed7 second n x i j
   unfolding countFrom
-  from7 two x j = count-same _ _ i j (λ w l. pair7 first second weights i x two .runs w)
+  from7 some x j = count-same _ _ i j (λ w l. column7 first second weights w i x some)
 
-  joins7 : 2 ≤ second → Joins 7
+  joins7 : 0 < second → Joins 7
   unfolding limitOf joinedOf openOf
-  joins7 two rows row zero h = row .is 0 0 (omega arith) (omega arith) (omega arith) ∙ sym (open7-zero second n i left)
-  joins7 two rows row (suc j) h =
-      let e : suc j - 1 ≡ j = omega arith in
-      let cell = rows .is j 1 (omega arith) two ∙ from7 two _ j in
+  joins7 some rows row zero h = row .is 0 0 (omega arith) (omega arith) (omega arith) ∙ sym (open7-zero second n i left)
+  joins7 some rows row (suc j) h =
+      let e : suc j * second - 1 ≡ j * second + (second - 1) = omega arith in
+      let cell = rows .is j (second - 1) (omega arith) (omega arith) ∙ from7 some _ j in
       rw (eqb·suc-zero, e, row .is (suc j) (suc j) (omega arith) (omega arith) (omega arith), cell) (sym (open7-suc second n i left j))
 
 -- ---- all n components left
@@ -196,39 +184,35 @@ module _ (n : ℕ) (weights : List ℕ) (j first second : ℕ) where
 
   ends5 : 0 < first → Ends 5
   unfolding openOf readingOf
-  ends5 some ok =
-      let e : n - n ≡ 0 = omega arith in
-      rw (e, lt-ltb 0 first some) (sym (count-by-reading (ruleOf 5 first second) n weights j ok))
+  ends5 some ok = rw (lead-start first n some) (sym (count-by-reading (ruleOf 5 first second) n weights j ok))
 
   ends7 : Ends 7
   unfolding openOf readingOf
-  ends7 ok =
-      let e : min (n - n) (second - 1) ≡ 0 = omega arith in
-      rw e (sym (count-by-reading (ruleOf 7 first second) n weights j ok))
+  ends7 ok = rw (clean-start second n) (sym (count-by-reading (ruleOf 7 first second) n weights j ok))
 
 -- ---- the ring's call
 
-module _ {rule : Rule} {n : ℕ} {weights : List ℕ} (ok : Accepted rule n weights) (ring : Ring (rule .kind)) where
+module _ {rule : Rule} {n : ℕ} {weights : List ℕ} (ok : Accepted rule n weights) (ring : OnRing (rule .kind)) where
   pub open-count : (j : ℕ) → openOf rule n n j ≡ countOf rule n weights j
   open-count j = go ring (ok .in-range)
     where
-      go : Ring (rule .kind) → Ends n weights j (rule .first) (rule .second) (rule .kind)
-      go (inl e) = subst (Ends n weights j _ _) (sym e) (ends5 n weights j _ _ (range5 rule n weights ok e .low))
+      go : OnRing (rule .kind) → Ends n weights j (rule .first) (rule .second) (rule .kind)
+      go (inl e) = subst (Ends n weights j _ _) (sym e) (ends5 n weights j _ _ (range5 ok e .low))
       go (inr e) = subst (Ends n weights j _ _) (sym e) (ends7 n weights j _ _)
 
   pub join-count : {i : ℕ} {table room : List ℕ} → i < n → (rule .kind ≡ 5 → n ≤ i + rule .first)
-      → Rows rule weights (closing rule (n - suc i)) i (n + 1) table → Row (openOf rule n i) 0 0 (suc n) room → (j : ℕ) → j ≤ n
+      → Rows rule weights (closing rule (n - suc i)) i (n + 1) table → Cells (openOf rule n i) 0 0 (suc n) room → (j : ℕ) → j ≤ n
       → joinedOf rule table room j ≡ openOf rule n (suc i) j
   join-count {i} {table} {room} left near = go ring
     where
-      go : Ring (rule .kind) → Joins n i left weights table room (rule .first) (rule .second) (rule .kind)
+      go : OnRing (rule .kind) → Joins n i left weights table room (rule .first) (rule .second) (rule .kind)
       go (inl e) =
           subst (Joins n i left weights table room _ _) (sym e)
-          (joins5 n i left weights table room _ _ (range5 rule n weights ok e .low) (near e))
-      go (inr e) = subst (Joins n i left weights table room _ _) (sym e) (joins7 n i left weights table room _ _ (range7 rule n weights ok e .low))
+          (joins5 n i left weights table room _ _ (range5 ok e .low) (near e))
+      go (inr e) = subst (Joins n i left weights table room _ _) (sym e) (joins7 n i left weights table room _ _ (omega (arith, range7 ok e .low)))
 
   -- the counts from the open memory fit 64 bits
-  open-fits : (i j : ℕ) → i ≤ 64 → openOf rule n i j < 2 ^ 64
+  open-fits : (i j : ℕ) → i ≤ most → openOf rule n i j < 2 ^ 64
   unfolding openOf
   open-fits i j h = by-test (λ x. x < 2 ^ 64) (eqb (rule .kind) 5) _ _ (λ _. count-fit _ i j h) (λ _. count-fit _ i j h)
 
@@ -237,10 +221,10 @@ module _ {rule : Rule} {n : ℕ} {weights : List ℕ} {left : ℕ} {table room :
   open-sweepable e =
       record {
         begin = record {
-          room = rows-room (o .call .sound) (o .call .long);
-          led = omega (arith, limited (o .call .sound) .small);
+          room = rows-room (o .call .accepted) (inr (o .kind)) (o .call .long);
+          led = omega (arith, limited (o .call .accepted) (inr (o .kind)) .some);
           some = omega arith;
-          most = omega (arith, o .call .sound .size-high);
+          most = omega (arith, o .call .accepted .size-high);
         };
         enough = omega arith;
         listed = λ two. ⊎-elim (λ k. omega arith) (λ k. omega arith) (o .kind);
@@ -250,44 +234,44 @@ module _ {rule : Rule} {n : ℕ} {weights : List ℕ} {left : ℕ} {table room :
     joins : (j : ℕ) → j ≤ n → joinedOf rule table′ room j ≡ openOf rule n (suc left) j
     joins =
         let d : lead ≡ closing rule (n - suc left) = omega arith in
-        join-count (o .call .sound) (o .kind) more (o .five) (rw d at (s .holds)) (o .row)
+        join-count (o .call .accepted) (o .kind) more (o .five) (rw d at (s .holds)) (o .row)
 
     pub open-joinable : Joinable rule (suc n) table′ room
     open-joinable =
         record {
-          lent = rows-room (o .call .sound) (omega (arith, o .call .long, s .rest .long));
-          most = omega (arith, o .call .sound .size-high);
+          lent = rows-room (o .call .accepted) (inr (o .kind)) (omega (arith, o .call .long, s .rest .long));
+          most = omega (arith, o .call .accepted .size-high);
           slots = o .call .slots;
-          fits = λ j h. rw (joins j (omega arith)) (open-fits (o .call .sound) (o .kind) (suc left) j (omega (arith, o .call .sound .size-high)));
+          fits = λ j h. rw (joins j (omega arith)) (open-fits (o .call .accepted) (o .kind) (suc left) j (omega (arith, o .call .accepted .size-high)));
         }
 
-    pub open-wider : {room′ : List ℕ} → Written (joinedOf rule table′ room) 0 0 (suc n) room room′ → Wider rule n weights left table room table′ room′
+    pub open-wider : {room′ : List ℕ} → Stored (joinedOf rule table′ room) 0 0 (suc n) room room′ → Wider rule n weights left table room table′ room′
     open-wider w =
         record {
           state = record {
             call = record {
-              sound = o .call .sound;
+              accepted = o .call .accepted;
               long = omega (arith, o .call .long, s .rest .long);
               slots = omega (arith, o .call .slots, w .rest .long);
             };
             kind = o .kind;
             near = more;
             five = λ k. omega (arith, o .five k);
-            row = row-same (λ j l h. joins j (omega arith)) (w .row);
+            row = cells-same (λ j l h. joins j (omega arith)) (w .row);
           };
           used = s .rest;
           rest = outside-wider (omega arith) (omega arith) (w .rest);
         }
 
-module _ {rule : Rule} {n : ℕ} {weights table room : List ℕ} (call : Fillable rule n weights table room) (ring : Ring (rule .kind)) where
+module _ {rule : Rule} {n : ℕ} {weights table room : List ℕ} (call : Countable rule n weights table room) (ring : OnRing (rule .kind)) where
   pub ring-openable : Openable rule n room
   ring-openable =
-      record { five = λ e. range5 rule n weights (call .sound) e .high; most = call .sound .size-high; slots = call .slots }
+      record { five = λ e. range5 (call .accepted) e .high; most = call .accepted .size-high; slots = call .slots }
 
   pub ring-open : {left : ℕ} {room′ : List ℕ} → Opened rule n left room room′ → Open rule n weights left table room′
   ring-open o =
       record {
-        call = record { sound = call .sound; long = call .long; slots = omega (arith, call .slots, o .rest .long) };
+        call = record { accepted = call .accepted; long = call .long; slots = omega (arith, call .slots, o .rest .long) };
         kind = ring;
         near = o .near;
         five = o .five;
@@ -295,13 +279,13 @@ module _ {rule : Rule} {n : ℕ} {weights table room : List ℕ} (call : Fillabl
       }
 
 -- the room as the ring leaves it: nothing more to read
-pub open-filled : {rule : Rule} {n : ℕ} {weights table₀ room₀ table room : List ℕ} → Open rule n weights n table room
-    → Outside 0 7800 table₀ table → Outside 0 (suc n) room₀ room → Filled rule n weights table₀ room₀ table room
-open-filled o t r =
+pub open-tallied : {rule : Rule} {n : ℕ} {weights table₀ room₀ table room : List ℕ} → Open rule n weights n table room
+    → Outside 0 cells table₀ table → Outside 0 (suc n) room₀ room → Tallied rule n weights table₀ room₀ table room
+open-tallied o t r =
     record {
       used = t;
       counts = record {
-        row = row-same (λ j l h. open-count (o .call .sound) (o .kind) j) (o .row);
+        row = cells-same (λ j l h. open-count (o .call .accepted) (o .kind) j) (o .row);
         rest = outside-wider (omega arith) (omega arith) r;
       };
     }

@@ -1,4 +1,5 @@
 // Document 01's count table: "Entry j is the number of working states with exactly j failed, 0 included."
+mod column; // column.rt: the number by which a column of the working table stands for a memory
 mod line; // line.rt: kinds 2, 4 and 6, read from the one start of a line
 mod number; // number.rt: kinds 1 and 3, which Pascal's row answers
 mod ring; // ring.rt: kinds 5 and 7, one lead at a time
@@ -6,20 +7,20 @@ mod sweep; // sweep.rt: the working table over so many components
 mod turn; // turn.rt: the working table with one component more
 
 ghost use mathlib.Core.Path.{_≡_};
-ghost use Rattle.counts.specs.Fill.{refusalOf, Fillable, Filled};
+ghost use Rattle.counts.specs.Tally.{refusalOf, Countable, Tallied};
 ghost use Rattle.counts.specs.Outcome.{Outcome};
 use rules::Counting;
 use rules::Rule;
 
 // Refusals 1, 2, 5, 6, 7 and 8, the lowest that applies; 0 for none.
-fn refusal(rule: Rule, n: u64, weights: &[u16], cells: usize, slots: usize) -> u64
-    ensures { λ r. ⌜ r ≡ refusalOf rule n (now (weights .entry)) cells slots ⌝ }
+fn refusal(rule: Rule, n: u64, weights: &[u16], lent: usize, slots: usize) -> u64
+    ensures { λ r. ⌜ r ≡ refusalOf rule n (now (weights .entry)) lent slots ⌝ }
 {
     let first = refusals::rule_refusal(rule, n, weights);
     if first != 0 {
         return first;
     }
-    if cells < 7800 {
+    if lent < cells::CELLS {
         return 7;
     }
     if slots as u64 <= n {
@@ -29,9 +30,9 @@ fn refusal(rule: Rule, n: u64, weights: &[u16], cells: usize, slots: usize) -> u
 }
 
 // The counts of an accepted rule, in the first n + 1 cells of the room.
-fn fill(rule: Rule, n: usize, weights: &[u16], table: &mut [u64], room: &mut [u64])
-    requires { ⌜ Fillable rule n (now weights) (now table) (now room) ⌝ }
-    ensures { λ _. ⌜ Filled rule n (now (weights .entry)) (now (table .entry)) (now (room .entry)) (now (table .exit)) (now (room .exit)) ⌝ }
+fn tally(rule: Rule, n: usize, weights: &[u16], table: &mut [u64], room: &mut [u64])
+    requires { ⌜ Countable rule n (now weights) (now table) (now room) ⌝ }
+    ensures { λ _. ⌜ Tallied rule n (now (weights .entry)) (now (table .entry)) (now (room .entry)) (now (table .exit)) (now (room .exit)) ⌝ }
 {
     let kind = rule.kind;
     match kind {
@@ -49,7 +50,7 @@ pub fn counts(rule: Rule, n: u64, weights: &[u16], table: &mut [u64], room: &mut
     if given != 0 {
         return Counting::Refused(given);
     }
-    fill(rule, n as usize, weights, table, room);
-    cells::zero(table, 7800);
+    tally(rule, n as usize, weights, table, room);
+    cells::zero(table, cells::CELLS);
     Counting::Counted
 }

@@ -2,7 +2,8 @@
 ghost use mathlib.Core.Path.{_≡_};
 ghost use Prim.Native.Nat.{suc, _≤_, _<_};
 ghost use lib.ListN.{length};
-ghost use Rattle.counts.specs.Cells.{Written};
+ghost use Rattle.rules.specs.Refusal.{most};
+ghost use Rattle.counts.specs.Cells.{Stored};
 ghost use Rattle.counts.specs.Number.{failsAt, entryOf};
 use rules::Rule;
 
@@ -21,7 +22,7 @@ fn fails_at(rule: Rule, j: u64) -> bool
 
 // Entry j of the count table.
 fn entry(rule: Rule, n: usize, j: usize) -> u64
-    requires { ⌜ n ≤ 64 ⌝ }
+    requires { ⌜ n ≤ most ⌝ }
     ensures { λ r. ⌜ r ≡ entryOf rule n j ⌝ }
 {
     if fails_at(rule, j as u64) {
@@ -32,8 +33,8 @@ fn entry(rule: Rule, n: usize, j: usize) -> u64
 
 // The entries 0 to n.
 pub fn by_number(rule: Rule, n: usize, room: &mut [u64])
-    requires { ⌜ (n ≤ 64) × (n < length (now room)) ⌝ }
-    ensures { λ _. ⌜ Written (entryOf rule n) 0 0 (suc n) (now (room .entry)) (now (room .exit)) ⌝ }
+    requires { ⌜ (n ≤ most) × (n < length (now room)) ⌝ }
+    ensures { λ _. ⌜ Stored (entryOf rule n) 0 0 (suc n) (now (room .entry)) (now (room .exit)) ⌝ }
 {
     let mut j: usize = 0;
     while j <= n {

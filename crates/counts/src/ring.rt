@@ -2,11 +2,13 @@
 // A component more joins to them the counts from the pair that the open memory becomes, which the table is worked for.
 ghost use mathlib.Core.Path.{_≡_};
 ghost use Prim.Native.Nat.{suc, _<_};
-ghost use Rattle.memory.specs.Step.{limitOf};
-ghost use Rattle.counts.specs.Cells.{Written};
+ghost use Rattle.counts.specs.Column.{limitOf};
+ghost use Rattle.counts.specs.Cells.{Stored};
 ghost use Rattle.counts.specs.Ring.{closing, joinedOf, Openable, Opened, Joinable};
-ghost use Rattle.counts.specs.Fill.{Fillable, Filled, Ring, Open, Wider};
+ghost use Rattle.counts.specs.Tally.{Countable, Tallied, OnRing, Open, Wider};
+use crate::column;
 use crate::sweep;
+use memory::owed::Clean;
 use rules::Rule;
 
 // The counts from the open memory with none of it read: kind 5 begins with k components failed and so dead, kind 7 with no component left.
@@ -23,17 +25,12 @@ fn opening(rule: Rule, n: usize, room: &mut [u64]) -> usize
     0
 }
 
-// The lead with so many components read.
-fn lead(rule: Rule, read: usize) -> u64
+// The lead with so many components read: all that count. Under kind 5 they are fewer than k.
+fn lead(rule: Rule, read: usize) -> usize
     requires { ⌜ 0 < limitOf rule ⌝ }
     ensures { λ r. ⌜ r ≡ closing rule read ⌝ }
 {
-    let most = memory::limit(rule) - 1;
-    let at = read as u64;
-    if at < most {
-        return at;
-    }
-    most
+    Clean::after(read, column::limit(rule)).clean
 }
 
 // Entry j with one component more: under kind 5 a working one closes the lead, under kind 7 a failed one does.
@@ -41,7 +38,7 @@ fn joined(rule: Rule, j: usize, table: &[u64], room: &[u64]) -> u64
     requires { ⌜ Joinable rule (suc j) (now table) (now room) ⌝ }
     ensures { λ r. ⌜ r ≡ joinedOf rule (now (table .entry)) (now (room .entry)) j ⌝ }
 {
-    let size = memory::limit(rule) as usize;
+    let size = column::limit(rule);
     if rule.kind == 5 {
         if j == 0 {
             return table[0];
@@ -51,13 +48,13 @@ fn joined(rule: Rule, j: usize, table: &[u64], room: &[u64]) -> u64
     if j == 0 {
         return room[0];
     }
-    room[j] + table[(j - 1) * size + 1]
+    room[j] + table[j * size - 1]
 }
 
 // All entries with one component more, from the highest.
 fn join(rule: Rule, n: usize, table: &[u64], room: &mut [u64])
     requires { ⌜ Joinable rule (suc n) (now table) (now room) ⌝ }
-    ensures { λ _. ⌜ Written (joinedOf rule (now (table .entry)) (now (room .entry))) 0 0 (suc n) (now (room .entry)) (now (room .exit)) ⌝ }
+    ensures { λ _. ⌜ Stored (joinedOf rule (now (table .entry)) (now (room .entry))) 0 0 (suc n) (now (room .entry)) (now (room .exit)) ⌝ }
 {
     let mut j = n + 1;
     while 0 < j {
@@ -77,8 +74,8 @@ fn one_more(rule: Rule, n: usize, weights: &[u16], left: usize, table: &mut [u64
 
 // The count table of a ring.
 pub fn ring(rule: Rule, n: usize, weights: &[u16], table: &mut [u64], room: &mut [u64])
-    requires { ⌜ Fillable rule n (now weights) (now table) (now room) ⌝ ∗ ⌜ Ring (rule .kind) ⌝ }
-    ensures { λ _. ⌜ Filled rule n (now (weights .entry)) (now (table .entry)) (now (room .entry)) (now (table .exit)) (now (room .exit)) ⌝ }
+    requires { ⌜ Countable rule n (now weights) (now table) (now room) ⌝ ∗ ⌜ OnRing (rule .kind) ⌝ }
+    ensures { λ _. ⌜ Tallied rule n (now (weights .entry)) (now (table .entry)) (now (room .entry)) (now (table .exit)) (now (room .exit)) ⌝ }
 {
     let mut left = opening(rule, n, room);
     while left < n {

@@ -10,6 +10,7 @@ use rules::Rule;
 
 // The most components of a list, and the heaviest total of those rated.
 const MOST: u64 = 64;
+
 const HEAVIEST: u64 = 120;
 
 // Is x outside a range, whose ends belong to it?

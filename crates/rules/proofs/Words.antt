@@ -32,6 +32,11 @@ unfolding held
 held-more p q zero h = omega arith
 held-more p q (suc k) h = omega (arith, one-le (p k) (q k) (h k (omega arith)), held-more p q k (λ w l. h w (omega arith)))
 
+-- where no state works
+pub count-none : (working : ℕ → Bool) (n j : ℕ) → ((w : ℕ) → working w ≡ false) → countIf working n j ≡ 0
+unfolding countIf
+count-none working n j h = held-none _ (2 ^ n) (λ w l. rw (h w))
+
 -- the words of one more bit: those with the new bit clear, and those with it set
 pub held-split : (n : ℕ) (p low high : ℕ → Bool) → ((w : ℕ) → w < 2 ^ n → p w ≡ low w) → ((w : ℕ) → w < 2 ^ n → p (1 * 2 ^ n + w) ≡ high w)
     → held p (2 ^ suc n) ≡ held low (2 ^ n) + held high (2 ^ n)

@@ -1,6 +1,6 @@
 -- `counts` refuses as the list of refusals does and writes nothing then; else it fills the room and clears the table. Assumes nothing.
 use native.Mathlib.Omega.{arith}
-use Rattle.counts.proofs.Call.{fillable, refused, counted}
+use Rattle.counts.proofs.Call.{countable, refused, counted}
 use borrow.Author.Needs.{needs}
 use Rattle.counts.proofs.counts.Statement.{statement}
 use Rattle.counts.proofs.counts.Tie as tie
@@ -11,16 +11,16 @@ refusal-requires c κs = search needs
 returns : tie.Need-returns
 returns c = refused _ _ _ _ _ (c .before .refusal .ensures) (c .if1 .taken)
 
-fill-requires : tie.Need-fill-requires
-fill-requires c κs = fillable _ _ _ _ _ (c .before .before .before .refusal .ensures) (c .before .before .if1 .left)
+tally-requires : tie.Need-tally-requires
+tally-requires c κs = countable _ _ _ _ _ (c .before .before .before .refusal .ensures) (c .before .before .if1 .left)
 
 zero-requires : tie.Need-zero-requires
 zero-requires c κs =
     let f = c .before .before .before .before .before in
     let r = f .before .before .before .before in
     let a = r .before .before .before .before .args in
-    let able = fillable (a .rule) (a .n) (a .weights .now) (a .table .now) (a .room .now) (r .refusal .ensures) (f .before .before .before .if1 .left) in
-    omega (arith, able .long, f .fill .ensures .used .long)
+    let able = countable (a .rule) (a .n) (a .weights .now) (a .table .now) (a .room .now) (r .refusal .ensures) (f .before .before .before .if1 .left) in
+    omega (arith, able .long, f .tally .ensures .used .long)
 
 same-length : tie.Need-same-length
 same-length c = search needs
@@ -32,7 +32,7 @@ returns-2 : tie.Need-returns-2
 returns-2 c =
     let f = c .before .before .before .before .before .before .before .before in
     let r = f .before .before .before .before in
-    counted _ _ _ _ _ (r .refusal .ensures) (f .before .before .before .if1 .left) (f .fill .ensures) (c .before .before .zero .ensures)
+    counted _ _ _ _ _ (r .refusal .ensures) (f .before .before .before .if1 .left) (f .tally .ensures) (c .before .before .zero .ensures)
 
 pub counts-spec : {M : Type 1} → statement M
 counts-spec =
@@ -40,7 +40,7 @@ counts-spec =
     (tie.spec
     refusal-requires
     returns
-    fill-requires
+    tally-requires
     zero-requires
     same-length
     same-length-2

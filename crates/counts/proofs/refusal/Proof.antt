@@ -3,6 +3,7 @@ use mathlib.Core.Path.{sym, _∙_}
 use Prim.Native.Nat.{suc}
 use native.Mathlib.Omega.{arith}
 use borrow.Author.Tests.{lt-ltb, le-ltb}
+use Rattle.rules.specs.Refusal.{cells}
 use Rattle.refusals.proofs.Laws.{after-none, after-some}
 use borrow.Author.Needs.{needs}
 use Rattle.counts.proofs.refusal.Statement.{statement}
@@ -27,7 +28,7 @@ returns-3 c =
     let a = c .before .before .before .before .before .args in
     sym
     (after-none _ _ (sym e ∙ c .before .before .if1 .left)
-    ∙ simp (le-ltb (a .cells) 7800 (c .before .if2 .left), lt-ltb (a .slots) (suc (a .n)) (omega arith)))
+    ∙ simp (le-ltb (a .lent) cells (c .before .if2 .left), lt-ltb (a .slots) (suc (a .n)) (omega arith)))
 
 returns-4 : tie.Need-returns-4
 returns-4 c =
@@ -35,7 +36,7 @@ returns-4 c =
     let a = c .before .before .before .before .before .args in
     sym
     (after-none _ _ (sym e ∙ c .before .before .if1 .left)
-    ∙ simp (le-ltb (a .cells) 7800 (c .before .if2 .left), le-ltb (a .slots) (suc (a .n)) (omega arith)))
+    ∙ simp (le-ltb (a .lent) cells (c .before .if2 .left), le-ltb (a .slots) (suc (a .n)) (omega arith)))
 
 pub refusal-spec : {M : Type 1} → statement M
 refusal-spec = tie.close (tie.spec rule-refusal-requires returns returns-2 returns-3 returns-4)

@@ -3,27 +3,28 @@ use mathlib.Core.Path.{_≡_, refl}
 use Prim.Native.Nat.{suc, _+_, _-_, _*_, _≤_, _<_}
 use native.Mathlib.Nat.{mul-le-mul-right}
 use native.Mathlib.Omega.{arith}
-use Rattle.counts.specs.Cells.{Written}
-use Rattle.counts.specs.Fill.{firstCells, Copyable}
-use Rattle.counts.proofs.Cells.{written-none, written-up}
+use Rattle.rules.specs.Refusal.{most, cells}
+use Rattle.counts.specs.Cells.{Stored}
+use Rattle.counts.specs.Tally.{firstCells, Copyable}
+use Rattle.counts.proofs.Cells.{stored-none, stored-up}
 use borrow.Author.Needs.{needs}
 use Rattle.counts.proofs.line.copy.Statement.{statement}
 use Rattle.counts.proofs.line.copy.Tie as tie
 
 abbrev Inv-loop : tie.InvT-loop
-Inv-loop size n table room₀ j₀ room j = (j ≤ n + 1) × Copyable size n table room₀ × Written (firstCells size table) 0 0 j room₀ room
+Inv-loop size n table room₀ j₀ room j = (j ≤ n + 1) × Copyable size n table room₀ × Stored (firstCells size table) 0 0 j room₀ room
 
 abbrev μ-loop : tie.MeasureT-loop
 μ-loop size n table room₀ j₀ room j = n + 1 - j
 
 loop-holds : tie.Need-loop-holds Inv-loop μ-loop
-loop-holds c = (search needs, c .pre, written-none (omega arith))
+loop-holds c = (search needs, c .pre, stored-none (omega arith))
 
 -- the first cell of row j lies in the table
-first-in : (c : tie.In-loop Inv-loop μ-loop) → c .before .loop .j * c .before .before .args .size < 7800
+first-in : (c : tie.In-loop Inv-loop μ-loop) → c .before .loop .j * c .before .before .args .size < cells
 first-in c =
     let pre = c .before .before .pre in
-    let most : c .before .loop .j ≤ 64 = omega arith in
+    let most : c .before .loop .j ≤ most = omega arith in
     omega (arith, mul-le-mul-right (c .before .before .args .size) most)
 
 mul-room : tie.Need-mul-room Inv-loop μ-loop
@@ -52,7 +53,7 @@ loop-again c =
     let v = c .before .before .loop .inv in (
       search needs,
       v .1,
-      written-up _ _ (omega arith) (omega arith) (omega (arith, v .2 .rest .long)) refl (v .2),
+      stored-up _ _ (omega arith) (omega arith) (omega (arith, v .2 .rest .long)) refl (v .2),
     )
 
 same-length : tie.Need-same-length Inv-loop μ-loop

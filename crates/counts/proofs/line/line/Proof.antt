@@ -1,11 +1,11 @@
 -- `line` sweeps the n components from the line's lead, and copies the counts from the start. Assumes nothing.
-use Rattle.counts.proofs.Lines.{line-second, line-sweepable, line-copyable, line-filled}
+use Rattle.counts.proofs.Lines.{line-limited, line-sweepable, line-copyable, line-tallied}
 use borrow.Author.Needs.{needs}
 use Rattle.counts.proofs.line.line.Statement.{statement}
 use Rattle.counts.proofs.line.line.Tie as tie
 
 lead-requires : tie.Need-lead-requires
-lead-requires c κs = let pre = c .before .before .before .pre in line-second (pre .0) (pre .1)
+lead-requires c κs = let pre = c .before .before .before .pre in line-limited (pre .0) (pre .1) .some
 
 add-sweep : tie.Need-add-sweep
 add-sweep c = search needs
@@ -31,7 +31,7 @@ returns : tie.Need-returns
 returns c =
     let s = c .before .before .before .before .before .before .before .before in
     let pre = s .before .before .before .before .before .before .pre in
-    line-filled (pre .0) (pre .1) (s .before .before .lead .ensures) (c .before .before .before .before .before .limit .ensures) (s .sweep .ensures) (c .before .before .copy .ensures)
+    line-tallied (pre .0) (pre .1) (s .before .before .lead .ensures) (c .before .before .before .before .before .limit .ensures) (s .sweep .ensures) (c .before .before .copy .ensures)
 
 pub line-spec : {M : Type 1} → statement M
 line-spec =

@@ -3,21 +3,21 @@ use mathlib.Core.Path.{_≡_}
 use Prim.Native.Nat.{suc, _+_, _-_, _≤_, _<_}
 use native.Mathlib.Omega.{arith}
 use lib.ListN.{length, length-set}
-use Rattle.counts.specs.Cells.{Written}
+use Rattle.counts.specs.Cells.{Stored}
 use Rattle.counts.specs.Number.{entryOf}
-use Rattle.counts.proofs.Cells.{written-none, written-up}
+use Rattle.counts.proofs.Cells.{stored-none, stored-up}
 use borrow.Author.Needs.{needs}
 use Rattle.counts.proofs.number.by_number.Statement.{statement}
 use Rattle.counts.proofs.number.by_number.Tie as tie
 
 abbrev Inv-loop : tie.InvT-loop
-Inv-loop rule n room₀ j₀ room j = (j ≤ n + 1) × (n < length room) × Written (entryOf rule n) 0 0 j room₀ room
+Inv-loop rule n room₀ j₀ room j = (j ≤ n + 1) × (n < length room) × Stored (entryOf rule n) 0 0 j room₀ room
 
 abbrev μ-loop : tie.MeasureT-loop
 μ-loop rule n room₀ j₀ room j = n + 1 - j
 
 loop-holds : tie.Need-loop-holds Inv-loop μ-loop
-loop-holds c = (search needs, search needs, written-none (omega arith))
+loop-holds c = (search needs, search needs, stored-none (omega arith))
 
 entry-requires : tie.Need-entry-requires Inv-loop μ-loop
 entry-requires c κs = search needs
@@ -37,7 +37,7 @@ loop-less c = search needs
 loop-again : tie.Need-loop-again Inv-loop μ-loop
 loop-again c =
     let v = c .before .before .loop .inv in
-    (search needs, simp length-set (v .1), written-up _ _ (omega arith) (omega arith) (omega arith) (c .entry .ensures) (v .2))
+    (search needs, simp length-set (v .1), stored-up _ _ (omega arith) (omega arith) (omega arith) (c .entry .ensures) (v .2))
 
 same-length : tie.Need-same-length Inv-loop μ-loop
 same-length c = search needs

@@ -2,16 +2,16 @@
 use mathlib.Core.Path.{_≡_, _∙_}
 use Prim.Native.Nat.{suc, _≤_}
 use native.Mathlib.Omega.{arith}
-use Rattle.counts.specs.Cells.{Written}
+use Rattle.counts.specs.Cells.{Stored}
 use Rattle.counts.specs.Ring.{joinedOf, Joinable}
-use Rattle.counts.proofs.Cells.{written-none, written-down}
+use Rattle.counts.proofs.Cells.{stored-none, stored-down}
 use Rattle.counts.proofs.Rings.{joined-same, joinable-below}
 use borrow.Author.Needs.{needs}
 use Rattle.counts.proofs.ring.join.Statement.{statement}
 use Rattle.counts.proofs.ring.join.Tie as tie
 
 abbrev Inv-loop : tie.InvT-loop
-Inv-loop rule n table room₀ j₀ room j = (j ≤ suc n) × Joinable rule (suc n) table room₀ × Written (joinedOf rule table room₀) 0 j (suc n) room₀ room
+Inv-loop rule n table room₀ j₀ room j = (j ≤ suc n) × Joinable rule (suc n) table room₀ × Stored (joinedOf rule table room₀) 0 j (suc n) room₀ room
 
 abbrev μ-loop : tie.MeasureT-loop
 μ-loop rule n table room₀ j₀ room j = j
@@ -20,7 +20,7 @@ add-j : tie.Need-add-j Inv-loop μ-loop
 add-j c = omega (arith, c .before .before .pre .most)
 
 loop-holds : tie.Need-loop-holds Inv-loop μ-loop
-loop-holds c = (search needs, c .before .before .pre, written-none (omega arith))
+loop-holds c = (search needs, c .before .before .pre, stored-none (omega arith))
 
 sub-j : tie.Need-sub-j Inv-loop μ-loop
 sub-j c = search needs
@@ -44,7 +44,7 @@ loop-again c =
     let v = c .before .before .before .loop .inv in (
       search needs,
       v .1,
-      written-down _ _ _ (omega arith) (v .0) (omega arith) (omega (arith, v .2 .rest .long, v .1 .slots))
+      stored-down _ _ _ (omega arith) (v .0) (omega arith) (omega (arith, v .2 .rest .long, v .1 .slots))
           (c .joined .ensures ∙ joined-same _ _ _ _ _ (λ p l. v .2 .rest .low p (omega arith)))
           (v .2),
     )

@@ -1,4 +1,5 @@
 -- `one_more` works the table for the lead that closes, and joins its counts to the open memory's. Assumes nothing.
+use mathlib.Core.Logic.{inr}
 use Rattle.counts.proofs.Lines.{limited}
 use Rattle.counts.proofs.Rings.{open-sweepable, open-joinable, open-wider}
 use borrow.Author.Needs.{needs}
@@ -12,7 +13,7 @@ sub-lead-2 : tie.Need-sub-lead-2
 sub-lead-2 c = search needs
 
 lead-requires : tie.Need-lead-requires
-lead-requires c κs = limited (c .before .before .before .pre .0 .call .sound) .some
+lead-requires c κs = let o = c .before .before .before .pre .0 in limited (o .call .accepted) (inr (o .kind)) .some
 
 add-sweep : tie.Need-add-sweep
 add-sweep c = search needs

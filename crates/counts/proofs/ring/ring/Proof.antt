@@ -3,16 +3,17 @@ use mathlib.Core.Path.{_≡_, _∙_}
 use Prim.Native.Nat.{suc, _-_}
 use native.Mathlib.Numerals.{add-one}
 use native.Mathlib.Omega.{arith}
+use Rattle.rules.specs.Refusal.{cells}
 use Rattle.counts.specs.Cells.{Outside}
-use Rattle.counts.specs.Fill.{Open}
+use Rattle.counts.specs.Tally.{Open}
 use Rattle.counts.proofs.Cells.{outside-none, outside-then}
-use Rattle.counts.proofs.Rings.{ring-openable, ring-open, open-filled}
+use Rattle.counts.proofs.Rings.{ring-openable, ring-open, open-tallied}
 use borrow.Author.Needs.{needs}
 use Rattle.counts.proofs.ring.ring.Statement.{statement}
 use Rattle.counts.proofs.ring.ring.Tie as tie
 
 abbrev Inv-loop : tie.InvT-loop
-Inv-loop rule n weights table₀ room₀ left₀ table room left = Open rule n weights left table room × Outside 0 7800 table₀ table × Outside 0 (suc n) room₀ room
+Inv-loop rule n weights table₀ room₀ left₀ table room left = Open rule n weights left table room × Outside 0 cells table₀ table × Outside 0 (suc n) room₀ room
 
 abbrev μ-loop : tie.MeasureT-loop
 μ-loop rule n weights table₀ room₀ left₀ table room left = n - left
@@ -48,7 +49,7 @@ returns : tie.Need-returns Inv-loop μ-loop
 returns c =
     let v = c .before .loop .inv in
     let e : c .before .loop .left ≡ c .before .before .before .before .before .before .before .before .before .args .n = omega (arith, v .0 .near) in
-    open-filled (rw e at (v .0)) (v .1) (outside-then (c .before .before .before .before .opening .ensures .rest) (v .2))
+    open-tallied (rw e at (v .0)) (v .1) (outside-then (c .before .before .before .before .opening .ensures .rest) (v .2))
 
 pub ring-spec : {M : Type 1} → statement M
 ring-spec =

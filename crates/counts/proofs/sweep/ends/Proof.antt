@@ -3,17 +3,17 @@ use mathlib.Core.Path.{_≡_}
 use Prim.Native.Nat.{_-_, _≤_}
 use native.Mathlib.Omega.{arith}
 use lib.ListN.{length-set}
-use Rattle.memory.specs.Step.{limitOf}
-use Rattle.counts.specs.Cells.{Written}
+use Rattle.counts.specs.Column.{limitOf}
+use Rattle.counts.specs.Cells.{Stored}
 use Rattle.counts.specs.Turn.{endsOf, Room}
-use Rattle.counts.proofs.Cells.{written-none, written-up}
+use Rattle.counts.proofs.Cells.{stored-none, stored-up}
 use Rattle.counts.proofs.Turning.{room-same}
 use borrow.Author.Needs.{needs}
 use Rattle.counts.proofs.sweep.ends.Statement.{statement}
 use Rattle.counts.proofs.sweep.ends.Tie as tie
 
 abbrev Inv-loop : tie.InvT-loop
-Inv-loop rule lead table₀ size at₀ table at = (at ≤ size) × (size ≡ limitOf rule) × Room rule table × Written (endsOf rule lead) 0 0 at table₀ table
+Inv-loop rule lead table₀ size at₀ table at = (at ≤ size) × (size ≡ limitOf rule) × Room rule table × Stored (endsOf rule lead) 0 0 at table₀ table
 
 abbrev μ-loop : tie.MeasureT-loop
 μ-loop rule lead table₀ size at₀ table at = size - at
@@ -22,7 +22,7 @@ limit-requires : tie.Need-limit-requires Inv-loop μ-loop
 limit-requires c κs = search needs
 
 loop-holds : tie.Need-loop-holds Inv-loop μ-loop
-loop-holds c = (search needs, c .limit .ensures, c .before .before .pre .0, written-none (omega arith))
+loop-holds c = (search needs, c .limit .ensures, c .before .before .pre .0, stored-none (omega arith))
 
 ended-requires : tie.Need-ended-requires Inv-loop μ-loop
 ended-requires c κs = search needs
@@ -45,7 +45,7 @@ loop-again c =
       search needs,
       v .1,
       room-same (v .2) (simp length-set),
-      written-up _ _ (omega arith) (omega arith) (omega arith) (c .ended .ensures) (v .3),
+      stored-up _ _ (omega arith) (omega arith) (omega arith) (c .ended .ensures) (v .3),
     )
 
 same-length : tie.Need-same-length Inv-loop μ-loop

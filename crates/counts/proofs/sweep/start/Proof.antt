@@ -2,6 +2,7 @@
 use Prim.Native.Nat.{_*_, _≤_}
 use native.Mathlib.Nat.{mul-le-mul-right}
 use native.Mathlib.Omega.{arith}
+use Rattle.rules.specs.Refusal.{cells}
 use Rattle.counts.proofs.Turning.{started}
 use borrow.Author.Needs.{needs}
 use Rattle.counts.proofs.sweep.start.Statement.{statement}
@@ -10,7 +11,7 @@ use Rattle.counts.proofs.sweep.start.Tie as tie
 limit-requires : tie.Need-limit-requires
 limit-requires c κs = search needs
 
-fits : (c : tie.After-limit) → c .before .before .before .args .rows * c .limit .result ≤ 7800
+fits : (c : tie.After-limit) → c .before .before .before .args .rows * c .limit .result ≤ cells
 fits c =
     let pre = c .before .before .before .pre in
     omega (arith, mul-le-mul-right (c .limit .result) (pre .most), pre .room .small, c .limit .ensures)

@@ -3,6 +3,7 @@ use mathlib.Core.Path.{_≡_, _∙_}
 use Prim.Native.Nat.{_-_, _≤_}
 use native.Mathlib.Numerals.{add-one}
 use native.Mathlib.Omega.{arith}
+use Rattle.rules.specs.Refusal.{cells}
 use Rattle.counts.specs.Cells.{Outside}
 use Rattle.counts.specs.Turn.{Sweepable, Rows}
 use Rattle.counts.proofs.Cells.{outside-none, outside-then}
@@ -16,7 +17,7 @@ Inv-loop rule weights lead left rows table₀ i₀ table i =
     (i ≤ left)
     × Sweepable rule weights lead left rows table₀
     × Rows rule weights lead i rows table
-    × Outside 0 7800 table₀ table
+    × Outside 0 cells table₀ table
 
 abbrev μ-loop : tie.MeasureT-loop
 μ-loop rule weights lead left rows table₀ i₀ table i = left - i
@@ -40,7 +41,7 @@ loop-holds c =
         enough = pre .enough;
         listed = pre .listed;
       },
-      record { is = λ j at h live. s .is j at h live ∙ from-start (a .rule) (a .weights .now) (a .lead) j at },
+      record { is = λ j at h live. s .is j at h live ∙ from-start (a .rule) (a .weights .now) (a .lead) j at live },
       outside-none,
     )
 

@@ -1,8 +1,8 @@
 -- `where_fails` reads the cell of the next memory in the row below, 0 where it is dead or no row is below. Assumes nothing.
-use mathlib.Core.Path.{ap}
 use Prim.Native.Nat.{_+_, _-_, _*_, _<_}
 use native.Mathlib.Omega.{arith}
 use borrow.Author.Tests.{eq-eqb, ne-eqb, lt-ltb, le-ltb}
+use Rattle.rules.specs.Refusal.{cells}
 use Rattle.counts.specs.Turn.{whereFails}
 use Rattle.counts.proofs.Turning.{cell-in}
 use borrow.Author.Needs.{needs}
@@ -24,7 +24,7 @@ sub-result c = search needs
 
 -- the cell that is read lies in the table
 inside : (c : tie.Then2)
-    → (c .before .before .before .before .before .args .j - 1) * c .before .before .limit .result + c .before .failed .result .at < 7800
+    → (c .before .before .before .before .before .args .j - 1) * c .before .before .limit .result + c .before .failed .result < cells
 inside c =
     let pre = c .before .before .before .before .before .pre in
     cell-in _ _ (pre .room) (c .before .before .limit .ensures) (omega arith) (c .if2 .taken)
@@ -44,12 +44,12 @@ shared-slice-read-result c = omega (arith, inside (c .before), c .before .before
 returns-2 : tie.Need-returns-2
 unfolding whereFails
 returns-2 c =
-    rw (← ap (λ m. m .at) (c .before .before .failed .ensures), ← c .before .before .before .limit .ensures, ne-eqb _ _ (c .before .before .before .before .if1 .left), lt-ltb _ _ (c .before .if2 .taken))
+    rw (← c .before .before .failed .ensures, ← c .before .before .before .limit .ensures, ne-eqb _ _ (c .before .before .before .before .if1 .left), lt-ltb _ _ (c .before .if2 .taken))
 
 returns-3 : tie.Need-returns-3
 unfolding whereFails
 returns-3 c =
-    rw (← ap (λ m. m .at) (c .before .failed .ensures), ← c .before .before .limit .ensures, ne-eqb _ _ (c .before .before .before .if1 .left), le-ltb _ _ (c .if2 .left))
+    rw (← c .before .failed .ensures, ← c .before .before .limit .ensures, ne-eqb _ _ (c .before .before .before .if1 .left), le-ltb _ _ (c .if2 .left))
 
 pub where-fails-spec : {M : Type 1} → statement M
 where-fails-spec =

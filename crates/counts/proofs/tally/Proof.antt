@@ -1,10 +1,10 @@
--- `fill` hands each kind to what counts it. Assumes nothing.
-use Rattle.counts.proofs.Cells.{outside-none, written-same}
+-- `tally` hands each kind to what counts it. Assumes nothing.
+use Rattle.counts.proofs.Cells.{outside-none, stored-same}
 use Rattle.counts.proofs.ByNumber.{entry-count}
 use Rattle.counts.proofs.Call.{line-left}
 use borrow.Author.Needs.{needs}
-use Rattle.counts.proofs.fill.Statement.{statement}
-use Rattle.counts.proofs.fill.Tie as tie
+use Rattle.counts.proofs.tally.Statement.{statement}
+use Rattle.counts.proofs.tally.Tie as tie
 
 by-number-requires : tie.Need-by-number-requires
 by-number-requires c κs = search needs
@@ -16,7 +16,7 @@ line-requires : tie.Need-line-requires
 line-requires c κs =
     let pre = c .before .before .before .before .before .before .pre in
     let rest = c .before .before .match .rest in
-    (pre, line-left _ (pre .sound .kind-low) (pre .sound .kind-high) (rest .0 .1) (rest .1))
+    (pre, line-left _ (pre .accepted .kind-low) (pre .accepted .kind-high) (rest .0 .1) (rest .1))
 
 same-length : tie.Need-same-length
 same-length c = search needs
@@ -26,7 +26,7 @@ returns c =
     let a = c .before .before .before .before .before .before .before .before .args in
     record {
       used = outside-none;
-      counts = written-same (λ j l h. entry-count (a .rule) (a .n) (a .weights .now) j (c .before .before .before .before .match .keys1)) (c .before .before .by-number .ensures);
+      counts = stored-same (λ j l h. entry-count (a .rule) (a .n) (a .weights .now) j (c .before .before .before .before .match .keys1)) (c .before .before .by-number .ensures);
     }
 
 same-length-2 : tie.Need-same-length-2
@@ -47,8 +47,8 @@ same-length-5 c = search needs
 returns-3 : tie.Need-returns-3
 returns-3 c = search needs
 
-pub fill-spec : {M : Type 1} → statement M
-fill-spec =
+pub tally-spec : {M : Type 1} → statement M
+tally-spec =
     tie.close
     (tie.spec
     by-number-requires
