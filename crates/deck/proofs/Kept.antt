@@ -43,7 +43,7 @@ module _ (bytes : List ℕ) where
   unfolding keptDeck deckIn
   kept-system d s h = padded-get mostSystems _ d (countIn bytes) _ s h
 
-  pub kept-arrays : keptDeck bytes ≡ arraysOf (deckIn bytes)
+  kept-arrays : keptDeck bytes ≡ arraysOf (deckIn bytes)
   unfolding keptDeck deckIn
   kept-arrays =
       let n = sym (below-length (fansIn bytes) _) in

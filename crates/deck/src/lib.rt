@@ -1,12 +1,12 @@
 // The deck file of document 01: its refusals, and the reader that hands its deck on.
-pub mod layout; // layout.rt: where each number of a file stands
+mod layout; // layout.rt: where each number of a file stands
 mod number; // number.rt: numbers that bytes spell
 mod parts; // parts.rt: the survival numbers, the weights and the systems, in arrays
 
 ghost use mathlib.Core.Path.{_≡_};
 ghost use Prim.Native.Nat.{_≤_};
 ghost use lib.ListN.{length};
-ghost use Rattle.rules.specs.File.{headerLength, fansIn, countIn, badVersion, badLayout, fileRefusal};
+ghost use Rattle.rules.specs.File.{headerLength, badVersion, badLayout, fileRefusal};
 ghost use Rattle.deck.specs.Read.{noDeck, keptDeck, readOf};
 use crate::layout::MOST_FANS;
 use crate::layout::MOST_SYSTEMS;
@@ -27,22 +27,6 @@ pub struct Read {
     pub deck: Deck,
 }
 
-// n as a file has it.
-fn fans_in(bytes: &[u8]) -> u64
-    requires { ⌜ headerLength ≤ length (now bytes) ⌝ }
-    ensures { λ r. ⌜ r ≡ fansIn (now (bytes .entry)) ⌝ }
-{
-    number::number2(bytes, layout::FANS_FIELD)
-}
-
-// m as a file has it.
-fn count_in(bytes: &[u8]) -> u64
-    requires { ⌜ headerLength ≤ length (now bytes) ⌝ }
-    ensures { λ r. ⌜ r ≡ countIn (now (bytes .entry)) ⌝ }
-{
-    number::number2(bytes, layout::COUNT_FIELD)
-}
-
 // 11: version not 1, or the zero field not 0.
 fn bad_version(bytes: &[u8]) -> bool
     requires { ⌜ headerLength ≤ length (now bytes) ⌝ }
@@ -57,19 +41,19 @@ fn bad_layout(bytes: &[u8]) -> bool
     requires { ⌜ headerLength ≤ length (now bytes) ⌝ }
     ensures { λ r. ⌜ r ≡ badLayout (now (bytes .entry)) ⌝ }
 {
-    let n = fans_in(bytes) as usize;
-    let m = count_in(bytes) as usize;
+    let n = number::number2(bytes, layout::FANS_FIELD) as usize;
+    let m = number::number2(bytes, layout::COUNT_FIELD) as usize;
     if number::number4(bytes, layout::SURVIVAL_FIELD) as usize != layout::SURVIVAL_OFFSET {
         return true;
     }
     if number::number4(bytes, layout::WEIGHTS_FIELD) as usize != layout::weights_offset(n) {
         return true;
     }
-    let systems = layout::systems_offset(n);
-    if number::number4(bytes, layout::SYSTEMS_FIELD) as usize != systems {
+    let from = layout::systems_offset(n);
+    if number::number4(bytes, layout::SYSTEMS_FIELD) as usize != from {
         return true;
     }
-    bytes.len() != systems + layout::SYSTEM_BYTES * m
+    bytes.len() != from + layout::SYSTEM_BYTES * m
 }
 
 // A file's refusal, checked 10, 11, 2, 12, 13; 0 where there is none.
@@ -82,10 +66,12 @@ pub fn file_refusal(bytes: &[u8]) -> u64
     if bad_version(bytes) {
         return 11;
     }
-    if refusals::outside(1, fans_in(bytes), MOST_FANS as u64) {
+    let n = number::number2(bytes, layout::FANS_FIELD);
+    if refusals::outside(1, n, MOST_FANS as u64) {
         return 2;
     }
-    if refusals::outside(1, count_in(bytes), MOST_SYSTEMS as u64) {
+    let m = number::number2(bytes, layout::COUNT_FIELD);
+    if refusals::outside(1, m, MOST_SYSTEMS as u64) {
         return 12;
     }
     if bad_layout(bytes) {
@@ -116,8 +102,8 @@ fn kept_deck(bytes: &[u8]) -> Deck
     requires { ⌜ fileRefusal (now bytes) ≡ 0 ⌝ }
     ensures { λ r. ⌜ r ≡ keptDeck (now (bytes .entry)) ⌝ }
 {
-    let fans = fans_in(bytes);
-    let count = count_in(bytes);
+    let fans = number::number2(bytes, layout::FANS_FIELD);
+    let count = number::number2(bytes, layout::COUNT_FIELD);
     let survival = parts::survival_in(bytes, fans as usize);
     let weights = parts::weights_in(bytes, fans as usize);
     let systems = parts::systems_in(bytes, fans as usize, count as usize);

@@ -4,6 +4,11 @@ ghost use Prim.Native.Nat.{_+_, _≤_};
 ghost use lib.ListN.{length};
 ghost use Rattle.rules.specs.File.{numberAt};
 
+// The numbers that a byte holds, and that two bytes hold.
+const BYTE: u64 = 256;
+
+const TWO_BYTES: u64 = 65536;
+
 // A byte as a number, so that a sum of bytes cannot wrap.
 fn wide(byte: u8) -> u64
     ensures { λ r. ⌜ r ≡ byte ⌝ }
@@ -18,7 +23,7 @@ pub fn number2(bytes: &[u8], at: usize) -> u64
 {
     let low = wide(bytes[at]);
     let high = wide(bytes[at + 1]);
-    low + 256 * high
+    low + BYTE * high
 }
 
 // The number in four bytes, lowest first.
@@ -28,5 +33,5 @@ pub fn number4(bytes: &[u8], at: usize) -> u64
 {
     let low = number2(bytes, at);
     let high = number2(bytes, at + 2);
-    low + 65536 * high
+    low + TWO_BYTES * high
 }

@@ -9,16 +9,16 @@ use Rattle.deck.proofs.bad_layout.Statement.{statement}
 use Rattle.deck.proofs.bad_layout.Tie as tie
 
 -- n and m are numbers of two bytes
-counts-fit : (c : tie.After-count-in) → (c .before .fans-in .result < 2 ^ 16) × (c .count-in .result < 2 ^ 16)
+counts-fit : (c : tie.After-number22) → (c .before .number2 .result < 2 ^ 16) × (c .number22 .result < 2 ^ 16)
 counts-fit c =
     let known = c .before .before .shared-slice-known .given in
-    (spelled-fits 2 _ _ (c .before .fans-in .ensures) (λ i. known i .fits), spelled-fits 2 _ _ (c .count-in .ensures) (λ i. known i .fits))
+    (spelled-fits 2 _ _ (c .before .number2 .ensures) (λ i. known i .fits), spelled-fits 2 _ _ (c .number22 .ensures) (λ i. known i .fits))
 
-fans-in-requires : tie.Need-fans-in-requires
-fans-in-requires c κs = search needs
+number2-requires : tie.Need-number2-requires
+number2-requires c κs = search needs
 
-count-in-requires : tie.Need-count-in-requires
-count-in-requires c κs = search needs
+number2-requires-2 : tie.Need-number2-requires-2
+number2-requires-2 c κs = search needs
 
 number4-requires : tie.Need-number4-requires
 number4-requires c κs = search needs
@@ -38,7 +38,7 @@ returns-2 c =
     rw (
       ← c .before .before .number42 .ensures,
       ← at .number4 .ensures,
-      ← at .before .before .fans-in .ensures,
+      ← at .before .before .number2 .ensures,
       ← c .before .weights-offset .ensures,
       eq-eqb _ _ (c .before .before .before .if1 .left),
       ne-eqb _ _ (c .if2 .taken),
@@ -57,7 +57,7 @@ returns-3 c =
       ← c .before .number43 .ensures,
       ← c .before .before .before .before .before .number42 .ensures,
       ← at .number4 .ensures,
-      ← at .before .before .fans-in .ensures,
+      ← at .before .before .number2 .ensures,
       ← c .before .before .systems-offset .ensures,
       ← c .before .before .before .before .weights-offset .ensures,
       eq-eqb _ _ (c .before .before .before .before .before .before .if1 .left),
@@ -78,8 +78,8 @@ returns-4 c =
       ← c .before .number43 .ensures,
       ← c .before .before .before .before .before .number42 .ensures,
       ← at .number4 .ensures,
-      ← at .before .count-in .ensures,
-      ← at .before .before .fans-in .ensures,
+      ← at .before .number22 .ensures,
+      ← at .before .before .number2 .ensures,
       ← c .before .before .systems-offset .ensures,
       ← c .before .before .before .before .weights-offset .ensures,
       eq-eqb _ _ (c .before .before .before .before .before .before .if1 .left),
@@ -91,8 +91,8 @@ pub bad-layout-spec : {M : Type 1} → statement M
 bad-layout-spec =
     tie.close
     (tie.spec
-    fans-in-requires
-    count-in-requires
+    number2-requires
+    number2-requires-2
     number4-requires
     returns
     number4-requires-2

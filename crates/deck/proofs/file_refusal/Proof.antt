@@ -37,14 +37,14 @@ left2 : (c : tie.Else2) → Left from2 (c .before .before .before .before .args 
 left2 c = left11 (c .before .before) ∙ first-after 11 _ _ (sym (c .before .bad-version .ensures) ∙ c .if2 .left)
 
 size : (c : tie.After-outside) → badSize (fansIn (c .before .before .before .before .before .before .args .bytes .now)) ≡ c .outside .result
-size c = ap badSize (sym (c .before .fans-in .ensures)) ∙ sym (c .outside .ensures)
+size c = ap badSize (sym (c .before .number2 .ensures)) ∙ sym (c .outside .ensures)
 
 left12 : (c : tie.Else3) → Left from12 (c .before .before .before .before .before .before .before .args .bytes .now)
 left12 c = left2 (c .before .before .before) ∙ first-after 2 _ _ (size (c .before) ∙ c .if3 .left)
 
 count : (c : tie.After-outside2)
     → badSystems (c .before .before .before .before .before .before .before .before .before .args .bytes .now) ≡ c .outside2 .result
-count c = ap (λ m. not (within 1 m 32)) (sym (c .before .count-in .ensures)) ∙ sym (c .outside2 .ensures)
+count c = ap (λ m. not (within 1 m 32)) (sym (c .before .number22 .ensures)) ∙ sym (c .outside2 .ensures)
 
 left13 : (c : tie.Else4) → Left from13 (c .before .before .before .before .before .before .before .before .before .before .args .bytes .now)
 left13 c = left12 (c .before .before .before) ∙ first-after 12 _ _ (count (c .before) ∙ c .if4 .left)
@@ -59,8 +59,8 @@ bad-version-requires c κs = search needs
 returns-2 : tie.Need-returns-2
 returns-2 c = sym (left11 (c .before .before) ∙ first-of 11 _ _ (sym (c .before .bad-version .ensures) ∙ c .if2 .taken))
 
-fans-in-requires : tie.Need-fans-in-requires
-fans-in-requires c κs = search needs
+number2-requires : tie.Need-number2-requires
+number2-requires c κs = search needs
 
 outside-requires : tie.Need-outside-requires
 outside-requires c κs = search needs
@@ -68,8 +68,8 @@ outside-requires c κs = search needs
 returns-3 : tie.Need-returns-3
 returns-3 c = sym (left2 (c .before .before .before) ∙ first-of 2 _ _ (size (c .before) ∙ c .if3 .taken))
 
-count-in-requires : tie.Need-count-in-requires
-count-in-requires c κs = search needs
+number2-requires-2 : tie.Need-number2-requires-2
+number2-requires-2 c κs = search needs
 
 outside-requires-2 : tie.Need-outside-requires-2
 outside-requires-2 c κs = search needs
@@ -94,10 +94,10 @@ file-refusal-spec =
     returns
     bad-version-requires
     returns-2
-    fans-in-requires
+    number2-requires
     outside-requires
     returns-3
-    count-in-requires
+    number2-requires-2
     outside-requires-2
     returns-4
     bad-layout-requires

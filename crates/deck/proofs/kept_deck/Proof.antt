@@ -10,11 +10,11 @@ use Rattle.deck.proofs.Sound.{sound}
 use Rattle.deck.proofs.kept_deck.Statement.{statement}
 use Rattle.deck.proofs.kept_deck.Tie as tie
 
-fans-in-requires : tie.Need-fans-in-requires
-fans-in-requires c κs = omega (arith, sound _ (c .before .pre))
+number2-requires : tie.Need-number2-requires
+number2-requires c κs = omega (arith, sound _ (c .before .pre))
 
-count-in-requires : tie.Need-count-in-requires
-count-in-requires c κs = omega (arith, sound _ (c .before .before .pre))
+number2-requires-2 : tie.Need-number2-requires-2
+number2-requires-2 c κs = omega (arith, sound _ (c .before .before .pre))
 
 survival-in-requires : tie.Need-survival-in-requires
 survival-in-requires c κs = omega (arith, sound _ (c .before .before .before .pre))
@@ -29,8 +29,8 @@ returns : tie.Need-returns
 unfolding keptDeck deckIn
 returns c =
     let bytes = c .before .before .before .before .before .before .args .bytes .now in
-    let n = c .before .before .before .before .fans-in .ensures in
-    let m = c .before .before .before .count-in .ensures in
+    let n = c .before .before .before .before .number2 .ensures in
+    let m = c .before .before .before .number22 .ensures in
     let survival =
     c .before .before .survival-in .ensures ∙ ap (λ k. padded mostFans 0 (numbersFrom survivalBytes bytes survivalOffset k)) n
     in
@@ -47,8 +47,8 @@ pub kept-deck-spec : {M : Type 1} → statement M
 kept-deck-spec =
     tie.close
     (tie.spec
-    fans-in-requires
-    count-in-requires
+    number2-requires
+    number2-requires-2
     survival-in-requires
     weights-in-requires
     systems-in-requires
