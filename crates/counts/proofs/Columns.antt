@@ -14,7 +14,7 @@ use Rattle.rules.proofs.Tests.{by-test}
 use Rattle.rules.proofs.Dead.{Dead, dead-run}
 use Rattle.rules.proofs.Simulation.{same-run}
 use Rattle.memory.specs.Living.{living}
-use Rattle.memory.specs.Sum.{sum, sumBelow, summing}
+use Rattle.memory.specs.Sum.{sum, belowLimit, summing}
 use Rattle.memory.specs.Run as runs
 use Rattle.memory.specs.Owed.{owed, owing}
 use Rattle.memory.proofs.Sums.{sum-row1}
@@ -65,7 +65,7 @@ column2 k second weights n w some =
       last = λ {m} d. le-ltb m k (leb-true k m d);
     } in
     living-run K (λ at. leb k at) gone n 0 w
-    ∙ numbered K (summing (numberOf weights) (sumBelow k)) sum (λ i at. refl) (λ i at. refl) (λ at. refl) n 0 w
+    ∙ numbered K (summing (numberOf weights) (belowLimit k)) sum (λ i at. refl) (λ i at. refl) (λ at. refl) n 0 w
     ∙ sum-row1 k (numberOf weights) n some .runs w
 
 -- kinds 4 and 5: the pairs of the ring, over i components, and the line over n

@@ -8,7 +8,7 @@ use Rattle.rules.specs.declared.Rule.{Rule}
 use Rattle.rules.specs.State.{numberOf}
 use Rattle.rules.specs.Memory.{Machine}
 use Rattle.memory.specs.Living.{living}
-use Rattle.memory.specs.Sum.{sum, sumWorked, sumFailed, sumBelow}
+use Rattle.memory.specs.Sum.{sum, sumWorked, sumFailed, belowLimit}
 use Rattle.memory.specs.Run.{run, runWorked, runFailed, runWorks}
 use Rattle.memory.specs.Owed.{owed, owedWorked, owedFailed, owedWorks}
 
@@ -26,7 +26,7 @@ failedAt rule weight at =
     byKind rule (sumFailed weight (sum at) .sum) (runFailed (run 0 at) .run) (owedFailed (rule .second) (owed 0 at) .owed)
 
 unfoldable pub worksAt : Rule → (lead at : ℕ) → Bool
-worksAt rule lead at = byKind rule (sumBelow (rule .first) (sum at)) (runWorks (rule .first) (run lead at)) (owedWorks (owed lead at))
+worksAt rule lead at = byKind rule (belowLimit (rule .first) (sum at)) (runWorks (rule .first) (run lead at)) (owedWorks (owed lead at))
 
 -- the lead of a line: kind 4 reads as kind 5 past a lead of 0, kind 6 as kind 7 past r - 1 clean ones
 unfoldable pub leadOf : Rule → ℕ
