@@ -6,9 +6,9 @@ use Prim.Native.Nat.{ℕ}
 use lib.ListN.{length}
 use Rattle.rules.specs.declared.Rule.{Rule}
 use Rattle.rules.specs.State.{S, ruleOf}
-use Rattle.rules.specs.Memory.{Row, readingOf, row4, row5, row6, row7}
+use Rattle.rules.specs.Memory.{readingOf, row4, row5, row6, row7}
 use Rattle.rules.specs.Figure.{figureOf, figure}
-use Rattle.rules.specs.Accepted.{Accepted, One, Two, Ratable}
+use Rattle.rules.specs.Accepted.{One, Two, Ratable}
 use Rattle.places.specs.declared.Ends.{Ends}
 use Rattle.places.specs.Cells.{Both, Workable}
 use Rattle.places.proofs.Cells.{both-as}

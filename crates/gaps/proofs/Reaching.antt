@@ -13,7 +13,7 @@ use Rattle.rules.specs.Figure.{rounded, mixed}
 use Rattle.memory.specs.declared.owed.Owed.{Owed}
 use Rattle.memory.specs.Owed.{owed, owedFailed, owedWorks, owing}
 use Rattle.places.specs.declared.Ends.{Ends}
-use Rattle.places.specs.Cells.{Both, Row, Put, Kept, Place, cellAt, half, one, worthOf}
+use Rattle.places.specs.Cells.{Both, Shelf, Put, Kept, Place, cellAt, half, one, worthOf}
 use Rattle.places.proofs.Cells.{both-at, both-as, row-none, row-other, row-more, workable-kept, kept-none, kept-trans}
 use Rattle.places.proofs.Values.{worth-within}
 use Rattle.gaps.specs.declared.Known.{Known}

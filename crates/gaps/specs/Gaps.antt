@@ -8,7 +8,7 @@ use Rattle.rules.specs.State.{S}
 use Rattle.memory.specs.declared.owed.Owed.{Owed}
 use Rattle.memory.specs.Owed.{owed, owedWorked, owing}
 use Rattle.places.specs.declared.Ends.{Ends}
-use Rattle.places.specs.Cells.{Both, Row, Kept, Place, Within, Workable, half, worthOf}
+use Rattle.places.specs.Cells.{Both, Shelf, Kept, Place, Within, Workable, half, worthOf}
 use Rattle.gaps.specs.declared.Known.{Known}
 
 -- a rule in range
@@ -34,14 +34,14 @@ pub record Owing (r : ℕ) (m : Owed) (from upto : ℕ) (survival : List ℕ) (e
 
 -- memories that owe as many as are left, as far as a debt can be cut short
 pub record Settled (r : ℕ) (survival t : List ℕ) : Type 0 where
-  pub row : Row (λ up i. worthOf (owing r) survival (owed 0 i) up i) t half (min (length survival) (r - 1))
+  pub row : Shelf (λ up i. worthOf (owing r) survival (owed 0 i) up i) t half (min (length survival) (r - 1))
 
 -- the memory that owes nothing past x clean ones, known with up to `left` components left
 pub record Holds (r x left : ℕ) (survival t : List ℕ) : Type 0 where
   pub asked : Asked r survival t
   pub settled : Settled r survival t
   pub most : left ≤ length survival
-  pub row : Row (worthOf (owing r) survival (owed x 0)) t 0 (suc left)
+  pub row : Shelf (worthOf (owing r) survival (owed x 0)) t 0 (suc left)
 
 -- one that has just met a failed component with i left, and what it comes to known
 pub record Passable (r : ℕ) (m : Owed) (i : ℕ) (survival t : List ℕ) : Type 0 where

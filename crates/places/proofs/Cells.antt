@@ -10,7 +10,7 @@ use lib.Seq.{getD-set-same, getD-set-other, drop-set-lt}
 use borrow.Author.Count.{below-more}
 use Rattle.rules.specs.Refusal.{cells}
 use Rattle.places.specs.declared.Ends.{Ends}
-use Rattle.places.specs.Cells.{far, one, Both, cellAt, Place, Kept, Put, Row, Written, Workable}
+use Rattle.places.specs.Cells.{far, one, Both, cellAt, Place, Kept, Put, Shelf, Written, Workable}
 
 pub both-at : {f : Bool → ℕ} {r : Ends} → Both f r → (up : Bool) → one up r ≡ f up
 both-at b false = b .low
@@ -58,22 +58,22 @@ module _ (at : ℕ) (e : Ends) (t : List ℕ) (p : Place at t) where
   }
 
 module _ {f : Bool → ℕ → ℕ} {t t' : List ℕ} {off at : ℕ} {e : Ends} (p : Put at e t t') where
-  pub row-other : {n : ℕ} → off + n ≤ far → ((k : ℕ) → k < n → off + k ≡ at → ⊥) → Row f t off n → Row f t' off n
+  pub row-other : {n : ℕ} → off + n ≤ far → ((k : ℕ) → k < n → off + k ≡ at → ⊥) → Shelf f t off n → Shelf f t' off n
   row-other low away r = record { is = λ up k l. p .other up (off + k) (omega arith) (away k l) ∙ r .is up k l }
 
-  pub row-more : {n : ℕ} → at ≡ off + n → off + n < far → Both (λ up. f up n) e → Row f t off n → Row f t' off (n + 1)
+  pub row-more : {n : ℕ} → at ≡ off + n → off + n < far → Both (λ up. f up n) e → Shelf f t off n → Shelf f t' off (n + 1)
   row-more {n} w low b r =
       record { is = λ up. below-more _ n (row-other (omega arith) (λ k h q. omega arith) r .is up) (rw (← w) (p .here up ∙ both-at b up)) }
 
-pub row-none : {f : Bool → ℕ → ℕ} {t : List ℕ} {off : ℕ} → Row f t off 0
+pub row-none : {f : Bool → ℕ → ℕ} {t : List ℕ} {off : ℕ} → Shelf f t off 0
 row-none = record { is = λ up k l. absurd (omega arith) }
 
 -- the same row where the places are as they were
-pub row-same : {f : Bool → ℕ → ℕ} {t₀ t : List ℕ} {off n : ℕ} → ((up : Bool) (k : ℕ) → k < n → cellAt t up (off + k) ≡ cellAt t₀ up (off + k)) → Row f t₀ off n → Row f t off n
+pub row-same : {f : Bool → ℕ → ℕ} {t₀ t : List ℕ} {off n : ℕ} → ((up : Bool) (k : ℕ) → k < n → cellAt t up (off + k) ≡ cellAt t₀ up (off + k)) → Shelf f t₀ off n → Shelf f t off n
 row-same same r = record { is = λ up k l. same up k l ∙ r .is up k l }
 
 -- and the same places by another account
-pub row-as : {f g : Bool → ℕ → ℕ} {t : List ℕ} {off n : ℕ} → ((up : Bool) (k : ℕ) → k < n → f up k ≡ g up k) → Row f t off n → Row g t off n
+pub row-as : {f g : Bool → ℕ → ℕ} {t : List ℕ} {off n : ℕ} → ((up : Bool) (k : ℕ) → k < n → f up k ≡ g up k) → Shelf f t off n → Shelf g t off n
 row-as same r = record { is = λ up k l. r .is up k l ∙ same up k l }
 
 pub written-none : {f : Bool → ℕ → ℕ} {off : ℕ} {t : List ℕ} → Written f 0 off t t

@@ -52,12 +52,12 @@ pub record Put (at : ℕ) (e : Ends) (t₀ t : List ℕ) : Type 0 where
   pub kept : Kept t₀ t
 
 -- the n places from off hold f 0, f 1, ..
-pub record Row (f : Bool → ℕ → ℕ) (t : List ℕ) (off n : ℕ) : Type 0 where
+pub record Shelf (f : Bool → ℕ → ℕ) (t : List ℕ) (off n : ℕ) : Type 0 where
   pub is : (up : Bool) (k : ℕ) → k < n → cellAt t up (off + k) ≡ f up k
 
 -- the n places from off now hold f 0, f 1, .., and every other place is as it was
 pub record Written (f : Bool → ℕ → ℕ) (n off : ℕ) (t₀ t : List ℕ) : Type 0 where
-  pub row : Row f t off n
+  pub row : Shelf f t off n
   pub other : (up : Bool) (k : ℕ) → k < far → (k < off) ⊎ (off + n ≤ k) → cellAt t up k ≡ cellAt t₀ up k
   pub kept : Kept t₀ t
 

@@ -14,10 +14,10 @@ use Rattle.rules.specs.Accepted.{Ratable}
 use Rattle.memory.specs.declared.sum.Sum.{Sum}
 use Rattle.memory.specs.Sum.{sum}
 use Rattle.places.specs.declared.Ends.{Ends}
-use Rattle.places.specs.Cells.{half, one, Both, cellAt, Place, Row, Written, Steady}
+use Rattle.places.specs.Cells.{half, one, Both, cellAt, Place, Shelf, Written, Steady}
 use Rattle.places.proofs.Cells.{both-as, room-kept}
 use Rattle.places.proofs.Values.{Chance, worth-le, step-steady, step-mixed, worth-suc}
-use Rattle.rows.specs.Kinds.{weightOf, summed}
+use Rattle.rows.specs.Kinds.{carryOf, summed}
 use Rattle.rows.specs.Level.{Side, sumsWorth}
 
 pub side-near : {from : ℕ} → Side from → from ≤ half
@@ -29,25 +29,25 @@ apart : {from k n : ℕ} → Side from → k < half → n ≤ half → (from + k
 apart (inl e) l h = inl (omega arith)
 apart (inr e) l h = inr (omega arith)
 
--- what the component after `left` others takes a row up with: its numbers, its weight, and how many sums are made
-pub record Climb (rule : Rule) (survival weights : List ℕ) (left from : ℕ) (t : List ℕ) (p q weight width : ℕ) : Type 0 where
+-- what the component after `left` others takes a row up with: its numbers, how far it carries a sum, and how many sums are made
+pub record Climb (rule : Rule) (survival weights : List ℕ) (left from : ℕ) (t : List ℕ) (p q carry width : ℕ) : Type 0 where
   pub list : Ratable rule survival weights t
   pub side : Side from
   pub chance : Chance survival left p q
-  pub is : weight ≡ weightOf rule weights (suc left)
-  pub narrow : width + weight ≤ half
-  pub row : Row (sumsWorth rule survival weights left) t from (width + weight)
+  pub is : carry ≡ carryOf rule weights (suc left)
+  pub narrow : width + carry ≤ half
+  pub row : Shelf (sumsWorth rule survival weights left) t from (width + carry)
 
-module _ {rule : Rule} {survival weights t₀ t : List ℕ} {left from p q weight width m : ℕ}
-    (y : Climb rule survival weights left from t₀ p q weight width) (l : m < width)
+module _ {rule : Rule} {survival weights t₀ t : List ℕ} {left from p q carry width m : ℕ}
+    (y : Climb rule survival weights left from t₀ p q carry width) (l : m < width)
     (w : Written (sumsWorth rule survival weights (suc left)) m (half - from) t₀ t) where
-  stands : (k : ℕ) → k < width + weight → (up : Bool) → cellAt t up (from + k) ≡ sumsWorth rule survival weights left up k
+  stands : (k : ℕ) → k < width + carry → (up : Bool) → cellAt t up (from + k) ≡ sumsWorth rule survival weights left up k
   stands k h up =
       let near = side-near (y .side) in
       let narrow = y .narrow in
       w .other up (from + k) (omega arith) (apart (y .side) (omega arith) (omega arith)) ∙ y .row .is up k h
 
-  pub read-place : (k : ℕ) → k < width + weight → Place (from + k) t × ((up : Bool) → cellAt t up (from + k) ≤ S)
+  pub read-place : (k : ℕ) → k < width + carry → Place (from + k) t × ((up : Bool) → cellAt t up (from + k) ≤ S)
   read-place k h = (
     record { low = omega (arith, side-near (y .side), y .narrow); room = room-kept (w .kept) (y .list .room) },
     λ up. rw (stands k h up) (worth-le (summed rule weights) survival (y .list .units) left (sum k) up),
@@ -56,20 +56,20 @@ module _ {rule : Rule} {survival weights t₀ t : List ℕ} {left from p q weigh
   pub write-place : Place (half - from + m) t
   write-place = record { low = omega (arith, y .narrow); room = room-kept (w .kept) (y .list .room) }
 
-  module _ {a b : Ends} (works : Both (λ up. cellAt t up (from + m)) a) (fails : Both (λ up. cellAt t up (from + (m + weight))) b) where
+  module _ {a b : Ends} (works : Both (λ up. cellAt t up (from + m)) a) (fails : Both (λ up. cellAt t up (from + (m + carry))) b) where
     abbrev K : Machine Sum
     K = summed rule weights
 
     works-is : Both (λ up. sumsWorth rule survival weights left up m) a
     works-is = both-as (stands m (omega arith)) works
 
-    fails-is : Both (λ up. sumsWorth rule survival weights left up (m + weight)) b
-    fails-is = both-as (stands (m + weight) (omega arith)) fails
+    fails-is : Both (λ up. sumsWorth rule survival weights left up (m + carry)) b
+    fails-is = both-as (stands (m + carry) (omega arith)) fails
 
     pub climb-steady : Steady p q a b
-    climb-steady = step-steady K K survival (y .list .units) left p q (y .chance) (sum m) (sum (m + weight)) works-is fails-is
+    climb-steady = step-steady K K survival (y .list .units) left p q (y .chance) (sum m) (sum (m + carry)) works-is fails-is
 
     pub climb-made : {r : Ends} → Both (λ up. rounded up S (mixed S p (one up a) (one up b))) r → Both (λ up. sumsWorth rule survival weights (suc left) up m) r
     climb-made b =
         both-as (λ up. rw (y .is) (sym (worth-suc K survival left (sum m) up)))
-        (step-mixed K K survival (y .list .units) left p q (y .chance) (sum m) (sum (m + weight)) works-is fails-is b)
+        (step-mixed K K survival (y .list .units) left p q (y .chance) (sum m) (sum (m + carry)) works-is fails-is b)

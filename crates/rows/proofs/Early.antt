@@ -23,7 +23,7 @@ use Rattle.memory.proofs.Sums.{sum-row1, sum-row3, sum-dead}
 use Rattle.memory.specs.Sum.{sum}
 use Rattle.places.specs.Cells.{half}
 use Rattle.places.proofs.Values.{worth-dead}
-use Rattle.rows.specs.Kinds.{weightOf, loadOf, limitOf, gapOf, endOf}
+use Rattle.rows.specs.Kinds.{carryOf, loadOf, limitOf, gapOf, endOf}
 use Rattle.rows.specs.Level.{sumsWorth}
 
 -- weights
@@ -37,9 +37,9 @@ number-le (x ∷ xs) (suc (suc i)) = omega (arith, number-le xs (suc i))
 gap-le : (rule : Rule) → gapOf rule ≤ heaviest
 gap-le rule = by-test (λ x. x ≤ heaviest) (eqb (rule .kind) 2) _ _ (λ e. omega arith) (λ e. omega arith)
 
-pub weight-le : {rule : Rule} {n : ℕ} {weights : List ℕ} → Accepted rule n weights → (i : ℕ) → weightOf rule weights i ≤ gapOf rule
-unfolding weightOf
-weight-le {rule} {n} {weights} ok i =
+pub carry-le : {rule : Rule} {n : ℕ} {weights : List ℕ} → Accepted rule n weights → (i : ℕ) → carryOf rule weights i ≤ gapOf rule
+unfolding carryOf
+carry-le {rule} {n} {weights} ok i =
     by-both (λ x y. x ≤ y) (eqb (rule .kind) 2) _ _ _ _ (λ e. omega (arith, number-le weights i, ok .weights-total (eqb-true _ _ e))) (λ e. omega arith)
 
 -- loads
@@ -49,16 +49,16 @@ sum-bound c zero f h = omega arith
 sum-bound c (suc n) f h = omega (arith, sum-bound c n f h, h n)
 
 pub load-le : {rule : Rule} {n : ℕ} {weights : List ℕ} → Accepted rule n weights → (i : ℕ) → loadOf rule weights i ≤ heaviest * i
-load-le {rule} ok i = sum-bound heaviest i _ (λ k. omega (arith, weight-le ok (suc k), gap-le rule))
+load-le {rule} ok i = sum-bound heaviest i _ (λ k. omega (arith, carry-le ok (suc k), gap-le rule))
 
-pub load-more : (rule : Rule) (weights : List ℕ) (i : ℕ) → loadOf rule weights (suc i) ≡ loadOf rule weights i + weightOf rule weights (suc i)
+pub load-more : (rule : Rule) (weights : List ℕ) (i : ℕ) → loadOf rule weights (suc i) ≡ loadOf rule weights i + carryOf rule weights (suc i)
 unfolding sumBelow
 load-more rule weights i = refl
 
-pub load-upto : (rule : Rule) (weights : List ℕ) (i n : ℕ) → i < n → loadOf rule weights i + weightOf rule weights (suc i) ≤ loadOf rule weights n
+pub load-upto : (rule : Rule) (weights : List ℕ) (i n : ℕ) → i < n → loadOf rule weights i + carryOf rule weights (suc i) ≤ loadOf rule weights n
 load-upto rule weights i n l =
     let e : n ≡ suc i + (n - suc i) = omega arith in
-    omega (arith, load-more rule weights i, sum-add (suc i) (n - suc i) (λ k. weightOf rule weights (suc k)), ap (λ x. loadOf rule weights x) e)
+    omega (arith, load-more rule weights i, sum-add (suc i) (n - suc i) (λ k. carryOf rule weights (suc k)), ap (λ x. loadOf rule weights x) e)
 
 -- an accepted rule of kind 1, 2 or 3
 pub record Early (rule : Rule) (survival weights : List ℕ) : Type 0 where
@@ -78,7 +78,7 @@ module _ (survival weights : List ℕ) (first second : ℕ) where
   late l early ok = absurd (omega arith)
 
   by-kind : (kind : ℕ) → 1 ≤ kind → kind ≤ 7 → ByKind kind
-  unfolding weightOf endOf readingOf
+  unfolding carryOf endOf readingOf
   by-kind =
       seven ByKind
       (λ early ok. let r = range1 ok refl in record {

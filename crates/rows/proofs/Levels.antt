@@ -17,13 +17,13 @@ use Rattle.rules.specs.Accepted.{Ratable}
 use Rattle.rules.proofs.Rounding.{unchanged}
 use Rattle.memory.specs.Sum.{sum}
 use Rattle.places.specs.declared.Ends.{Ends}
-use Rattle.places.specs.Cells.{half, Both, cellAt, Kept, Row, Written}
+use Rattle.places.specs.Cells.{half, Both, cellAt, Kept, Shelf, Written}
 use Rattle.places.proofs.Cells.{both-as, room-kept, row-same, row-as}
 use Rattle.places.proofs.Values.{Chance, worth-suc}
 use Rattle.rows.specs.declared.Level.{Level}
-use Rattle.rows.specs.Kinds.{weightOf, loadOf, limitOf, gapOf, summed}
+use Rattle.rows.specs.Kinds.{carryOf, loadOf, limitOf, gapOf, summed}
 use Rattle.rows.specs.Level.{sumsWorth, endsWorth, Side, Levelled}
-use Rattle.rows.proofs.Early.{weight-le, load-more, load-upto, Early, early-is}
+use Rattle.rows.proofs.Early.{carry-le, load-more, load-upto, Early, early-is}
 use Rattle.rows.proofs.Climbs.{side-near, Climb}
 
 other-side : {from : ℕ} → Side from → Side (half - from)
@@ -68,18 +68,18 @@ module _ {rule : Rule} {survival weights : List ℕ} {s : Level} {t : List ℕ} 
 
   module _ (more : s .left < length survival) where
     abbrev heavy : ℕ
-    heavy = weightOf rule weights (suc (s .left))
+    heavy = carryOf rule weights (suc (s .left))
 
     abbrev width : ℕ
     width = min (limitOf rule) (s .reach - heavy)
 
-    -- the sums that are made can come, with the component's weight to spare
+    -- the sums that are made can come, with what the component carries to spare
     pub spare : heavy < s .reach
     spare = omega (arith, y .reach, load-upto rule weights (s .left) (length survival) more)
 
     pub level-climb : {p q : ℕ} → Chance survival (s .left) p q → Climb rule survival weights (s .left) (s .from) t p q heavy width
     level-climb chance =
-        let light = weight-le (y .list .accepted) (suc (s .left)) in
+        let light = carry-le (y .list .accepted) (suc (s .left)) in
         record {
           list = y .list;
           side = y .side;
@@ -131,7 +131,7 @@ module _ {rule : Rule} {survival weights t₀ t₁ t₂ t₃ : List ℕ} (y : Ra
   still : (up : Bool) (k : ℕ) → k < half → cellAt t₃ up k ≡ cellAt t₂ up k
   still up k l = c .other up k (omega arith) (inl (omega arith))
 
-  zeros : {side : ℕ} → Side side → Row (λ up k. 0) t₃ (side + limitOf rule) (gapOf rule)
+  zeros : {side : ℕ} → Side side → Shelf (λ up k. 0) t₃ (side + limitOf rule) (gapOf rule)
   zeros {side} (inl e) = let d : side + limitOf rule ≡ limitOf rule = omega arith in rw d (row-same (λ up k l. still up _ (omega (arith, most))) (b .row))
   zeros (inr e) = rw e (c .row)
 

@@ -12,12 +12,12 @@ use Rattle.memory.specs.declared.sum.Sum.{Sum}
 use Rattle.memory.specs.Sum.{belowLimit, sumOutside, summing}
 
 -- how far component i carries a sum where it fails
-unfoldable pub weightOf : Rule → (weights : List ℕ) (i : ℕ) → ℕ
-weightOf rule weights i = cond (eqb (rule .kind) 2) (numberOf weights i) 1
+unfoldable pub carryOf : Rule → (weights : List ℕ) (i : ℕ) → ℕ
+carryOf rule weights i = cond (eqb (rule .kind) 2) (numberOf weights i) 1
 
 -- and the first n together
 abbrev pub loadOf : Rule → (weights : List ℕ) (n : ℕ) → ℕ
-loadOf rule weights n = sumBelow n (λ i. weightOf rule weights (suc i))
+loadOf rule weights n = sumBelow n (λ i. carryOf rule weights (suc i))
 
 -- one more than the most components: kind 3 has no dead sums, and none comes so far
 abbrev pub pastAll : ℕ
@@ -35,4 +35,4 @@ unfoldable pub endOf : Rule → Sum → Bool
 endOf rule m = cond (eqb (rule .kind) 3) (sumOutside (rule .first) (rule .second) m) (belowLimit (limitOf rule) m)
 
 abbrev pub summed : Rule → (weights : List ℕ) → Machine Sum
-summed rule weights = summing (weightOf rule weights) (endOf rule)
+summed rule weights = summing (carryOf rule weights) (endOf rule)

@@ -10,7 +10,7 @@ use Rattle.rules.specs.State.{S}
 use Rattle.rules.specs.Accepted.{Ratable}
 use Rattle.rules.specs.Refusal.{cells}
 use Rattle.memory.specs.Sum.{sum}
-use Rattle.places.specs.Cells.{far, half, Kept, Row, worthOf}
+use Rattle.places.specs.Cells.{far, half, Kept, Shelf, worthOf}
 use Rattle.rows.specs.declared.Level.{Level}
 use Rattle.rows.specs.Kinds.{limitOf, gapOf, loadOf, endOf, summed}
 
@@ -38,8 +38,8 @@ pub record Levelled (rule : Rule) (survival weights : List ℕ) (s : Level) (t :
   pub side : Side (s .from)
   pub some : s .left ≤ length survival
   pub reach : s .reach + loadOf rule weights (s .left) ≡ 1 + loadOf rule weights (length survival)
-  pub row : Row (sumsWorth rule survival weights (s .left)) t (s .from) (min (limitOf rule) (s .reach))
-  pub behind : {side : ℕ} → Side side → Row (λ up k. 0) t (side + limitOf rule) (gapOf rule)
+  pub row : Shelf (sumsWorth rule survival weights (s .left)) t (s .from) (min (limitOf rule) (s .reach))
+  pub behind : {side : ℕ} → Side side → Shelf (λ up k. 0) t (side + limitOf rule) (gapOf rule)
 
 -- a level with so many components left
 pub record Raised (rule : Rule) (survival weights : List ℕ) (left : ℕ) (t₀ t : List ℕ) (r : Level) : Type 0 where

@@ -4,7 +4,7 @@ ghost use mathlib.Core.Bool.{cond};
 ghost use Prim.Native.Nat.{suc, _<_};
 ghost use lib.ListN.{length};
 ghost use Rattle.rules.specs.Accepted.{Accepted};
-ghost use Rattle.rows.specs.Kinds.{endOf, gapOf, limitOf, loadOf, weightOf};
+ghost use Rattle.rows.specs.Kinds.{endOf, gapOf, limitOf, loadOf, carryOf};
 use memory::sum::Sum;
 use rules::Rule;
 
@@ -41,9 +41,9 @@ fn wide(weight: u16) -> usize
 }
 
 // How far component i + 1 carries a sum where it fails.
-pub fn weight(rule: Rule, weights: &[u16], i: usize) -> usize
+pub fn carry(rule: Rule, weights: &[u16], i: usize) -> usize
     requires { ⌜ (rule .kind ≡ 2 → i < length (now weights)) ⌝ }
-    ensures { λ r. ⌜ r ≡ weightOf rule (now (weights .entry)) (suc i) ⌝ }
+    ensures { λ r. ⌜ r ≡ carryOf rule (now (weights .entry)) (suc i) ⌝ }
 {
     if rule.kind == 2 {
         return wide(weights[i]);
@@ -59,7 +59,7 @@ pub fn load(rule: Rule, weights: &[u16], n: usize) -> usize
     let mut sum: usize = 0;
     let mut i: usize = 0;
     while i < n {
-        sum += weight(rule, weights, i);
+        sum += carry(rule, weights, i);
         i += 1;
     }
     sum

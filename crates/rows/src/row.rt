@@ -56,15 +56,15 @@ pub fn turn(rule: Rule, survival: &[u32], weights: &[u16], s: Level, table: &mut
     let left = s.left;
     let next = left + 1;
     let from = s.from;
-    let weight = kinds::weight(rule, weights, left);
-    if weight == 0 {
+    let carry = kinds::carry(rule, weights, left);
+    if carry == 0 {
         return Level {
             reach: s.reach,
             left: next,
             from,
         };
     }
-    let reach = s.reach - weight;
+    let reach = s.reach - carry;
     let width = places::lesser(kinds::limit(rule), reach);
     let to = HALF - from;
     let p = places::chance(survival, left);
@@ -73,7 +73,7 @@ pub fn turn(rule: Rule, survival: &[u32], weights: &[u16], s: Level, table: &mut
     while m < width {
         let sum = Sum { sum: m };
         let works = value(table, from, sum.worked());
-        let fails = value(table, from, sum.failed(weight));
+        let fails = value(table, from, sum.failed(carry));
         places::write(table, to + m, places::step(p, q, works, fails));
         m += 1;
     }

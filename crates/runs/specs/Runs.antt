@@ -6,7 +6,7 @@ use lib.ListN.{length}
 use Rattle.rules.specs.Refusal.{most, cells}
 use Rattle.memory.specs.declared.run.Run.{Run}
 use Rattle.memory.specs.Run.{running}
-use Rattle.places.specs.Cells.{Row, Kept, Workable, worthOf}
+use Rattle.places.specs.Cells.{Shelf, Kept, Workable, worthOf}
 
 -- a memory with no run, whose lead is not dead
 pub record Free (k : ℕ) (m : Run) : Type 0 where
@@ -24,7 +24,7 @@ pub record Falling (k : ℕ) (m : Run) (upto : ℕ) (survival t : List ℕ) : Ty
   pub some : 0 < upto
   pub size : upto ≤ length survival
   pub far : k ≤ upto + m .lead
-  pub row : Row (worthOf (running k) survival m) t 0 upto
+  pub row : Shelf (worthOf (running k) survival m) t 0 upto
   pub list : Workable survival t
 
 pub record Fillable (k : ℕ) (m : Run) (upto : ℕ) (survival t : List ℕ) : Type 0 where
@@ -33,7 +33,7 @@ pub record Fillable (k : ℕ) (m : Run) (upto : ℕ) (survival t : List ℕ) : T
   pub list : Workable survival t
 
 pub record Filled (k : ℕ) (m : Run) (upto : ℕ) (survival t₀ t : List ℕ) : Type 0 where
-  pub row : Row (worthOf (running k) survival m) t 0 (suc upto)
+  pub row : Shelf (worthOf (running k) survival m) t 0 (suc upto)
   pub kept : Kept t₀ t
 
 -- a rule in range: 1 <= k <= n

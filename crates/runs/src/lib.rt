@@ -53,7 +53,12 @@ fn back(k: usize, free: Run, upto: usize, survival: &[u32], table: &[u64]) -> En
     while i < upto {
         m = m.before();
         let p = places::chance(survival, i);
-        ends = places::step(p, p.failure(), places::read(table, place(m.worked(), i)), ends);
+        ends = places::step(
+            p,
+            p.failure(),
+            places::read(table, place(m.worked(), i)),
+            ends,
+        );
         i += 1;
     }
     ends
@@ -92,15 +97,15 @@ pub fn ring(k: usize, survival: &[u32], table: &mut [u64]) -> Ends
 {
     let n = survival.len();
     let mut lead = Lead { lead: k };
-    let mut ends = places::worth(false);
+    let mut opened = places::worth(false);
     let mut i = n - k;
     while i < n {
         lead = lead.before();
         let free = lead.worked();
         fill(k, free, i, survival, table);
         let p = places::chance(survival, i);
-        ends = places::step(p, p.failure(), places::read(table, place(free, i)), ends);
+        opened = places::step(p, p.failure(), places::read(table, place(free, i)), opened);
         i += 1;
     }
-    ends
+    opened
 }

@@ -34,7 +34,8 @@ pub fn narrow(x: u64) -> u64
 // p times the value where the component works, plus q times the value where it fails.
 fn mix(p: Survival, q: Failure, works: u64, fails: u64) -> u64
     requires { ⌜ Parts (p .0) (q .0) works fails ⌝ }
-    ensures { λ r. ⌜ (r ≡ mixed S (p .0) works fails) × (r ≤ S * S) ⌝ }
+    ensures mixed { λ r. ⌜ r ≡ mixed S (p .0) works fails ⌝ }
+    ensures fits { λ r. ⌜ r ≤ S * S ⌝ }
 {
     p.0 * works + q.0 * fails
 }

@@ -9,10 +9,10 @@ use Rattle.runs.proofs.ring.Statement.{statement}
 use Rattle.runs.proofs.ring.Tie as tie
 
 abbrev Inv-loop : tie.InvT-loop
-Inv-loop k survival table₀ n lead₀ ends₀ i₀ table lead ends i = (y : Asked k survival table₀) → Leading y n i lead ends table
+Inv-loop k survival table₀ n lead₀ opened₀ i₀ table lead opened i = (y : Asked k survival table₀) → Leading y n i lead opened table
 
 abbrev μ-loop : tie.MeasureT-loop
-μ-loop k survival table₀ n lead₀ ends₀ i₀ table lead ends i = n - i
+μ-loop k survival table₀ n lead₀ opened₀ i₀ table lead opened i = n - i
 
 worth-requires : tie.Need-worth-requires Inv-loop μ-loop
 worth-requires c κs = search needs

@@ -1,4 +1,4 @@
--- `load` adds one weight more a turn. Assumes nothing.
+-- `load` adds one carry more a turn. Assumes nothing.
 use borrow.Author.Needs.{needs}
 use Prim.Native.Nat.{suc, _+_, _≤_, _-_}
 use mathlib.Core.Path.{_≡_, refl}
@@ -20,13 +20,13 @@ loop-holds : tie.Need-loop-holds Inv-loop μ-loop
 unfolding sumBelow
 loop-holds c = (omega arith, refl)
 
-weight-requires : tie.Need-weight-requires Inv-loop μ-loop
-weight-requires c κs = λ two. omega (arith, c .before .before .before .pre .weights-length two)
+carry-requires : tie.Need-carry-requires Inv-loop μ-loop
+carry-requires c κs = λ two. omega (arith, c .before .before .before .pre .weights-length two)
 
 -- one component more
-more : (c : tie.After-weight Inv-loop μ-loop) → let o = c .before .before in let a = o .before .before .args in
-    o .loop .sum + c .weight .result ≡ loadOf (a .rule) (a .weights .now) (suc (o .loop .i))
-more c = rw (load-more, c .weight .ensures, c .before .before .loop .inv .1)
+more : (c : tie.After-carry Inv-loop μ-loop) → let o = c .before .before in let a = o .before .before .args in
+    o .loop .sum + c .carry .result ≡ loadOf (a .rule) (a .weights .now) (suc (o .loop .i))
+more c = rw (load-more, c .carry .ensures, c .before .before .loop .inv .1)
 
 add-sum : tie.Need-add-sum Inv-loop μ-loop
 add-sum c =
@@ -51,4 +51,4 @@ returns c =
 pub load-spec : {M : Type 1} → statement M
 load-spec =
     tie.close
-    (tie.spec Inv-loop μ-loop loop-holds weight-requires add-sum add-i loop-less loop-again returns)
+    (tie.spec Inv-loop μ-loop loop-holds carry-requires add-sum add-i loop-less loop-again returns)

@@ -1,4 +1,4 @@
--- `turn` leaves a level for a component of no weight, or climbs, one sum more a turn of its loop. The loop no longer has the rule, so its invariant
+-- `turn` leaves a level for a component of no carry, or climbs, one sum more a turn of its loop. The loop no longer has the rule, so its invariant
 -- holds under every rule that the climb may be read under. Assumes nothing.
 use borrow.Author.Needs.{needs}
 use Prim.Native.Nat.{suc, _≤_, _-_}
@@ -15,28 +15,28 @@ use Rattle.rows.proofs.row.turn.Statement.{statement}
 use Rattle.rows.proofs.row.turn.Tie as tie
 
 abbrev Inv-loop : tie.InvT-loop
-Inv-loop survival weights table₀ left next from weight reach width to p q m₀ table m =
+Inv-loop survival weights table₀ left next from carry reach width to p q m₀ table m =
     (m ≤ width)
-    × ((rule : Rule) → Climb rule survival weights left from table₀ (p .0) (q .0) weight width
+    × ((rule : Rule) → Climb rule survival weights left from table₀ (p .0) (q .0) carry width
     → Written (sumsWorth rule survival weights (suc left)) m (half - from) table₀ table)
 
 abbrev μ-loop : tie.MeasureT-loop
-μ-loop survival weights table₀ left next from weight reach width to p q m₀ table m = width - m
+μ-loop survival weights table₀ left next from carry reach width to p q m₀ table m = width - m
 
 add-next : tie.Need-add-next Inv-loop μ-loop
 add-next c = search needs
 
-weight-requires : tie.Need-weight-requires Inv-loop μ-loop
-weight-requires c κs = let pre = c .before .before .before .pre in λ two. omega (arith, pre .1, pre .0 .list .accepted .weights-length two)
+carry-requires : tie.Need-carry-requires Inv-loop μ-loop
+carry-requires c κs = let pre = c .before .before .before .pre in λ two. omega (arith, pre .1, pre .0 .list .accepted .weights-length two)
 
 returns : tie.Need-returns Inv-loop μ-loop
 returns c =
     let pre = c .before .before .before .before .before .pre in
-    let none = sym (c .before .weight .ensures) ∙ c .if1 .taken in
+    let none = sym (c .before .carry .ensures) ∙ c .if1 .taken in
     record { level = rw add-one (level-same (pre .0) (pre .1) none); is = add-one _; kept = kept-none }
 
 sub-reach : tie.Need-sub-reach Inv-loop μ-loop
-sub-reach c = let pre = c .before .before .before .before .before .before .pre in omega (arith, c .before .before .weight .ensures, spare (pre .0) (pre .1))
+sub-reach c = let pre = c .before .before .before .before .before .before .pre in omega (arith, c .before .before .carry .ensures, spare (pre .0) (pre .1))
 
 limit-requires : tie.Need-limit-requires Inv-loop μ-loop
 limit-requires c κs = search needs
@@ -57,10 +57,10 @@ failure-requires c κs = rw (c .chance .ensures) (c .before .before .before .bef
 climb : (c : tie.After-failure Inv-loop μ-loop)
     → let w = c .before .before .before .before .before .before in let a = w .before .before .before .before .args in
     Climb (a .rule) (a .survival .now) (a .weights .now) (a .s .left) (a .s .from) (a .table .now)
-    (c .before .chance .result .0) (c .failure .result .0) (w .weight .result) (c .before .before .lesser .result)
+    (c .before .chance .result .0) (c .failure .result .0) (w .carry .result) (c .before .before .lesser .result)
 climb c =
     let pre = c .before .before .before .before .before .before .before .before .before .before .pre in
-    rw (c .before .before .lesser .ensures, c .before .before .before .limit .ensures, c .before .before .before .before .before .before .weight .ensures)
+    rw (c .before .before .lesser .ensures, c .before .before .before .limit .ensures, c .before .before .before .before .before .before .carry .ensures)
     (level-climb (pre .0) (pre .1) (record { read = c .before .chance .ensures; rest = c .failure .ensures }))
 
 loop-holds : tie.Need-loop-holds Inv-loop μ-loop
@@ -125,10 +125,10 @@ returns-2 : tie.Need-returns-2 Inv-loop μ-loop
 returns-2 c =
     let o = c .before .before in
     let pre = o .before .before .before .before .before .before .before .before .before .before .pre in
-    let weight = o .before .before .before .before .before .before .weight .ensures in
+    let carry = o .before .before .before .before .before .before .carry .ensures in
     let e : c .before .loop .m ≡ o .before .before .lesser .result = omega arith in
-    let made = rw (e, o .before .before .lesser .ensures, o .before .before .before .limit .ensures, weight) at (c .before .loop .inv .1 _ (climb o)) in
-    record { level = rw (weight, add-one) (level-up (pre .0) (pre .1) made); is = add-one _; kept = made .kept }
+    let made = rw (e, o .before .before .lesser .ensures, o .before .before .before .limit .ensures, carry) at (c .before .loop .inv .1 _ (climb o)) in
+    record { level = rw (carry, add-one) (level-up (pre .0) (pre .1) made); is = add-one _; kept = made .kept }
 
 pub turn-spec : {M : Type 1} → statement M
 turn-spec =
@@ -137,7 +137,7 @@ turn-spec =
     Inv-loop
     μ-loop
     add-next
-    weight-requires
+    carry-requires
     returns
     sub-reach
     limit-requires

@@ -1,10 +1,10 @@
--- `weight` reads a weight only under kind 2. Assumes nothing.
+-- `carry` reads a carry only under kind 2. Assumes nothing.
 use borrow.Author.Needs.{needs}
 use borrow.Author.Tests.{eq-eqb, ne-eqb}
 use Rattle.rules.specs.State.{numberOf}
-use Rattle.rows.specs.Kinds.{weightOf}
-use Rattle.rows.proofs.kinds.weight.Statement.{statement}
-use Rattle.rows.proofs.kinds.weight.Tie as tie
+use Rattle.rows.specs.Kinds.{carryOf}
+use Rattle.rows.proofs.kinds.carry.Statement.{statement}
+use Rattle.rows.proofs.kinds.carry.Tie as tie
 
 mul-wide : tie.Need-mul-wide
 mul-wide c = let l = c .before .before .before .pre (c .if1 .taken) in search needs
@@ -16,12 +16,12 @@ wide-requires : tie.Need-wide-requires
 wide-requires c κs = search needs
 
 returns : tie.Need-returns
-unfolding weightOf numberOf
+unfolding carryOf numberOf
 returns c = simp (eq-eqb _ _ (c .before .before .if1 .taken)) (c .wide .ensures)
 
 returns-2 : tie.Need-returns-2
-unfolding weightOf
+unfolding carryOf
 returns-2 c = simp (ne-eqb _ _ (c .if1 .left))
 
-pub weight-spec : {M : Type 1} → statement M
-weight-spec = tie.close (tie.spec mul-wide shared-slice-read-wide wide-requires returns returns-2)
+pub carry-spec : {M : Type 1} → statement M
+carry-spec = tie.close (tie.spec mul-wide shared-slice-read-wide wide-requires returns returns-2)
