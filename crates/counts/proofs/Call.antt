@@ -1,20 +1,19 @@
 -- The public call: which kinds are lines, what a call that is not refused is known by, and that either way ends as document 01 has it.
 -- Assumes nothing.
 use mathlib.Core.Path.{_≡_, refl, sym, ap, _∙_}
-use mathlib.Core.Bool.{Bool, true, false, cond}
 use mathlib.Core.Logic.{_⊎_, inl, inr}
-use mathlib.Core.List.{List, _++_}
+use mathlib.Core.List.{List, [], _∷_, _++_}
 use Prim.Native.Nat.{ℕ, zero, suc, _≤_}
 use native.Mathlib.Omega.{arith}
-use lib.Dec.{ltb}
 use lib.ListN.{length, drop, replicate}
 use borrow.Author.Tests.{ltb-false}
 use Rattle.rules.specs.declared.Rule.{Rule}
 use Rattle.rules.specs.declared.Counting.the-variants as counting
 use Rattle.rules.specs.Count.{countsOf}
-use Rattle.rules.specs.Refusal.{cells, countRefusal}
+use Rattle.rules.specs.Refusal.{cells, shortTable, shortRoom, firstOf, countRefusal}
 use Rattle.rules.specs.Answer.{unless, countingOf, roomAfter}
 use Rattle.rules.proofs.Seven.{seven}
+use Rattle.rules.proofs.Accepted.{none-first}
 use Rattle.refusals.specs.Shared.{after, ruleRefusal}
 use Rattle.rules.proofs.Unless.{unless-none, unless-some}
 use Rattle.refusals.proofs.Laws.{count-after, accepted}
@@ -34,22 +33,18 @@ line-left =
     (λ a b. inr (inr refl))
     (λ a b. absurd (b (inr refl)))
 
-after-none : (r next : ℕ) → after r next ≡ 0 → (r ≡ 0) × (next ≡ 0)
+none-of-both : (r next : ℕ) → after r next ≡ 0 → (r ≡ 0) × (next ≡ 0)
 unfolding after
-after-none zero next e = (refl, e)
-after-none (suc r) next e = absurd (omega arith)
-
-none-short : (a b : Bool) → _≡_ {A = ℕ} (cond a 7 (cond b 8 0)) 0 → (a ≡ false) × (b ≡ false)
-none-short true b e = absurd (omega arith)
-none-short false true e = absurd (omega arith)
-none-short false false e = (refl, refl)
+none-of-both zero next e = (refl, e)
+none-of-both (suc r) next e = absurd (omega arith)
 
 module _ (rule : Rule) (n : ℕ) (weights table room : List ℕ) {number : ℕ} (e : number ≡ refusalOf rule n weights (length table) (length room)) where
   pub countable : number ≡ 0 → Countable rule n weights table room
+  unfolding firstOf
   countable z =
-      let a = after-none (ruleRefusal rule n weights) _ (sym e ∙ z) in
-      let s = none-short (ltb (length table) cells) (ltb (length room) (suc n)) (a .1) in
-      record { accepted = accepted rule n weights (a .0); long = ltb-false _ _ (s .0); slots = ltb-false _ _ (s .1) }
+      let a = none-of-both (ruleRefusal rule n weights) _ (sym e ∙ z) in
+      let s = none-first 6 (shortTable table) ((8, shortRoom n room) ∷ []) (a .1) in
+      record { accepted = accepted rule n weights (a .0); long = ltb-false _ _ (s .0); slots = ltb-false _ _ (none-first 7 _ [] (s .1) .0) }
 
   same : number ≡ countRefusal rule n weights table room
   same = e ∙ sym (count-after rule n weights table room)

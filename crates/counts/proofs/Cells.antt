@@ -88,7 +88,8 @@ module _ {f : ℕ → ℕ} {off from to : ℕ} where
 pub cells-same : {f g : ℕ → ℕ} {off from to : ℕ} {t : List ℕ} → ((k : ℕ) → from ≤ k → k < to → f k ≡ g k) → Cells f off from to t → Cells g off from to t
 cells-same h r = record { is = λ k p l m e. r .is k p l m e ∙ h k l m }
 
-pub stored-same : {f g : ℕ → ℕ} {off from to : ℕ} {a b : List ℕ} → ((k : ℕ) → from ≤ k → k < to → f k ≡ g k) → Stored f off from to a b → Stored g off from to a b
+pub stored-same : {f g : ℕ → ℕ} {off from to : ℕ} {a b : List ℕ} → ((k : ℕ) → from ≤ k → k < to → f k ≡ g k) → Stored f off from to a b
+    → Stored g off from to a b
 stored-same h w = record { row = cells-same h (w .row); rest = w .rest }
 
 -- what stands past the cells that may differ is as it was

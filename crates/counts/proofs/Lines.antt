@@ -52,7 +52,8 @@ module _ (n : ℕ) (weights : List ℕ) (j first second : ℕ) where
       inRange rule n weights ≡ true → countFrom rule weights (leadOf rule) n j 0 ≡ countOf rule n weights j
 
   right : (kind : ℕ)
-      → (let rule = ruleOf kind first second in (w : ℕ) → run (columns rule weights (leadOf rule)) n 0 w ≡ run (machine rule weights) n (machine rule weights .start) w)
+      → (let rule = ruleOf kind first second in
+      (w : ℕ) → run (columns rule weights (leadOf rule)) n 0 w ≡ run (machine rule weights) n (machine rule weights .start) w)
       → Right kind
   unfolding countFrom
   right kind s e = count-same _ _ n j (λ w l. s w) ∙ sym (count-by-reading (ruleOf kind first second) n weights j e)

@@ -1,10 +1,10 @@
 -- The open memory of a ring. With one component more its counts are those of the pair that it closes to and its own, by the split of a count at the
 -- top component; with all n components left it is the ring's start. Assumes nothing.
-use mathlib.Core.Path.{_≡_, sym, ap, subst, _∙_}
+use mathlib.Core.Path.{_≡_, sym, subst, _∙_}
 use mathlib.Core.Bool.{true}
 use mathlib.Core.Logic.{inl, inr, ⊎-elim}
 use mathlib.Core.List.{List, _++_}
-use Prim.Native.Nat.{ℕ, zero, suc, _+_, _-_, _*_, _^_, _≤_, _<_, min}
+use Prim.Native.Nat.{ℕ, zero, suc, _+_, _-_, _^_, _≤_, _<_, min}
 use native.Mathlib.Omega.{arith}
 use lib.Dec.{eqb, eqb·suc-zero}
 use lib.ListN.{length, getD, drop, set, replicate}
@@ -151,16 +151,12 @@ module _ (n i : ℕ) (left : i < n) (weights table room : List ℕ) (first secon
   unfolding limitOf joinedOf openOf
   joins5 some near rows row zero h =
       let t : min (n - suc i) (first - 1) ≡ n - suc i = omega arith in
-      ap (λ x. getD table x 0) (omega arith)
-      ∙ rows .is 0 0 (omega arith) some
-      ∙ from5 some _ 0
-      ∙ rw t (sym (open5-zero first n i left near))
+      rows .is 0 0 (omega arith) some ∙ from5 some _ 0 ∙ rw t (sym (open5-zero first n i left near))
   joins5 some near rows row (suc j) h =
       let t : min (n - suc i) (first - 1) ≡ n - suc i = omega arith in
       let e : suc j - 1 ≡ j = omega arith in
-      let d : suc j * first ≡ suc j * first + 0 = omega arith in
       let cell = rows .is (suc j) 0 (omega arith) some ∙ from5 some _ (suc j) in
-      rw (eqb·suc-zero, e, row .is j j (omega arith) (omega arith) (omega arith), d, cell, t) (sym (open5-suc first n i left near j))
+      rw (eqb·suc-zero, e, row .is j j (omega arith) (omega arith) (omega arith), cell, t) (sym (open5-suc first n i left near j))
 
   from7 : 0 < second → (x j : ℕ) → countFrom (ruleOf 7 first second) weights x i j (second - 1) ≡ closed7 second n x i j
   unfolding countFrom
@@ -170,7 +166,7 @@ module _ (n i : ℕ) (left : i < n) (weights table room : List ℕ) (first secon
   unfolding limitOf joinedOf openOf
   joins7 some rows row zero h = row .is 0 0 (omega arith) (omega arith) (omega arith) ∙ sym (open7-zero second n i left)
   joins7 some rows row (suc j) h =
-      let e : suc j * second - 1 ≡ j * second + (second - 1) = omega arith in
+      let e : suc j - 1 ≡ j = omega arith in
       let cell = rows .is j (second - 1) (omega arith) (omega arith) ∙ from7 some _ j in
       rw (eqb·suc-zero, e, row .is (suc j) (suc j) (omega arith) (omega arith) (omega arith), cell) (sym (open7-suc second n i left j))
 

@@ -2,7 +2,7 @@
 use mathlib.Core.Path.{_≡_}
 use mathlib.Core.Bool.{cond}
 use mathlib.Core.List.{List}
-use Prim.Native.Nat.{ℕ, suc, _+_, _-_, _*_, _^_, _≤_, _<_, min}
+use Prim.Native.Nat.{ℕ, suc, _+_, _-_, _^_, _≤_, _<_, min}
 use lib.Dec.{eqb}
 use lib.ListN.{length, getD}
 use Rattle.rules.specs.declared.Rule.{Rule}
@@ -12,7 +12,7 @@ use Rattle.rules.specs.Refusal.{most}
 use Rattle.memory.specs.Open.{leadOpen, cleanOpen}
 use Rattle.counts.specs.Column.{limitOf}
 use Rattle.counts.specs.Cells.{Cells, Outside}
-use Rattle.counts.specs.Turn.{Room}
+use Rattle.counts.specs.Turn.{countAt, Room}
 
 -- with i of n components left
 unfoldable pub openOf : Rule → (n i j : ℕ) → ℕ
@@ -30,8 +30,8 @@ closing rule read = min read (limitOf rule - 1)
 unfoldable pub joinedOf : Rule → (table room : List ℕ) (j : ℕ) → ℕ
 joinedOf rule table room j =
     cond (eqb (rule .kind) 5)
-    (cond (eqb j 0) (getD table 0 0) (getD table (j * limitOf rule) 0 + getD room (j - 1) 0))
-    (cond (eqb j 0) (getD room 0 0) (getD room j 0 + getD table (j * limitOf rule - 1) 0))
+    (cond (eqb j 0) (countAt rule table j 0) (countAt rule table j 0 + getD room (j - 1) 0))
+    (cond (eqb j 0) (getD room 0 0) (getD room j 0 + countAt rule table (j - 1) (limitOf rule - 1)))
 
 -- the entries below `count` with one component more fit 64 bits
 pub record Joinable (rule : Rule) (count : ℕ) (table room : List ℕ) : Type 0 where

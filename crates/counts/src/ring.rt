@@ -8,6 +8,7 @@ ghost use Rattle.counts.specs.Ring.{closing, joinedOf, Openable, Opened,
 ghost use Rattle.counts.specs.Tally.{Countable, Tallied, OnRing, Open, Wider};
 use crate::column;
 use crate::sweep;
+use crate::turn;
 use memory::owed::Clean;
 use rules::Rule;
 
@@ -38,17 +39,17 @@ fn joined(rule: Rule, j: usize, table: &[u64], room: &[u64]) -> u64
     requires { ⌜ Joinable rule (suc j) (now table) (now room) ⌝ }
     ensures { λ r. ⌜ r ≡ joinedOf rule (now (table .entry)) (now (room .entry)) j ⌝ }
 {
-    let size = column::limit(rule);
     if rule.kind == 5 {
+        let closed = turn::count_at(rule, j, 0, table);
         if j == 0 {
-            return table[0];
+            return closed;
         }
-        return table[j * size] + room[j - 1];
+        return closed + room[j - 1];
     }
     if j == 0 {
         return room[0];
     }
-    room[j] + table[j * size - 1]
+    room[j] + turn::count_at(rule, j - 1, column::limit(rule) - 1, table)
 }
 
 // All entries with one component more, from the highest.

@@ -5,7 +5,7 @@ ghost use Prim.Native.Nat.{suc, _*_, _^_, _<_};
 ghost use lib.ListN.{length};
 ghost use Rattle.counts.specs.Column.{limitOf};
 ghost use Rattle.counts.specs.Cells.{Stored};
-ghost use Rattle.counts.specs.Turn.{Weight, Cell, whereFails, stepOf, Turnable, Turned};
+ghost use Rattle.counts.specs.Turn.{countAt, Weight, Cell, whereFails, stepOf, Turnable, Turned};
 use crate::column;
 use rules::Rule;
 
@@ -20,6 +20,14 @@ pub fn weight(rule: Rule, weights: &[u16], i: usize) -> u16
     0
 }
 
+// The count in cell (j, at).
+pub fn count_at(rule: Rule, j: usize, at: usize, table: &[u64]) -> u64
+    requires { ⌜ Cell rule j at (now table) ⌝ }
+    ensures { λ r. ⌜ r ≡ countAt rule (now (table .entry)) j at ⌝ }
+{
+    table[j * column::limit(rule) + at]
+}
+
 // What is counted where the component fails: one failed less among the others, and nothing from a dead memory.
 fn where_fails(rule: Rule, weight: u16, j: usize, at: usize, table: &[u64]) -> u64
     requires { ⌜ Cell rule j at (now table) ⌝ }
@@ -31,7 +39,7 @@ fn where_fails(rule: Rule, weight: u16, j: usize, at: usize, table: &[u64]) -> u
     let size = column::limit(rule);
     let next = column::failed(rule, weight, at);
     if next < size {
-        return table[(j - 1) * size + next];
+        return count_at(rule, j - 1, next, table);
     }
     0
 }
@@ -41,8 +49,7 @@ fn next(rule: Rule, weight: u16, j: usize, at: usize, table: &[u64]) -> u64
     requires { ⌜ Cell rule j at (now table) ⌝ ∗ ⌜ stepOf rule weight j (now table) at < 2 ^ 64 ⌝ }
     ensures { λ r. ⌜ r ≡ stepOf rule weight j (now (table .entry)) at ⌝ }
 {
-    let place = j * column::limit(rule) + column::worked(rule, at);
-    table[place] + where_fails(rule, weight, j, at, table)
+    count_at(rule, j, column::worked(rule, at), table) + where_fails(rule, weight, j, at, table)
 }
 
 // Row j, in place, from its high end: on a working component no memory moves up.

@@ -24,9 +24,10 @@ same-length c = search needs
 returns : tie.Need-returns
 returns c =
     let a = c .before .before .before .before .before .before .before .before .args in
+    let kind = c .before .before .before .before .match .keys1 in
     record {
       used = outside-none;
-      counts = stored-same (λ j l h. entry-count (a .rule) (a .n) (a .weights .now) j (c .before .before .before .before .match .keys1)) (c .before .before .by-number .ensures);
+      counts = stored-same (λ j l h. entry-count (a .rule) (a .n) (a .weights .now) j kind) (c .before .before .by-number .ensures);
     }
 
 same-length-2 : tie.Need-same-length-2

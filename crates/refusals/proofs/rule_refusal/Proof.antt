@@ -30,7 +30,8 @@ rated-refusal-requires c κs =
 
 returns-3 : tie.Need-returns-3
 returns-3 c =
-    rw (rated-after, ← c .before .before .before .before .kind-out .ensures, c .before .before .before .if1 .left, ← c .before .before .size-out .ensures, c .before .if2 .left)
+    let k = c .before .before .before in
+    rw (rated-after, ← k .before .kind-out .ensures, k .if1 .left, ← c .before .before .size-out .ensures, c .before .if2 .left)
     (c .rated-refusal .ensures)
 
 pub rule-refusal-spec : {M : Type 1} → statement M

@@ -31,7 +31,8 @@ returns : tie.Need-returns
 returns c =
     let s = c .before .before .before .before .before .before .before .before in
     let pre = s .before .before .before .before .before .before .pre in
-    line-tallied (pre .0) (pre .1) (s .before .before .lead .ensures) (c .before .before .before .before .before .limit .ensures) (s .sweep .ensures) (c .before .before .copy .ensures)
+    let e = s .before .before .lead .ensures in
+    line-tallied (pre .0) (pre .1) e (c .before .before .before .before .before .limit .ensures) (s .sweep .ensures) (c .before .before .copy .ensures)
 
 pub line-spec : {M : Type 1} → statement M
 line-spec =

@@ -22,7 +22,9 @@ opening-requires : tie.Need-opening-requires Inv-loop μ-loop
 opening-requires c κs = let pre = c .before .before .before .before .pre in ring-openable (pre .0) (pre .1)
 
 loop-holds : tie.Need-loop-holds Inv-loop μ-loop
-loop-holds c = let pre = c .before .before .before .before .before .before .before .pre in (ring-open (pre .0) (pre .1) (c .before .before .opening .ensures), outside-none, outside-none)
+loop-holds c =
+    let pre = c .before .before .before .before .before .before .before .pre in
+    (ring-open (pre .0) (pre .1) (c .before .before .opening .ensures), outside-none, outside-none)
 
 one-more-requires : tie.Need-one-more-requires Inv-loop μ-loop
 one-more-requires c κs = (c .before .before .before .loop .inv .0, c .before .before .loop-test .taken)

@@ -28,7 +28,8 @@ limit-requires c κs = search needs
 mul-start : tie.Need-mul-start Inv-loop μ-loop
 mul-start c =
     let pre = c .before .before .pre in
-    omega (arith, cell-in (c .before .before .args .j) 0 (pre .room) (c .limit .ensures) (omega (arith, pre .most)) (omega (arith, c .limit .ensures, pre .room .some)))
+    let some : 0 < c .limit .result = omega (arith, c .limit .ensures, pre .room .some) in
+    omega (arith, cell-in (c .before .before .args .j) 0 (pre .room) (c .limit .ensures) (omega (arith, pre .most)) some)
 
 loop-holds : tie.Need-loop-holds Inv-loop μ-loop
 loop-holds c = let e = c .limit .ensures in (omega (arith, e), rw e, c .before .before .pre, rw e (stored-none (omega arith)))
