@@ -11,7 +11,8 @@ use Rattle.rules.specs.State.{S, numberOf}
 use Rattle.rules.specs.Memory.{machineOf, row6, row7, ended, end7}
 use Rattle.rules.specs.Figure.{rounded, mixed, value, figureOf}
 use Rattle.memory.specs.declared.owed.Owed.{Owed}
-use Rattle.memory.specs.Owed.{owed, owing}
+use Rattle.memory.specs.declared.owed.Clean.{Clean}
+use Rattle.memory.specs.Owed.{owed, cleanAfter, cleanFailed, owing}
 use Rattle.memory.specs.Open.{cleanOpen}
 use Rattle.memory.proofs.Owing.{owed-row6, owed-row7}
 use Rattle.memory.proofs.Opening.{clean-start, clean-works, clean-fails}
@@ -26,16 +27,18 @@ use Rattle.gaps.proofs.Reaching.{holds-at}
 pub asked-kept : {r : ℕ} {survival t₀ t : List ℕ} → Kept t₀ t → Asked r survival t₀ → Asked r survival t
 asked-kept k y = record { two = y .two; list = workable-kept k (y .list) }
 
-module _ {r : ℕ} {survival t₀ : List ℕ} (y : Asked r survival t₀) where
+-- the table settled, and the line's memory begun
+pub start-begun : {r : ℕ} {survival t₀ t : List ℕ} {m : Owed} → Asked r survival t₀ → m ≡ owed (r - 1) 0 → Settled r survival t → Kept t₀ t → Begun r m survival t
+start-begun y is s k = record { none = ap (λ m. m .owed) is; asked = asked-kept k y; settled = s }
+
+pub line-is : {r : ℕ} {survival t₀ t : List ℕ} {s : Known} → Reached r (r - 1) (length survival) survival t₀ t s → {e : Ends} → Both (λ up. cellAt t up (length survival)) e
+    → Both (λ up. figureOf (row6 r) up S survival) e
+line-is {r} {survival} z b =
+    both-as (λ up. owed-row6 r (omega (arith, z .holds .asked .two)) (length survival) .values up S (numberOf survival)) (holds-at (z .holds) (length survival) (omega arith) b)
+
+module _ (r : ℕ) (survival : List ℕ) where
   abbrev n : ℕ
   n = length survival
-
-  -- the table settled, and the line's memory begun
-  pub start-begun : {m : Owed} {t : List ℕ} → m ≡ owed (r - 1) 0 → Settled r survival t → Kept t₀ t → Begun r m survival t
-  start-begun is s k = record { none = ap (λ m. m .owed) is; asked = asked-kept k y; settled = s }
-
-  pub line-is : {t t' : List ℕ} {s : Known} → Reached r (r - 1) n survival t t' s → {e : Ends} → Both (λ up. cellAt t' up n) e → Both (λ up. figureOf (row6 r) up S survival) e
-  line-is z b = both-as (λ up. owed-row6 r (omega (arith, y .two)) n .values up S (numberOf survival)) (holds-at (z .holds) n (omega arith) b)
 
   -- what the open clean ones are worth with i components left
   abbrev opened : (up : Bool) (i : ℕ) → ℕ
@@ -49,69 +52,74 @@ module _ {r : ℕ} {survival t₀ : List ℕ} (y : Asked r survival t₀) where
   unfolding value ended end7 cleanOpen
   open-first up = refl
 
-  open-more : (up : Bool) (i : ℕ) → i < n → rounded up S (mixed S (getD survival i 0) (opened up i) (worthOf (owing r) survival (closed i) up i)) ≡ opened up (i + 1)
-  open-more up i left =
+  open-more : 2 ≤ r → (up : Bool) (i : ℕ) → i < n → rounded up S (mixed S (getD survival i 0) (opened up i) (worthOf (owing r) survival (closed i) up i)) ≡ opened up (i + 1)
+  open-more two up i left =
       rw (add-one i)
       (sym (worth-suc (machineOf (row7 r)) survival i (cleanOpen r n (suc i)) up
       ∙ rw (
         clean-works r n i left,
         clean-fails r n i left,
-        owed-row7 r (omega (arith, y .two)) i (min (n - suc i) (r - 1)) (r - 1) (omega (arith, y .two)) .values up S (numberOf survival),
+        owed-row7 r (omega arith) i (min (n - suc i) (r - 1)) (r - 1) (omega arith) .values up S (numberOf survival),
       )))
 
-  -- the ring on the way
-  pub record Closing (size i : ℕ) (s : Known) (ends : Ends) (t : List ℕ) : Type 0 where
-    pub all : size ≡ n
-    pub most : i ≤ n
-    pub front : ℕ
-    pub left : ℕ
-    pub near : left ≤ i - (r - 1)
-    pub reached : Reached r front left survival t₀ t s
-    pub value : Both (λ up. opened up i) ends
+  -- the debt as the code makes it
+  pub closed-is : (i : ℕ) {c : Clean} {m : Owed} → c ≡ cleanAfter r (n - i - 1) → m ≡ cleanFailed r c → m ≡ closed i
+  closed-is i after failed = let e : n - i - 1 ≡ n - suc i = omega arith in failed ∙ rw (after, e)
 
-  pub closing-first : {t : List ℕ} {s : Known} {works : Bool} {e : Ends} → Reached r (r - 1) 0 survival t t₀ s → works ≡ true → Both (λ up. cond works S 0) e → Closing n 0 s e t₀
-  closing-first z is b = record {
-    all = refl;
-    most = omega arith;
-    front = r - 1;
-    left = 0;
-    near = omega arith;
-    reached = record { free = z .free; left = z .left; holds = z .holds; kept = kept-none };
-    value = both-as (λ up. rw is (open-first up)) b;
+-- the ring on the way: the clean ones that are known, and what the open ones are worth
+pub record Closing (r : ℕ) (survival t₀ : List ℕ) (i : ℕ) (s : Known) (ends : Ends) (t : List ℕ) : Type 0 where
+  pub asked : Asked r survival t₀
+  pub most : i ≤ length survival
+  pub front : ℕ
+  pub left : ℕ
+  pub near : left ≤ i - (r - 1)
+  pub reached : Reached r front left survival t₀ t s
+  pub value : Both (λ up. opened r survival up i) ends
+
+pub closing-first : {r : ℕ} {survival t₀ t : List ℕ} {s : Known} {works : Bool} {e : Ends} → Reached r (r - 1) 0 survival t₀ t s → works ≡ true → Both (λ up. cond works S 0) e
+    → Closing r survival t 0 s e t
+closing-first {r} {survival} z is b = record {
+  asked = z .holds .asked;
+  most = omega arith;
+  front = r - 1;
+  left = 0;
+  near = omega arith;
+  reached = record { free = z .free; left = z .left; holds = z .holds; kept = kept-none };
+  value = both-as (λ up. rw is (open-first r survival up)) b;
+}
+
+pub closing-last : {r : ℕ} {survival t₀ t : List ℕ} {i : ℕ} {s : Known} {e : Ends} → length survival ≤ i → Closing r survival t₀ i s e t → Both (λ up. figureOf (row7 r) up S survival) e
+closing-last {r} {survival} {i = i} l v =
+    let e : i ≡ length survival = omega (arith, v .most) in
+    both-as (λ up. ap (λ m. worthOf (machineOf (row7 r)) survival m up (length survival)) (clean-start r (length survival))) (rw e at (v .value))
+
+module _ {r : ℕ} {survival t₀ t : List ℕ} {i : ℕ} {s : Known} {ends : Ends} (v : Closing r survival t₀ i s ends t) (l : i < length survival) {m : Owed} (is : m ≡ closed r survival i) where
+  pub closing-bringable : Bringable r s m i survival t
+  closing-bringable = record {
+    none = ap (λ f. f .owed) (v .reached .free);
+    holds = rw (v .reached .free, v .reached .left) (v .reached .holds);
+    due = ap (λ f. f .owed) is;
+    order = rw is (omega (arith, v .reached .left, v .near));
+    size = l;
   }
 
-  pub closing-last : {size i : ℕ} {s : Known} {e : Ends} {t : List ℕ} → size ≤ i → Closing size i s e t → Both (λ up. figureOf (row7 r) up S survival) e
-  closing-last {i = i} l v =
-      let e : i ≡ n = omega (arith, v .most, v .all) in
-      both-as (λ up. ap (λ m. worthOf (machineOf (row7 r)) survival m up n) (clean-start r n)) (rw e at (v .value))
+  module _ {t' : List ℕ} {s' : Known} (z : Reached r (m .clean) (i - m .owed) survival t t' s') where
+    pub closing-passable : Passable r m i survival t'
+    closing-passable = record { due = ap (λ f. f .owed) is; size = l; holds = z .holds }
 
-  module _ {size i : ℕ} {s : Known} {ends : Ends} {t : List ℕ} (v : Closing size i s ends t) (l : i < size) {m : Owed} (is : m ≡ closed i) where
-    pub closing-bringable : Bringable r s m i survival t
-    closing-bringable = record {
-      none = ap (λ f. f .owed) (v .reached .free);
-      holds = rw (v .reached .free, v .reached .left) (v .reached .holds);
-      due = ap (λ f. f .owed) is;
-      order = rw is (omega (arith, v .reached .left, v .near));
-      size = omega (arith, v .all);
-    }
+    module _ (p q : ℕ) (chance : Chance survival i p q) {fails : Ends} (f : Both (λ up. worthOf (owing r) survival m up i) fails) where
+      pub closing-steady : Steady p q ends fails
+      closing-steady = step-steady (machineOf (row7 r)) (owing r) survival (v .asked .list .units) i p q chance _ _ (v .value) f
 
-    module _ {t' : List ℕ} {s' : Known} (z : Reached r (m .clean) (i - m .owed) survival t t' s') where
-      pub closing-passable : Passable r m i survival t'
-      closing-passable = record { due = ap (λ f. f .owed) is; size = omega (arith, v .all); holds = z .holds }
-
-      module _ (p q : ℕ) (chance : Chance survival i p q) {fails : Ends} (f : Both (λ up. worthOf (owing r) survival m up i) fails) where
-        pub closing-steady : Steady p q ends fails
-        closing-steady = step-steady (machineOf (row7 r)) (owing r) survival (y .list .units) i p q chance _ _ (v .value) f
-
-        pub closing-more : {e : Ends} → Both (λ up. rounded up S (mixed S p (one up ends) (one up fails))) e → Closing size (i + 1) s' e t'
-        closing-more b = record {
-          all = v .all;
-          most = omega (arith, v .all);
-          front = m .clean;
-          left = i - m .owed;
-          near = rw is (omega arith);
-          reached = record { free = z .free; left = z .left; holds = z .holds; kept = kept-trans (v .reached .kept) (z .kept) };
-          value =
-              both-as (λ up. open-more up i (omega (arith, v .all)))
-              (step-mixed (machineOf (row7 r)) (owing r) survival (y .list .units) i p q chance _ _ (v .value) (rw is at f) b);
-        }
+      pub closing-more : {e : Ends} → Both (λ up. rounded up S (mixed S p (one up ends) (one up fails))) e → Closing r survival t₀ (i + 1) s' e t'
+      closing-more b = record {
+        asked = v .asked;
+        most = omega arith;
+        front = m .clean;
+        left = i - m .owed;
+        near = rw is (omega arith);
+        reached = record { free = z .free; left = z .left; holds = z .holds; kept = kept-trans (v .reached .kept) (z .kept) };
+        value =
+            both-as (λ up. open-more r survival (v .asked .two) up i l)
+            (step-mixed (machineOf (row7 r)) (owing r) survival (v .asked .list .units) i p q chance _ _ (v .value) (rw is at f) b);
+      }

@@ -6,16 +6,24 @@ use Rattle.engine.proofs.rate.Statement.{statement}
 use Rattle.engine.proofs.rate.Tie as tie
 
 line-requires : tie.Need-line-requires
-line-requires c κs = in-runs (c .before .before .before .before .before .pre) (range4 (c .before .before .before .before .before .pre .accepted) (c .before .match .keys1))
+line-requires c κs =
+    let pre = c .before .before .before .before .before .pre in
+    in-runs pre (range4 (pre .accepted) (c .before .match .keys1))
 
 ring-requires : tie.Need-ring-requires
-ring-requires c κs = in-runs (c .before .before .before .before .before .pre) (range5 (c .before .before .before .before .before .pre .accepted) (c .before .match .keys2))
+ring-requires c κs =
+    let pre = c .before .before .before .before .before .pre in
+    in-runs pre (range5 (pre .accepted) (c .before .match .keys2))
 
 line-requires-2 : tie.Need-line-requires-2
-line-requires-2 c κs = in-gaps (c .before .before .before .before .before .pre) (range6 (c .before .before .before .before .before .pre .accepted) (c .before .match .keys3))
+line-requires-2 c κs =
+    let pre = c .before .before .before .before .before .pre in
+    in-gaps pre (range6 (pre .accepted) (c .before .match .keys3))
 
 ring-requires-2 : tie.Need-ring-requires-2
-ring-requires-2 c κs = in-gaps (c .before .before .before .before .before .pre) (range7 (c .before .before .before .before .before .pre .accepted) (c .before .match .keys4))
+ring-requires-2 c κs =
+    let pre = c .before .before .before .before .before .pre in
+    in-gaps pre (range7 (pre .accepted) (c .before .match .keys4))
 
 rate-requires : tie.Need-rate-requires
 rate-requires c κs = search needs
@@ -24,25 +32,37 @@ same-length : tie.Need-same-length
 same-length c = search needs
 
 returns : tie.Need-returns
-returns c = (is4 _ _ _ (c .before .before .before .before .match .keys1) (c .before .before .line .ensures .0), c .before .before .line .ensures .1)
+returns c =
+    let match = c .before .before .before .before .match in
+    let line = c .before .before .line in
+    (is4 _ _ _ (match .keys1) (line .ensures .0), line .ensures .1)
 
 same-length-2 : tie.Need-same-length-2
 same-length-2 c = search needs
 
 returns-2 : tie.Need-returns-2
-returns-2 c = (is5 _ _ _ (c .before .before .before .before .match .keys2) (c .before .before .ring .ensures .0), c .before .before .ring .ensures .1)
+returns-2 c =
+    let match = c .before .before .before .before .match in
+    let ring = c .before .before .ring in
+    (is5 _ _ _ (match .keys2) (ring .ensures .0), ring .ensures .1)
 
 same-length-3 : tie.Need-same-length-3
 same-length-3 c = search needs
 
 returns-3 : tie.Need-returns-3
-returns-3 c = (is6 _ _ _ (c .before .before .before .before .match .keys3) (c .before .before .line2 .ensures .0), c .before .before .line2 .ensures .1)
+returns-3 c =
+    let match = c .before .before .before .before .match in
+    let line2 = c .before .before .line2 in
+    (is6 _ _ _ (match .keys3) (line2 .ensures .0), line2 .ensures .1)
 
 same-length-4 : tie.Need-same-length-4
 same-length-4 c = search needs
 
 returns-4 : tie.Need-returns-4
-returns-4 c = (is7 _ _ _ (c .before .before .before .before .match .keys4) (c .before .before .ring2 .ensures .0), c .before .before .ring2 .ensures .1)
+returns-4 c =
+    let match = c .before .before .before .before .match in
+    let ring2 = c .before .before .ring2 in
+    (is7 _ _ _ (match .keys4) (ring2 .ensures .0), ring2 .ensures .1)
 
 same-length-5 : tie.Need-same-length-5
 same-length-5 c = search needs

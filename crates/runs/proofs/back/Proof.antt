@@ -22,16 +22,22 @@ worth-requires : tie.Need-worth-requires Inv-loop μ-loop
 worth-requires c κs = search needs
 
 loop-holds : tie.Need-loop-holds Inv-loop μ-loop
-loop-holds c = rw (c .before .rest .ensures) (back-first (c .before .before .before .before .pre) (c .worth .ensures))
+loop-holds c =
+    let pre = c .before .before .before .before .pre in
+    rw (c .before .rest .ensures) (back-first pre (c .worth .ensures))
 
 before-requires : tie.Need-before-requires Inv-loop μ-loop
-before-requires c κs = back-some (c .before .before .before .before .before .before .pre) _ (c .loop-test .taken) (c .before .loop .inv)
+before-requires c κs =
+    let pre = c .before .before .before .before .before .before .pre in
+    back-some pre _ (c .loop-test .taken) (c .before .loop .inv)
 
 chance-requires : tie.Need-chance-requires Inv-loop μ-loop
 chance-requires c κs = search needs
 
 failure-requires : tie.Need-failure-requires Inv-loop μ-loop
-failure-requires c κs = rw (c .chance .ensures) (c .before .before .before .before .before .before .before .before .pre .list .units _)
+failure-requires c κs =
+    let pre = c .before .before .before .before .before .before .before .before .pre in
+    rw (c .chance .ensures) (pre .list .units _)
 
 worked-requires : tie.Need-worked-requires Inv-loop μ-loop
 worked-requires c κs = search needs
@@ -40,25 +46,46 @@ place-requires : tie.Need-place-requires Inv-loop μ-loop
 place-requires c κs = search needs
 
 read-requires : tie.Need-read-requires Inv-loop μ-loop
-read-requires c κs = rw (c .place .ensures) (back-place (c .before .before .before .before .before .before .before .before .before .before .before .pre) _ (c .before .before .before .before .before .loop-test .taken) (c .before .before .before .before .before .before .loop .inv))
+read-requires c κs =
+    let pre = c .before .before .before .before .before .before .before .before .before .before .before .pre in
+    let loop = c .before .before .before .before .before .before .loop in
+    let test = c .before .before .before .before .before .loop-test in
+    rw (c .place .ensures) (back-place pre _ (test .taken) (loop .inv))
 
 step-requires : tie.Need-step-requires Inv-loop μ-loop
 step-requires c κs =
-    back-steady (c .before .before .before .before .before .before .before .before .before .before .before .before .pre) _ (c .before .before .before .before .before .before .loop-test .taken) (c .before .before .before .before .before .before .before .loop .inv) _ _ (record { read = c .before .before .before .before .chance .ensures; rest = c .before .before .before .failure .ensures }) (rw (c .before .place .ensures) at (c .read .ensures))
+    let pre = c .before .before .before .before .before .before .before .before .before .before .before .before .pre in
+    let loop = c .before .before .before .before .before .before .before .loop in
+    let test = c .before .before .before .before .before .before .loop-test in
+    let chance = c .before .before .before .before .chance in
+    let failure = c .before .before .before .failure in
+    back-steady pre _ (test .taken) (loop .inv) _ _ (record { read = chance .ensures; rest = failure .ensures }) (rw (c .before .place .ensures) at (c .read .ensures))
 
 add-i : tie.Need-add-i Inv-loop μ-loop
-add-i c = omega (arith, c .before .before .before .before .before .before .before .loop-test .taken, c .before .before .before .before .before .before .before .before .before .before .before .before .before .pre .size, c .before .before .before .before .before .before .before .before .before .before .before .before .before .pre .list .size)
+add-i c =
+    let pre = c .before .before .before .before .before .before .before .before .before .before .before .before .before .pre in
+    let test = c .before .before .before .before .before .before .before .loop-test in
+    omega (arith, test .taken, pre .size, pre .list .size)
 
 loop-less : tie.Need-loop-less Inv-loop μ-loop
 loop-less c = search needs
 
 loop-again : tie.Need-loop-again Inv-loop μ-loop
 loop-again c =
-    back-more (c .before .before .before .before .before .before .before .before .before .before .before .before .before .pre) _ (c .before .before .before .before .before .before .before .loop-test .taken) (c .before .before .before .before .before .before .before .before .loop .inv) _ _ (record { read = c .before .before .before .before .before .chance .ensures; rest = c .before .before .before .before .failure .ensures }) (rw (c .before .before .place .ensures) at (c .before .read .ensures))
-    (c .before .before .before .before .before .before .before2 .ensures) (c .step .ensures)
+    let pre = c .before .before .before .before .before .before .before .before .before .before .before .before .before .pre in
+    let loop = c .before .before .before .before .before .before .before .before .loop in
+    let test = c .before .before .before .before .before .before .before .loop-test in
+    let before2 = c .before .before .before .before .before .before .before2 in
+    let chance = c .before .before .before .before .before .chance in
+    let failure = c .before .before .before .before .failure in
+    let place = c .before .before .place in
+    back-more pre _ (test .taken) (loop .inv) _ _ (record { read = chance .ensures; rest = failure .ensures }) (rw (place .ensures) at (c .before .read .ensures))
+    (before2 .ensures) (c .step .ensures)
 
 returns : tie.Need-returns Inv-loop μ-loop
-returns c = back-last (c .before .before .before .before .before .before .pre) (c .loop-test .left) (c .before .loop .inv)
+returns c =
+    let pre = c .before .before .before .before .before .before .pre in
+    back-last pre (c .loop-test .left) (c .before .loop .inv)
 
 pub back-spec : {M : Type 1} → statement M
 back-spec =

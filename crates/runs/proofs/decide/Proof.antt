@@ -40,14 +40,22 @@ loop-less : tie.Need-loop-less Inv-loop μ-loop
 loop-less c = search needs
 
 loop-again : tie.Need-loop-again Inv-loop μ-loop
-loop-again c = (omega arith, written-more (c .before .before .write .ensures) (omega arith) (omega (arith, c .before .before .before .before .before .before .before .lesser .ensures, c .before .before .before .before .before .before .before .before .before .before .pre .size)) (c .before .before .before .worth .ensures) (c .before .before .before .before .before .before .loop .inv .1))
+loop-again c =
+    let pre = c .before .before .before .before .before .before .before .before .before .before .pre in
+    let lesser = c .before .before .before .before .before .before .before .lesser in
+    let loop = c .before .before .before .before .before .before .loop in
+    let worth = c .before .before .before .worth in
+    let write = c .before .before .write in
+    (omega arith, written-more (write .ensures) (omega arith) (omega (arith, lesser .ensures, pre .size)) (worth .ensures) (loop .inv .1))
 
 same-length : tie.Need-same-length Inv-loop μ-loop
 same-length c = search needs
 
 returns : tie.Need-returns Inv-loop μ-loop
-returns c = let e : c .before .loop .left ≡ suc (c .before .before .lesser .result) = omega (arith, c .before .loop .inv .0, c .loop-test .left) in
-    (c .before .before .lesser .ensures, rw (e, c .before .before .lesser .ensures) at (c .before .loop .inv .1))
+returns c =
+    let lesser = c .before .before .lesser in
+    let e : c .before .loop .left ≡ suc (lesser .result) = omega (arith, c .before .loop .inv .0, c .loop-test .left) in
+    (lesser .ensures, rw (e, lesser .ensures) at (c .before .loop .inv .1))
 
 pub decide-spec : {M : Type 1} → statement M
 decide-spec =

@@ -20,37 +20,57 @@ decide-requires c κs = search needs
 
 loop-holds : tie.Need-loop-holds Inv-loop μ-loop
 loop-holds c =
-    let e = c .before .before .decide .ensures .0 in
-    (omega arith, λ more. omega (arith, c .before .before .before .before .before .before .pre .free .alive), rw e (filled-first (c .before .before .before .before .before .before .pre) (c .before .before .decide .ensures .1)))
+    let pre = c .before .before .before .before .before .before .pre in
+    let decide = c .before .before .decide in
+    let e = decide .ensures .0 in
+    (omega arith, λ more. omega (arith, pre .free .alive), rw e (filled-first pre (decide .ensures .1)))
 
 add-left : tie.Need-add-left Inv-loop μ-loop
 add-left c = search needs
 
 back-requires : tie.Need-back-requires Inv-loop μ-loop
 back-requires c κs =
-    let v = c .before .before .loop .inv in
-    filled-falling (fillable-kept (c .before .before .before .before .before .before .before .before .before .pre) (c .before .before .before .before .before .decide .ensures .1 .kept)) (v .2) (c .before .loop-test .taken) (v .1 (c .before .loop-test .taken))
+    let pre = c .before .before .before .before .before .before .before .before .before .pre in
+    let decide = c .before .before .before .before .before .decide in
+    let loop = c .before .before .loop in
+    let v = loop .inv in
+    filled-falling (fillable-kept pre (decide .ensures .1 .kept)) (v .2) (c .before .loop-test .taken) (v .1 (c .before .loop-test .taken))
 
 write-requires : tie.Need-write-requires Inv-loop μ-loop
-write-requires c κs = filled-place (fillable-kept (c .before .before .before .before .before .before .before .before .before .before .before .pre) (c .before .before .before .before .before .before .before .decide .ensures .1 .kept)) (c .before .before .before .before .loop .inv .2) (c .before .before .before .loop-test .taken)
+write-requires c κs =
+    let pre = c .before .before .before .before .before .before .before .before .before .before .before .pre in
+    let decide = c .before .before .before .before .before .before .before .decide in
+    let loop = c .before .before .before .before .loop in
+    let test = c .before .before .before .loop-test in
+    filled-place (fillable-kept pre (decide .ensures .1 .kept)) (loop .inv .2) (test .taken)
 
 loop-less : tie.Need-loop-less Inv-loop μ-loop
 loop-less c = search needs
 
 loop-again : tie.Need-loop-again Inv-loop μ-loop
 loop-again c =
-    let v = c .before .before .before .before .before .before .before .loop .inv in
-    let l = c .before .before .before .before .before .before .loop-test .taken in
-    (omega arith, λ more. omega (arith, v .1 l), filled-more (fillable-kept (c .before .before .before .before .before .before .before .before .before .before .before .before .before .before .pre) (c .before .before .before .before .before .before .before .before .before .before .decide .ensures .1 .kept)) (v .2) l (c .before .before .before .before .back .ensures) (c .before .before .write .ensures))
+    let pre = c .before .before .before .before .before .before .before .before .before .before .before .before .before .before .pre in
+    let decide = c .before .before .before .before .before .before .before .before .before .before .decide in
+    let loop = c .before .before .before .before .before .before .before .loop in
+    let test = c .before .before .before .before .before .before .loop-test in
+    let back = c .before .before .before .before .back in
+    let write = c .before .before .write in
+    let v = loop .inv in
+    let l = test .taken in
+    (omega arith, λ more. omega (arith, v .1 l), filled-more (fillable-kept pre (decide .ensures .1 .kept)) (v .2) l (back .ensures) (write .ensures))
 
 same-length : tie.Need-same-length Inv-loop μ-loop
-same-length c = kept-trans (c .before .before .before .before .decide .ensures .1 .kept) (c .before .loop .inv .2 .kept) .long
+same-length c =
+    let decide = c .before .before .before .before .decide in
+    kept-trans (decide .ensures .1 .kept) (c .before .loop .inv .2 .kept) .long
 
 returns : tie.Need-returns Inv-loop μ-loop
 returns c =
+    let args = c .before .before .before .before .before .before .before .before .args in
+    let decide = c .before .before .before .before .decide in
     let v = c .before .loop .inv in
-    let e : c .before .loop .left ≡ c .before .before .before .before .before .before .before .before .args .upto = omega (arith, v .0, c .loop-test .left) in
-    record { row = rw e at (v .2 .row); kept = kept-trans (c .before .before .before .before .decide .ensures .1 .kept) (v .2 .kept) }
+    let e : c .before .loop .left ≡ args .upto = omega (arith, v .0, c .loop-test .left) in
+    record { row = rw e at (v .2 .row); kept = kept-trans (decide .ensures .1 .kept) (v .2 .kept) }
 
 pub fill-spec : {M : Type 1} → statement M
 fill-spec =

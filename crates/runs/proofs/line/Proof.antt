@@ -9,10 +9,14 @@ start-requires : tie.Need-start-requires
 start-requires c κs = search needs
 
 fill-requires : tie.Need-fill-requires
-fill-requires c κs = rw (c .before .start .ensures) (record { free = record { none = refl; alive = c .before .before .before .before .pre .some }; size = search needs; list = c .before .before .before .before .pre .list })
+fill-requires c κs =
+    let pre = c .before .before .before .before .pre in
+    rw (c .before .start .ensures) (record { free = record { none = refl; alive = pre .some }; size = search needs; list = pre .list })
 
 place-requires : tie.Need-place-requires
-place-requires c κs = ap (λ m. m .run) (c .before .before .before .before .before .start .ensures)
+place-requires c κs =
+    let start = c .before .before .before .before .before .start in
+    ap (λ m. m .run) (start .ensures)
 
 read-requires : tie.Need-read-requires
 read-requires c κs = search needs
@@ -21,7 +25,11 @@ same-length : tie.Need-same-length
 same-length c = search needs
 
 returns : tie.Need-returns
-returns c = (line-is (c .before .before .before .before .before .before .before .before .before .before .pre) (filled-at (rw (c .before .before .before .before .before .before .before .start .ensures) at (c .before .before .before .before .before .fill .ensures)) (rw (c .before .place .ensures) at (c .read .ensures))), c .before .before .before .before .before .fill .ensures .kept)
+returns c =
+    let pre = c .before .before .before .before .before .before .before .before .before .before .pre in
+    let start = c .before .before .before .before .before .before .before .start in
+    let fill = c .before .before .before .before .before .fill in
+    (line-is pre (filled-at (rw (start .ensures) at (fill .ensures)) (rw (c .before .place .ensures) at (c .read .ensures))), fill .ensures .kept)
 
 pub line-spec : {M : Type 1} → statement M
 line-spec =

@@ -24,43 +24,91 @@ loop-holds : tie.Need-loop-holds Inv-loop μ-loop
 loop-holds c = λ y. leading-first y (c .worth .ensures)
 
 before-requires : tie.Need-before-requires Inv-loop μ-loop
-before-requires c κs = leading-some (c .before .before .before .before .before .pre) (c .before .loop .inv (c .before .before .before .before .before .pre)) (c .loop-test .taken)
+before-requires c κs =
+    let pre = c .before .before .before .before .before .pre in
+    leading-some pre (c .before .loop .inv pre) (c .loop-test .taken)
 
 worked-requires : tie.Need-worked-requires Inv-loop μ-loop
 worked-requires c κs = search needs
 
 fill-requires : tie.Need-fill-requires Inv-loop μ-loop
-fill-requires c κs = rw (c .before .worked .ensures) (leading-fillable (c .before .before .before .before .before .before .before .before .pre) (c .before .before .before .before .loop .inv (c .before .before .before .before .before .before .before .before .pre)) (c .before .before .before .loop-test .taken) (c .before .before .before2 .ensures))
+fill-requires c κs =
+    let pre = c .before .before .before .before .before .before .before .before .pre in
+    let loop = c .before .before .before .before .loop in
+    let test = c .before .before .before .loop-test in
+    let before2 = c .before .before .before2 in
+    rw (c .before .worked .ensures) (leading-fillable pre (loop .inv pre) (test .taken) (before2 .ensures))
 
 chance-requires : tie.Need-chance-requires Inv-loop μ-loop
-chance-requires c κs = omega (arith, c .before .before .before .before .before .before .loop-test .taken, (c .before .before .before .before .before .before .before .loop .inv (c .before .before .before .before .before .before .before .before .before .before .before .pre)) .all)
+chance-requires c κs =
+    let pre = c .before .before .before .before .before .before .before .before .before .before .before .pre in
+    let loop = c .before .before .before .before .before .before .before .loop in
+    let test = c .before .before .before .before .before .before .loop-test in
+    omega (arith, test .taken, (loop .inv pre) .all)
 
 failure-requires : tie.Need-failure-requires Inv-loop μ-loop
-failure-requires c κs = rw (c .chance .ensures) (c .before .before .before .before .before .before .before .before .before .before .before .before .pre .list .units _)
+failure-requires c κs =
+    let pre = c .before .before .before .before .before .before .before .before .before .before .before .before .pre in
+    rw (c .chance .ensures) (pre .list .units _)
 
 place-requires : tie.Need-place-requires Inv-loop μ-loop
-place-requires c κs = rw (c .before .before .before .before .before .before .before .worked .ensures) refl
+place-requires c κs =
+    let worked = c .before .before .before .before .before .before .before .worked in
+    rw (worked .ensures) refl
 
 read-requires : tie.Need-read-requires Inv-loop μ-loop
-read-requires c κs = rw (c .place .ensures) (leading-place (c .before .before .before .before .before .before .before .before .before .before .before .before .before .before .before .pre) (c .before .before .before .before .before .before .before .before .before .before .before .loop .inv (c .before .before .before .before .before .before .before .before .before .before .before .before .before .before .before .pre)) (c .before .before .before .before .before .before .before .before .before .before .loop-test .taken) (c .before .before .before .before .before .before .before .before .before .before2 .ensures) (rw (c .before .before .before .before .before .before .before .before .worked .ensures) at (c .before .before .before .before .before .before .fill .ensures)))
+read-requires c κs =
+    let pre = c .before .before .before .before .before .before .before .before .before .before .before .before .before .before .before .pre in
+    let loop = c .before .before .before .before .before .before .before .before .before .before .before .loop in
+    let test = c .before .before .before .before .before .before .before .before .before .before .loop-test in
+    let before2 = c .before .before .before .before .before .before .before .before .before .before2 in
+    let worked = c .before .before .before .before .before .before .before .before .worked in
+    let fill = c .before .before .before .before .before .before .fill in
+    rw (c .place .ensures) (leading-place pre (loop .inv pre) (test .taken) (before2 .ensures) (rw (worked .ensures) at (fill .ensures)))
 
 step-requires : tie.Need-step-requires Inv-loop μ-loop
-step-requires c κs = leading-steady (c .before .before .before .before .before .before .before .before .before .before .before .before .before .before .before .before .pre) (c .before .before .before .before .before .before .before .before .before .before .before .before .loop .inv (c .before .before .before .before .before .before .before .before .before .before .before .before .before .before .before .before .pre)) (c .before .before .before .before .before .before .before .before .before .before .before .loop-test .taken) (c .before .before .before .before .before .before .before .before .before .before .before2 .ensures) (rw (c .before .before .before .before .before .before .before .before .before .worked .ensures) at (c .before .before .before .before .before .before .before .fill .ensures)) _ _ (record { read = c .before .before .before .before .chance .ensures; rest = c .before .before .before .failure .ensures }) (rw (c .before .place .ensures) at (c .read .ensures))
+step-requires c κs =
+    let pre = c .before .before .before .before .before .before .before .before .before .before .before .before .before .before .before .before .pre in
+    let loop = c .before .before .before .before .before .before .before .before .before .before .before .before .loop in
+    let test = c .before .before .before .before .before .before .before .before .before .before .before .loop-test in
+    let before2 = c .before .before .before .before .before .before .before .before .before .before .before2 in
+    let worked = c .before .before .before .before .before .before .before .before .before .worked in
+    let fill = c .before .before .before .before .before .before .before .fill in
+    let chance = c .before .before .before .before .chance in
+    let failure = c .before .before .before .failure in
+    leading-steady pre (loop .inv pre) (test .taken) (before2 .ensures) (rw (worked .ensures) at (fill .ensures)) _ _ (record { read = chance .ensures; rest = failure .ensures }) (rw (c .before .place .ensures) at (c .read .ensures))
 
 add-i : tie.Need-add-i Inv-loop μ-loop
-add-i c = omega (arith, c .before .before .before .before .before .before .before .before .before .before .before .before .loop-test .taken, (c .before .before .before .before .before .before .before .before .before .before .before .before .before .loop .inv (c .before .before .before .before .before .before .before .before .before .before .before .before .before .before .before .before .before .pre)) .all, c .before .before .before .before .before .before .before .before .before .before .before .before .before .before .before .before .before .pre .list .size)
+add-i c =
+    let pre = c .before .before .before .before .before .before .before .before .before .before .before .before .before .before .before .before .before .pre in
+    let loop = c .before .before .before .before .before .before .before .before .before .before .before .before .before .loop in
+    let test = c .before .before .before .before .before .before .before .before .before .before .before .before .loop-test in
+    omega (arith, test .taken, (loop .inv pre) .all, pre .list .size)
 
 loop-less : tie.Need-loop-less Inv-loop μ-loop
 loop-less c = search needs
 
 loop-again : tie.Need-loop-again Inv-loop μ-loop
-loop-again c = λ y. leading-more y (c .before .before .before .before .before .before .before .before .before .before .before .before .before .loop .inv y) (c .before .before .before .before .before .before .before .before .before .before .before .before .loop-test .taken) (c .before .before .before .before .before .before .before .before .before .before .before .before2 .ensures) (rw (c .before .before .before .before .before .before .before .before .before .before .worked .ensures) at (c .before .before .before .before .before .before .before .before .fill .ensures)) _ _ (record { read = c .before .before .before .before .before .chance .ensures; rest = c .before .before .before .before .failure .ensures }) (rw (c .before .before .place .ensures) at (c .before .read .ensures)) (c .step .ensures)
+loop-again c =
+    let loop = c .before .before .before .before .before .before .before .before .before .before .before .before .before .loop in
+    let test = c .before .before .before .before .before .before .before .before .before .before .before .before .loop-test in
+    let before2 = c .before .before .before .before .before .before .before .before .before .before .before .before2 in
+    let worked = c .before .before .before .before .before .before .before .before .before .before .worked in
+    let fill = c .before .before .before .before .before .before .before .before .fill in
+    let chance = c .before .before .before .before .before .chance in
+    let failure = c .before .before .before .before .failure in
+    let place = c .before .before .place in
+    λ y. leading-more y (loop .inv y) (test .taken) (before2 .ensures) (rw (worked .ensures) at (fill .ensures)) _ _ (record { read = chance .ensures; rest = failure .ensures }) (rw (place .ensures) at (c .before .read .ensures)) (c .step .ensures)
 
 same-length : tie.Need-same-length Inv-loop μ-loop
-same-length c = (c .before .loop .inv (c .before .before .before .before .before .pre)) .kept .long
+same-length c =
+    let pre = c .before .before .before .before .before .pre in
+    (c .before .loop .inv pre) .kept .long
 
 returns : tie.Need-returns Inv-loop μ-loop
-returns c = (leading-last (c .before .before .before .before .before .pre) (c .loop-test .left) (c .before .loop .inv (c .before .before .before .before .before .pre)), (c .before .loop .inv (c .before .before .before .before .before .pre)) .kept)
+returns c =
+    let pre = c .before .before .before .before .before .pre in
+    (leading-last pre (c .loop-test .left) (c .before .loop .inv pre), (c .before .loop .inv pre) .kept)
 
 pub ring-spec : {M : Type 1} → statement M
 ring-spec =

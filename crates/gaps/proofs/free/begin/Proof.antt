@@ -17,7 +17,12 @@ same-length : tie.Need-same-length
 same-length c = search needs
 
 returns : tie.Need-returns
-returns c = begun (c .before .before .before .before .before .before .before .before .pre) (c .before .before .before .before .works .ensures) (c .before .before .before .worth .ensures) (c .before .before .write .ensures)
+returns c =
+    let pre = c .before .before .before .before .before .before .before .before .pre in
+    let works = c .before .before .before .before .works in
+    let worth = c .before .before .before .worth in
+    let write = c .before .before .write in
+    begun pre (works .ensures) (worth .ensures) (write .ensures)
 
 pub begin-spec : {M : Type 1} → statement M
 begin-spec = tie.close (tie.spec works-requires worth-requires write-requires same-length returns)

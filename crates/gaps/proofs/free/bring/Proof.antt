@@ -10,28 +10,46 @@ rest-requires : tie.Need-rest-requires
 rest-requires c κs = search needs
 
 reach-requires : tie.Need-reach-requires
-reach-requires c κs = record { none = c .before .before .before .before .before .before .before .before .pre .none; holds = c .before .before .before .before .before .before .before .before .pre .holds; order = rw (c .before .before .before .before .before .rest .ensures) (c .before .before .before .before .before .before .before .before .pre .order); most = omega (arith, c .before .before .before .before .before .rest .ensures, c .before .before .before .before .before .before .before .before .pre .size) }
+reach-requires c κs =
+    let pre = c .before .before .before .before .before .before .before .before .pre in
+    let rest = c .before .before .before .before .before .rest in
+    record { none = pre .none; holds = pre .holds; order = rw (rest .ensures) (pre .order); most = omega (arith, rest .ensures, pre .size) }
 
 same-length : tie.Need-same-length
 same-length c = search needs
 
 returns : tie.Need-returns
-returns c = rw (c .before .before .before .before .if1 .taken, c .before .before .before .before .before .before .before .before .rest .ensures) at (c .before .before .reach .ensures)
+returns c =
+    let rest = c .before .before .before .before .before .before .before .before .rest in
+    let if1 = c .before .before .before .before .if1 in
+    let reach = c .before .before .reach in
+    rw (if1 .taken, rest .ensures) at (reach .ensures)
 
 worked-many-requires : tie.Need-worked-many-requires
 worked-many-requires c κs = search needs
 
 begin-requires : tie.Need-begin-requires
-begin-requires c κs = bring-begun (c .before .before .before .before .before .before .before .before .before .pre) (c .before .worked-many .ensures)
+begin-requires c κs =
+    let pre = c .before .before .before .before .before .before .before .before .before .pre in
+    bring-begun pre (c .before .worked-many .ensures)
 
 reach-requires-2 : tie.Need-reach-requires-2
-reach-requires-2 c κs = reached-able (c .before .before .before .begin .ensures) (omega arith) (omega (arith, c .before .before .before .before .before .before .before .before .before .before .rest .ensures, c .before .before .before .before .before .before .before .before .before .before .before .before .before .pre .size))
+reach-requires-2 c κs =
+    let pre = c .before .before .before .before .before .before .before .before .before .before .before .before .before .pre in
+    let rest = c .before .before .before .before .before .before .before .before .before .before .rest in
+    let begin = c .before .before .before .begin in
+    reached-able (begin .ensures) (omega arith) (omega (arith, rest .ensures, pre .size))
 
 same-length-2 : tie.Need-same-length-2
 same-length-2 c = search needs
 
 returns-2 : tie.Need-returns-2
-returns-2 c = rw (ap (λ m. m .clean) (c .before .before .before .before .before .before .before .before .worked-many .ensures), c .before .before .before .before .before .before .before .before .before .before .before .before .before .rest .ensures) at (reached-on (c .before .before .before .before .before .before .begin .ensures) (c .before .before .reach2 .ensures))
+returns-2 c =
+    let rest = c .before .before .before .before .before .before .before .before .before .before .before .before .before .rest in
+    let worked-many = c .before .before .before .before .before .before .before .before .worked-many in
+    let begin = c .before .before .before .before .before .before .begin in
+    let reach2 = c .before .before .reach2 in
+    rw (ap (λ m. m .clean) (worked-many .ensures), rest .ensures) at (reached-on (begin .ensures) (reach2 .ensures))
 
 pub bring-spec : {M : Type 1} → statement M
 bring-spec =

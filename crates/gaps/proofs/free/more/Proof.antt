@@ -7,10 +7,14 @@ chance-requires : tie.Need-chance-requires
 chance-requires c κs = search needs
 
 failure-requires : tie.Need-failure-requires
-failure-requires c κs = rw (c .chance .ensures) (c .before .before .before .pre .list .units _)
+failure-requires c κs =
+    let pre = c .before .before .before .pre in
+    rw (c .chance .ensures) (pre .list .units _)
 
 step-requires : tie.Need-step-requires
-step-requires c κs = record { survival = rw (c .before .chance .ensures) (c .before .before .before .before .pre .list .units _); rest = c .failure .ensures; left = c .before .before .before .before .pre .works-small; right = c .before .before .before .before .pre .fails-small }
+step-requires c κs =
+    let pre = c .before .before .before .before .pre in
+    record { survival = rw (c .before .chance .ensures) (pre .list .units _); rest = c .failure .ensures; left = pre .works-small; right = pre .fails-small }
 
 add-write : tie.Need-add-write
 add-write c = search needs
@@ -22,7 +26,11 @@ same-length : tie.Need-same-length
 same-length c = search needs
 
 returns : tie.Need-returns
-returns c = (rw (c .before .before .before .before .before .before .chance .ensures) at (c .before .before .before .before .step .ensures), c .before .before .write .ensures)
+returns c =
+    let chance = c .before .before .before .before .before .before .chance in
+    let step = c .before .before .before .before .step in
+    let write = c .before .before .write in
+    (rw (chance .ensures) at (step .ensures), write .ensures)
 
 pub more-spec : {M : Type 1} → statement M
 more-spec =

@@ -18,22 +18,40 @@ reach-cut-requires : tie.Need-reach-cut-requires Inv-loop μ-loop
 reach-cut-requires c κs = search needs
 
 failed-requires : tie.Need-failed-requires Inv-loop μ-loop
-failed-requires c κs = omega (arith, c .before .before .before .before .before .before .before .pre .holds .asked .two)
+failed-requires c κs =
+    let pre = c .before .before .before .before .before .before .before .pre in
+    omega (arith, pre .holds .asked .two)
 
 read-requires : tie.Need-read-requires Inv-loop μ-loop
-read-requires c κs = holds-place (c .before .before .before .before .before .reach-cut .ensures .holds) _ (c .before .before .before .before .before .reach-cut .ensures .holds .most)
+read-requires c κs =
+    let reach-cut = c .before .before .before .before .before .reach-cut in
+    holds-place (reach-cut .ensures .holds) _ (reach-cut .ensures .holds .most)
 
 loop-holds : tie.Need-loop-holds Inv-loop μ-loop
-loop-holds c = let d = c .before .before .before .before .before .before .reach-cut .ensures in (d .most, d .done, rw (d .free) (stands-first (d .holds) (c .read .ensures)))
+loop-holds c =
+    let reach-cut = c .before .before .before .before .before .before .reach-cut in
+    let d = reach-cut .ensures in (d .most, d .done, rw (d .free) (stands-first (d .holds) (c .read .ensures)))
 
 paid-requires : tie.Need-paid-requires Inv-loop μ-loop
 paid-requires c κs =
-    let v = c .before .before .loop .inv in
+    let pre = c .before .before .before .before .before .before .before .before .before .before .before .before .before .pre in
+    let args = c .before .before .before .before .before .before .before .before .before .before .before .before .before .args in
+    let reach-cut = c .before .before .before .before .before .before .before .before .before .reach-cut in
+    let failed = c .before .before .before .before .before .failed in
+    let loop = c .before .before .loop in
+    let v = loop .inv in
     let l = c .before .loop-test .taken in
-    (passable (v .2 .holds) (failed-is (c .before .before .before .before .before .before .before .before .before .before .before .before .before .args .r) (c .before .before .before .before .before .before .before .before .before .reach-cut .result .free) (rw (c .before .before .before .before .before .before .before .before .before .reach-cut .ensures .free) refl) (c .before .before .before .before .before .failed .ensures)) (omega (arith, l, c .before .before .before .before .before .before .before .before .before .before .before .before .before .pre .most)), omega (arith, v .1 l, (ap (λ m. m .owed) (failed-is (c .before .before .before .before .before .before .before .before .before .before .before .before .before .args .r) (c .before .before .before .before .before .before .before .before .before .reach-cut .result .free) (rw (c .before .before .before .before .before .before .before .before .before .reach-cut .ensures .free) refl) (c .before .before .before .before .before .failed .ensures)))))
+    (passable (v .2 .holds) (failed-is (args .r) (reach-cut .result .free) (rw (reach-cut .ensures .free) refl) (failed .ensures)) (omega (arith, l, pre .most)), omega (arith, v .1 l, (ap (λ m. m .owed) (failed-is (args .r) (reach-cut .result .free) (rw (reach-cut .ensures .free) refl) (failed .ensures)))))
 
 more-requires : tie.Need-more-requires Inv-loop μ-loop
-more-requires c κs = stands-stepping (c .before .before .before .before .loop .inv .2) (omega (arith, c .before .before .before .loop-test .taken, c .before .before .before .before .before .before .before .before .before .before .before .before .before .before .before .pre .most)) (rw (failed-is (c .before .before .before .before .before .before .before .before .before .before .before .before .before .before .before .args .r) (c .before .before .before .before .before .before .before .before .before .before .before .reach-cut .result .free) (rw (c .before .before .before .before .before .before .before .before .before .before .before .reach-cut .ensures .free) refl) (c .before .before .before .before .before .before .before .failed .ensures)) at (c .before .paid .ensures))
+more-requires c κs =
+    let pre = c .before .before .before .before .before .before .before .before .before .before .before .before .before .before .before .pre in
+    let args = c .before .before .before .before .before .before .before .before .before .before .before .before .before .before .before .args in
+    let reach-cut = c .before .before .before .before .before .before .before .before .before .before .before .reach-cut in
+    let failed = c .before .before .before .before .before .before .before .failed in
+    let loop = c .before .before .before .before .loop in
+    let test = c .before .before .before .loop-test in
+    stands-stepping (loop .inv .2) (omega (arith, test .taken, pre .most)) (rw (failed-is (args .r) (reach-cut .result .free) (rw (reach-cut .ensures .free) refl) (failed .ensures)) at (c .before .paid .ensures))
 
 add-left : tie.Need-add-left Inv-loop μ-loop
 add-left c = search needs
@@ -43,19 +61,31 @@ loop-less c = search needs
 
 loop-again : tie.Need-loop-again Inv-loop μ-loop
 loop-again c =
-    let v = c .before .before .before .before .before .before .before .loop .inv in
-    let l = c .before .before .before .before .before .before .loop-test .taken in
-    let m = c .before .before .more .ensures in
-    (omega (arith, l), λ more. omega (arith, v .1 l), stands-more (v .2) (omega (arith, l, c .before .before .before .before .before .before .before .before .before .before .before .before .before .before .before .before .before .before .pre .most)) (rw (failed-is (c .before .before .before .before .before .before .before .before .before .before .before .before .before .before .before .before .before .before .args .r) (c .before .before .before .before .before .before .before .before .before .before .before .before .before .before .reach-cut .result .free) (rw (c .before .before .before .before .before .before .before .before .before .before .before .before .before .before .reach-cut .ensures .free) refl) (c .before .before .before .before .before .before .before .before .before .before .failed .ensures)) at (c .before .before .before .before .paid .ensures)) (m .0) (m .1))
+    let pre = c .before .before .before .before .before .before .before .before .before .before .before .before .before .before .before .before .before .before .pre in
+    let args = c .before .before .before .before .before .before .before .before .before .before .before .before .before .before .before .before .before .before .args in
+    let reach-cut = c .before .before .before .before .before .before .before .before .before .before .before .before .before .before .reach-cut in
+    let failed = c .before .before .before .before .before .before .before .before .before .before .failed in
+    let loop = c .before .before .before .before .before .before .before .loop in
+    let test = c .before .before .before .before .before .before .loop-test in
+    let paid = c .before .before .before .before .paid in
+    let more = c .before .before .more in
+    let v = loop .inv in
+    let l = test .taken in
+    let m = more .ensures in
+    (omega (arith, l), λ more. omega (arith, v .1 l), stands-more (v .2) (omega (arith, l, pre .most)) (rw (failed-is (args .r) (reach-cut .result .free) (rw (reach-cut .ensures .free) refl) (failed .ensures)) at (paid .ensures)) (m .0) (m .1))
 
 same-length : tie.Need-same-length Inv-loop μ-loop
-same-length c = kept-trans (c .before .before .before .before .before .before .before .before .reach-cut .ensures .kept) (c .before .loop .inv .2 .kept) .long
+same-length c =
+    let reach-cut = c .before .before .before .before .before .before .before .before .reach-cut in
+    kept-trans (reach-cut .ensures .kept) (c .before .loop .inv .2 .kept) .long
 
 returns : tie.Need-returns Inv-loop μ-loop
 returns c =
-    let d = c .before .before .before .before .before .before .before .before .reach-cut .ensures in
+    let args = c .before .before .before .before .before .before .before .before .before .before .before .before .args in
+    let reach-cut = c .before .before .before .before .before .before .before .before .reach-cut in
+    let d = reach-cut .ensures in
     let v = c .before .loop .inv in
-    let e : c .before .loop .left ≡ c .before .before .before .before .before .before .before .before .before .before .before .before .args .upto = omega (arith, v .0, c .loop-test .left) in
+    let e : c .before .loop .left ≡ args .upto = omega (arith, v .0, c .loop-test .left) in
     record { free = d .free; left = e; holds = rw (d .free, e) at (v .2 .holds); kept = kept-trans (d .kept) (v .2 .kept) }
 
 pub reach-spec : {M : Type 1} → statement M

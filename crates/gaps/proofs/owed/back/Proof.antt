@@ -17,13 +17,17 @@ loop-holds : tie.Need-loop-holds Inv-loop μ-loop
 loop-holds c = (c .before .pre .order, back-first (c .before .pre .value))
 
 before-requires : tie.Need-before-requires Inv-loop μ-loop
-before-requires c κs = rw (c .before .loop .inv .1 .is) (omega (arith, c .loop-test .taken, c .before .before .before .pre .size))
+before-requires c κs =
+    let pre = c .before .before .before .pre in
+    rw (c .before .loop .inv .1 .is) (omega (arith, c .loop-test .taken, pre .size))
 
 must-work-requires : tie.Need-must-work-requires Inv-loop μ-loop
 must-work-requires c κs =
-    let v = c .before .before .loop .inv .1 in
+    let pre = c .before .before .before .before .pre in
+    let loop = c .before .before .loop in
+    let v = loop .inv .1 in
     let l = c .before .loop-test .taken in
-    back-due v (c .before2 .ensures) (omega (arith, l, c .before .before .before .before .pre .size)) (omega (arith, l, c .before .before .before .before .pre .alive, v .least)) (c .before .before .before .before .pre .units)
+    back-due v (c .before2 .ensures) (omega (arith, l, pre .size)) (omega (arith, l, pre .alive, v .least)) (pre .units)
 
 add-i : tie.Need-add-i Inv-loop μ-loop
 add-i c = search needs
@@ -32,7 +36,10 @@ loop-less : tie.Need-loop-less Inv-loop μ-loop
 loop-less c = search needs
 
 loop-again : tie.Need-loop-again Inv-loop μ-loop
-loop-again c = (omega (arith, c .before .before .loop-test .taken), back-more (c .before .before .before .loop .inv .1) (c .before .before2 .ensures) (c .must-work .ensures))
+loop-again c =
+    let loop = c .before .before .before .loop in
+    let test = c .before .before .loop-test in
+    (omega (arith, test .taken), back-more (loop .inv .1) (c .before .before2 .ensures) (c .must-work .ensures))
 
 returns : tie.Need-returns Inv-loop μ-loop
 returns c = back-last (omega (arith, c .before .loop .inv .0, c .loop-test .left)) (c .before .loop .inv .1)

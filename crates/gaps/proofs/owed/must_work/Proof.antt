@@ -8,16 +8,25 @@ chance-requires : tie.Need-chance-requires
 chance-requires c κs = search needs
 
 failure-requires : tie.Need-failure-requires
-failure-requires c κs = rw (c .chance .ensures) (c .before .before .pre .units _)
+failure-requires c κs =
+    let pre = c .before .before .pre in
+    rw (c .chance .ensures) (pre .units _)
 
 worth-requires : tie.Need-worth-requires
 worth-requires c κs = search needs
 
 step-requires : tie.Need-step-requires
-step-requires c κs = due-steady (c .before .before .before .before .pre) _ _ (record { read = c .before .before .chance .ensures; rest = c .before .failure .ensures }) (c .worth .ensures)
+step-requires c κs =
+    let pre = c .before .before .before .before .pre in
+    let chance = c .before .before .chance in
+    due-steady pre _ _ (record { read = chance .ensures; rest = c .before .failure .ensures }) (c .worth .ensures)
 
 returns : tie.Need-returns
-returns c = due-more (c .before .before .before .before .before .pre) _ _ (record { read = c .before .before .before .chance .ensures; rest = c .before .before .failure .ensures }) (c .before .worth .ensures) (c .step .ensures)
+returns c =
+    let pre = c .before .before .before .before .before .pre in
+    let chance = c .before .before .before .chance in
+    let failure = c .before .before .failure in
+    due-more pre _ _ (record { read = chance .ensures; rest = failure .ensures }) (c .before .worth .ensures) (c .step .ensures)
 
 pub must-work-spec : {M : Type 1} → statement M
 must-work-spec =

@@ -11,13 +11,20 @@ worked-many-requires : tie.Need-worked-many-requires
 worked-many-requires c κs = search needs
 
 read-requires : tie.Need-read-requires
-read-requires c κs = paid-place (c .before .before .before .before .pre .0) (c .before .before .before .before .pre .1)
+read-requires c κs =
+    let pre = c .before .before .before .before .pre in
+    paid-place (pre .0) (pre .1)
 
 back-requires : tie.Need-back-requires
-back-requires c κs = paid-owing (c .before .before .before .before .before .pre .0) (c .before .before .before .before .before .pre .1) (c .before .worked-many .ensures) (c .read .ensures)
+back-requires c κs =
+    let pre = c .before .before .before .before .before .pre in
+    paid-owing (pre .0) (pre .1) (c .before .worked-many .ensures) (c .read .ensures)
 
 returns : tie.Need-returns
-returns c = paid-is (c .before .before .before .before .before .before .pre .0) (c .before .before .before .before .before .before .pre .1) (c .before .before .worked-many .ensures) (c .before .read .ensures) (c .back .ensures)
+returns c =
+    let pre = c .before .before .before .before .before .before .pre in
+    let worked-many = c .before .before .worked-many in
+    paid-is (pre .0) (pre .1) (worked-many .ensures) (c .before .read .ensures) (c .back .ensures)
 
 pub paid-spec : {M : Type 1} → statement M
 paid-spec = tie.close (tie.spec sub-from worked-many-requires read-requires back-requires returns)

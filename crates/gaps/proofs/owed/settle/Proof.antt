@@ -30,21 +30,36 @@ worth-requires : tie.Need-worth-requires Inv-loop μ-loop
 worth-requires c κs = search needs
 
 loop-holds : tie.Need-loop-holds Inv-loop μ-loop
-loop-holds c = (omega arith, back-first (end-worth _ _ (owed 0 0) (omega (arith, c .before .before .before .before .before .pre .two)) (c .before .works .ensures) (c .worth .ensures)), written-none)
+loop-holds c =
+    let pre = c .before .before .before .before .before .pre in
+    (omega arith, back-first (end-worth _ _ (owed 0 0) (omega (arith, pre .two)) (c .before .works .ensures) (c .worth .ensures)), written-none)
 
 add-write : tie.Need-add-write Inv-loop μ-loop
 add-write c = search needs
 
 write-requires : tie.Need-write-requires Inv-loop μ-loop
-write-requires c κs = record { low = omega (arith, c .before .loop-test .taken, c .before .before .before .before .before .lesser .ensures, c .before .before .before .before .before .before .before .before .pre .list .size); room = room-kept (c .before .before .loop .inv .2 .kept) (c .before .before .before .before .before .before .before .before .pre .list .room) }
+write-requires c κs =
+    let pre = c .before .before .before .before .before .before .before .before .pre in
+    let lesser = c .before .before .before .before .before .lesser in
+    let loop = c .before .before .loop in
+    record { low = omega (arith, c .before .loop-test .taken, lesser .ensures, pre .list .size); room = room-kept (loop .inv .2 .kept) (pre .list .room) }
 
 before-requires : tie.Need-before-requires Inv-loop μ-loop
-before-requires c κs = rw (c .before .before .before .before .before .loop .inv .1 .is) (omega (arith, c .before .before .before .before .loop-test .taken, c .before .before .before .before .before .before .before .before .lesser .ensures, c .before .before .before .before .before .before .before .before .before .before .before .pre .list .size))
+before-requires c κs =
+    let pre = c .before .before .before .before .before .before .before .before .before .before .before .pre in
+    let lesser = c .before .before .before .before .before .before .before .before .lesser in
+    let loop = c .before .before .before .before .before .loop in
+    let test = c .before .before .before .before .loop-test in
+    rw (loop .inv .1 .is) (omega (arith, test .taken, lesser .ensures, pre .list .size))
 
 must-work-requires : tie.Need-must-work-requires Inv-loop μ-loop
 must-work-requires c κs =
-    let l = c .before .before .before .before .before .loop-test .taken in
-    back-due (c .before .before .before .before .before .before .loop .inv .1) (c .before2 .ensures) (omega (arith, l, c .before .before .before .before .before .before .before .before .before .lesser .ensures)) (omega (arith, l, c .before .before .before .before .before .before .before .before .before .lesser .ensures)) (c .before .before .before .before .before .before .before .before .before .before .before .before .pre .list .units)
+    let pre = c .before .before .before .before .before .before .before .before .before .before .before .before .pre in
+    let lesser = c .before .before .before .before .before .before .before .before .before .lesser in
+    let loop = c .before .before .before .before .before .before .loop in
+    let test = c .before .before .before .before .before .loop-test in
+    let l = test .taken in
+    back-due (loop .inv .1) (c .before2 .ensures) (omega (arith, l, lesser .ensures)) (omega (arith, l, lesser .ensures)) (pre .list .units)
 
 add-i : tie.Need-add-i Inv-loop μ-loop
 add-i c = search needs
@@ -54,12 +69,17 @@ loop-less c = search needs
 
 loop-again : tie.Need-loop-again Inv-loop μ-loop
 loop-again c =
-    let v = c .before .before .before .before .before .before .before .loop .inv in
-    let l = c .before .before .before .before .before .before .loop-test .taken in
-    let same : c .before .before .before .before .before .before .before .loop .i - 0 ≡ c .before .before .before .before .before .before .before .loop .i = omega arith in (
+    let pre = c .before .before .before .before .before .before .before .before .before .before .before .before .before .pre in
+    let lesser = c .before .before .before .before .before .before .before .before .before .before .lesser in
+    let loop = c .before .before .before .before .before .before .before .loop in
+    let test = c .before .before .before .before .before .before .loop-test in
+    let write = c .before .before .before .before .write in
+    let v = loop .inv in
+    let l = test .taken in
+    let same : loop .i - 0 ≡ loop .i = omega arith in (
       omega (arith, l),
       back-more (v .1) (c .before .before2 .ensures) (c .must-work .ensures),
-      written-more (c .before .before .before .before .write .ensures) refl (omega (arith, l, c .before .before .before .before .before .before .before .before .before .before .lesser .ensures, c .before .before .before .before .before .before .before .before .before .before .before .before .before .pre .list .size)) (rw (same, zero-add) at (back-last refl (v .1))) (v .2),
+      written-more (write .ensures) refl (omega (arith, l, lesser .ensures, pre .list .size)) (rw (same, zero-add) at (back-last refl (v .1))) (v .2),
     )
 
 same-length : tie.Need-same-length Inv-loop μ-loop
@@ -67,9 +87,10 @@ same-length c = c .before .loop .inv .2 .kept .long
 
 returns : tie.Need-returns Inv-loop μ-loop
 returns c =
+    let lesser = c .before .before .before .before .lesser in
     let v = c .before .loop .inv in
-    let e : c .before .loop .i ≡ c .before .before .before .before .lesser .result = omega (arith, v .0, c .loop-test .left) in
-    (record { row = rw (e, c .before .before .before .before .lesser .ensures) at (v .2 .row) }, v .2 .kept)
+    let e : c .before .loop .i ≡ lesser .result = omega (arith, v .0, c .loop-test .left) in
+    (record { row = rw (e, lesser .ensures) at (v .2 .row) }, v .2 .kept)
 
 pub settle-spec : {M : Type 1} → statement M
 settle-spec =
