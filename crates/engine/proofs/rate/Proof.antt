@@ -1,7 +1,9 @@
 -- `rate` takes the kinds apart; the figure of each room is the rule's. Assumes nothing.
 use borrow.Author.Needs.{needs}
+use mathlib.Core.Path.{refl}
+use Rattle.rules.specs.Memory.{readingOf}
 use Rattle.rules.proofs.Accepted.{range4, range5, range6, range7}
-use Rattle.engine.proofs.Rooms.{in-runs, in-gaps, is4, is5, is6, is7}
+use Rattle.engine.proofs.Rooms.{in-runs, in-gaps, room-is}
 use Rattle.engine.proofs.rate.Statement.{statement}
 use Rattle.engine.proofs.rate.Tie as tie
 
@@ -32,37 +34,35 @@ same-length : tie.Need-same-length
 same-length c = search needs
 
 returns : tie.Need-returns
-returns c =
-    let match = c .before .before .before .before .match in
-    let line = c .before .before .line in
-    (is4 _ _ _ (match .keys1) (line .ensures .0), line .ensures .1)
+unfolding readingOf
+returns c = (room-is _ _ _ 4 (c .before .before .before .before .match .keys1) (λ up. refl) (c .before .before .line .ensures .0), c .before .before .line .ensures .1)
 
 same-length-2 : tie.Need-same-length-2
 same-length-2 c = search needs
 
 returns-2 : tie.Need-returns-2
-returns-2 c =
-    let match = c .before .before .before .before .match in
-    let ring = c .before .before .ring in
-    (is5 _ _ _ (match .keys2) (ring .ensures .0), ring .ensures .1)
+unfolding readingOf
+returns-2 c = (room-is _ _ _ 5 (c .before .before .before .before .match .keys2) (λ up. refl) (c .before .before .ring .ensures .0), c .before .before .ring .ensures .1)
 
 same-length-3 : tie.Need-same-length-3
 same-length-3 c = search needs
 
 returns-3 : tie.Need-returns-3
+unfolding readingOf
 returns-3 c =
     let match = c .before .before .before .before .match in
     let line2 = c .before .before .line2 in
-    (is6 _ _ _ (match .keys3) (line2 .ensures .0), line2 .ensures .1)
+    (room-is _ _ _ 6 (match .keys3) (λ up. refl) (line2 .ensures .0), line2 .ensures .1)
 
 same-length-4 : tie.Need-same-length-4
 same-length-4 c = search needs
 
 returns-4 : tie.Need-returns-4
+unfolding readingOf
 returns-4 c =
     let match = c .before .before .before .before .match in
     let ring2 = c .before .before .ring2 in
-    (is7 _ _ _ (match .keys4) (ring2 .ensures .0), ring2 .ensures .1)
+    (room-is _ _ _ 7 (match .keys4) (λ up. refl) (ring2 .ensures .0), ring2 .ensures .1)
 
 same-length-5 : tie.Need-same-length-5
 same-length-5 c = search needs

@@ -22,9 +22,7 @@ settle-requires : tie.Need-settle-requires
 settle-requires c κs = search needs
 
 start-requires : tie.Need-start-requires
-start-requires c κs =
-    let pre = c .before .before .before .before .before .before .pre in
-    omega (arith, pre .two)
+start-requires c κs = omega (arith, c .before .before .before .before .before .before .pre .two)
 
 begin-requires : tie.Need-begin-requires
 begin-requires c κs =
@@ -33,14 +31,10 @@ begin-requires c κs =
     start-begun pre (c .before .start .ensures) (settle .ensures .0) (settle .ensures .1)
 
 reach-requires : tie.Need-reach-requires
-reach-requires c κs =
-    let begin = c .before .before .before .begin in
-    reached-able (begin .ensures) (omega arith) (omega arith)
+reach-requires c κs = reached-able (c .before .before .before .begin .ensures) (omega arith) (omega arith)
 
 read-requires : tie.Need-read-requires
-read-requires c κs =
-    let reach = c .before .before .before .reach in
-    holds-place (reach .ensures .holds) _ (omega arith)
+read-requires c κs = holds-place (c .before .before .before .reach .ensures .holds) _ (omega arith)
 
 same-length : tie.Need-same-length
 same-length c = search needs

@@ -32,9 +32,7 @@ settle-requires : tie.Need-settle-requires Inv-loop μ-loop
 settle-requires c κs = search needs
 
 start-requires : tie.Need-start-requires Inv-loop μ-loop
-start-requires c κs =
-    let pre = c .before .before .before .before .before .before .pre in
-    omega (arith, pre .two)
+start-requires c κs = omega (arith, c .before .before .before .before .before .before .pre .two)
 
 begin-requires : tie.Need-begin-requires Inv-loop μ-loop
 begin-requires c κs =
@@ -43,9 +41,7 @@ begin-requires c κs =
     start-begun pre (c .before .start .ensures) (settle .ensures .0) (settle .ensures .1)
 
 after-requires : tie.Need-after-requires Inv-loop μ-loop
-after-requires c κs =
-    let pre = c .before .before .before .before .before .before .before .before .before .before .before .pre in
-    omega (arith, pre .two)
+after-requires c κs = omega (arith, c .before .before .before .before .before .before .before .before .before .before .before .pre .two)
 
 works-requires : tie.Need-works-requires Inv-loop μ-loop
 works-requires c κs = search needs

@@ -22,22 +22,16 @@ worth-requires : tie.Need-worth-requires Inv-loop μ-loop
 worth-requires c κs = search needs
 
 loop-holds : tie.Need-loop-holds Inv-loop μ-loop
-loop-holds c =
-    let pre = c .before .before .before .before .pre in
-    rw (c .before .rest .ensures) (back-first pre (c .worth .ensures))
+loop-holds c = rw (c .before .rest .ensures) (back-first (c .before .before .before .before .pre) (c .worth .ensures))
 
 before-requires : tie.Need-before-requires Inv-loop μ-loop
-before-requires c κs =
-    let pre = c .before .before .before .before .before .before .pre in
-    back-some pre _ (c .loop-test .taken) (c .before .loop .inv)
+before-requires c κs = back-some (c .before .before .before .before .before .before .pre) _ (c .loop-test .taken) (c .before .loop .inv)
 
 chance-requires : tie.Need-chance-requires Inv-loop μ-loop
 chance-requires c κs = search needs
 
 failure-requires : tie.Need-failure-requires Inv-loop μ-loop
-failure-requires c κs =
-    let pre = c .before .before .before .before .before .before .before .before .pre in
-    rw (c .chance .ensures) (pre .list .units _)
+failure-requires c κs = rw (c .chance .ensures) (c .before .before .before .before .before .before .before .before .pre .list .units _)
 
 worked-requires : tie.Need-worked-requires Inv-loop μ-loop
 worked-requires c κs = search needs
@@ -83,9 +77,7 @@ loop-again c =
     (before2 .ensures) (c .step .ensures)
 
 returns : tie.Need-returns Inv-loop μ-loop
-returns c =
-    let pre = c .before .before .before .before .before .before .pre in
-    back-last pre (c .loop-test .left) (c .before .loop .inv)
+returns c = back-last (c .before .before .before .before .before .before .pre) (c .loop-test .left) (c .before .loop .inv)
 
 pub back-spec : {M : Type 1} → statement M
 back-spec =

@@ -52,10 +52,8 @@ same-length : tie.Need-same-length Inv-loop μ-loop
 same-length c = search needs
 
 returns : tie.Need-returns Inv-loop μ-loop
-returns c =
-    let lesser = c .before .before .lesser in
-    let e : c .before .loop .left ≡ suc (lesser .result) = omega (arith, c .before .loop .inv .0, c .loop-test .left) in
-    (lesser .ensures, rw (e, lesser .ensures) at (c .before .loop .inv .1))
+returns c = let e : c .before .loop .left ≡ suc (c .before .before .lesser .result) = omega (arith, c .before .loop .inv .0, c .loop-test .left) in
+    (c .before .before .lesser .ensures, rw (e, c .before .before .lesser .ensures) at (c .before .loop .inv .1))
 
 pub decide-spec : {M : Type 1} → statement M
 decide-spec =

@@ -60,17 +60,13 @@ loop-again c =
     (omega arith, λ more. omega (arith, v .1 l), filled-more (fillable-kept pre (decide .ensures .1 .kept)) (v .2) l (back .ensures) (write .ensures))
 
 same-length : tie.Need-same-length Inv-loop μ-loop
-same-length c =
-    let decide = c .before .before .before .before .decide in
-    kept-trans (decide .ensures .1 .kept) (c .before .loop .inv .2 .kept) .long
+same-length c = kept-trans (c .before .before .before .before .decide .ensures .1 .kept) (c .before .loop .inv .2 .kept) .long
 
 returns : tie.Need-returns Inv-loop μ-loop
 returns c =
-    let args = c .before .before .before .before .before .before .before .before .args in
-    let decide = c .before .before .before .before .decide in
     let v = c .before .loop .inv in
-    let e : c .before .loop .left ≡ args .upto = omega (arith, v .0, c .loop-test .left) in
-    record { row = rw e at (v .2 .row); kept = kept-trans (decide .ensures .1 .kept) (v .2 .kept) }
+    let e : c .before .loop .left ≡ c .before .before .before .before .before .before .before .before .args .upto = omega (arith, v .0, c .loop-test .left) in
+    record { row = rw e at (v .2 .row); kept = kept-trans (c .before .before .before .before .decide .ensures .1 .kept) (v .2 .kept) }
 
 pub fill-spec : {M : Type 1} → statement M
 fill-spec =

@@ -14,9 +14,7 @@ fill-requires c κs =
     rw (c .before .start .ensures) (record { free = record { none = refl; alive = pre .some }; size = search needs; list = pre .list })
 
 place-requires : tie.Need-place-requires
-place-requires c κs =
-    let start = c .before .before .before .before .before .start in
-    ap (λ m. m .run) (start .ensures)
+place-requires c κs = ap (λ m. m .run) (c .before .before .before .before .before .start .ensures)
 
 read-requires : tie.Need-read-requires
 read-requires c κs = search needs

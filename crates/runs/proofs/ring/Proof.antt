@@ -47,14 +47,10 @@ chance-requires c κs =
     omega (arith, test .taken, (loop .inv pre) .all)
 
 failure-requires : tie.Need-failure-requires Inv-loop μ-loop
-failure-requires c κs =
-    let pre = c .before .before .before .before .before .before .before .before .before .before .before .before .pre in
-    rw (c .chance .ensures) (pre .list .units _)
+failure-requires c κs = rw (c .chance .ensures) (c .before .before .before .before .before .before .before .before .before .before .before .before .pre .list .units _)
 
 place-requires : tie.Need-place-requires Inv-loop μ-loop
-place-requires c κs =
-    let worked = c .before .before .before .before .before .before .before .worked in
-    rw (worked .ensures) refl
+place-requires c κs = rw (c .before .before .before .before .before .before .before .worked .ensures) refl
 
 read-requires : tie.Need-read-requires Inv-loop μ-loop
 read-requires c κs =
@@ -101,9 +97,7 @@ loop-again c =
     λ y. leading-more y (loop .inv y) (test .taken) (before2 .ensures) (rw (worked .ensures) at (fill .ensures)) _ _ (record { read = chance .ensures; rest = failure .ensures }) (rw (place .ensures) at (c .before .read .ensures)) (c .step .ensures)
 
 same-length : tie.Need-same-length Inv-loop μ-loop
-same-length c =
-    let pre = c .before .before .before .before .before .pre in
-    (c .before .loop .inv pre) .kept .long
+same-length c = (c .before .loop .inv (c .before .before .before .before .before .pre)) .kept .long
 
 returns : tie.Need-returns Inv-loop μ-loop
 returns c =

@@ -29,9 +29,7 @@ worked-many-requires : tie.Need-worked-many-requires
 worked-many-requires c κs = search needs
 
 begin-requires : tie.Need-begin-requires
-begin-requires c κs =
-    let pre = c .before .before .before .before .before .before .before .before .before .pre in
-    bring-begun pre (c .before .worked-many .ensures)
+begin-requires c κs = bring-begun (c .before .before .before .before .before .before .before .before .before .pre) (c .before .worked-many .ensures)
 
 reach-requires-2 : tie.Need-reach-requires-2
 reach-requires-2 c κs =

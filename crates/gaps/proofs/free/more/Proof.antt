@@ -7,9 +7,7 @@ chance-requires : tie.Need-chance-requires
 chance-requires c κs = search needs
 
 failure-requires : tie.Need-failure-requires
-failure-requires c κs =
-    let pre = c .before .before .before .pre in
-    rw (c .chance .ensures) (pre .list .units _)
+failure-requires c κs = rw (c .chance .ensures) (c .before .before .before .pre .list .units _)
 
 step-requires : tie.Need-step-requires
 step-requires c κs =

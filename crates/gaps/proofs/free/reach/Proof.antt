@@ -18,9 +18,7 @@ reach-cut-requires : tie.Need-reach-cut-requires Inv-loop μ-loop
 reach-cut-requires c κs = search needs
 
 failed-requires : tie.Need-failed-requires Inv-loop μ-loop
-failed-requires c κs =
-    let pre = c .before .before .before .before .before .before .before .pre in
-    omega (arith, pre .holds .asked .two)
+failed-requires c κs = omega (arith, c .before .before .before .before .before .before .before .pre .holds .asked .two)
 
 read-requires : tie.Need-read-requires Inv-loop μ-loop
 read-requires c κs =
@@ -75,9 +73,7 @@ loop-again c =
     (omega (arith, l), λ more. omega (arith, v .1 l), stands-more (v .2) (omega (arith, l, pre .most)) (rw (failed-is (args .r) (reach-cut .result .free) (rw (reach-cut .ensures .free) refl) (failed .ensures)) at (paid .ensures)) (m .0) (m .1))
 
 same-length : tie.Need-same-length Inv-loop μ-loop
-same-length c =
-    let reach-cut = c .before .before .before .before .before .before .before .before .reach-cut in
-    kept-trans (reach-cut .ensures .kept) (c .before .loop .inv .2 .kept) .long
+same-length c = kept-trans (c .before .before .before .before .before .before .before .before .reach-cut .ensures .kept) (c .before .loop .inv .2 .kept) .long
 
 returns : tie.Need-returns Inv-loop μ-loop
 returns c =

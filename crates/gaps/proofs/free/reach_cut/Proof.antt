@@ -25,17 +25,13 @@ abbrev μ-loop : tie.MeasureT-loop
 μ-loop r upto survival table₀ free m last left₀ works₀ table left works = last - left
 
 failed-requires : tie.Need-failed-requires Inv-loop μ-loop
-failed-requires c κs =
-    let pre = c .before .before .before .pre in
-    omega (arith, pre .holds .asked .two)
+failed-requires c κs = omega (arith, c .before .before .before .pre .holds .asked .two)
 
 lesser-requires : tie.Need-lesser-requires Inv-loop μ-loop
 lesser-requires c κs = search needs
 
 read-requires : tie.Need-read-requires Inv-loop μ-loop
-read-requires c κs =
-    let pre = c .before .before .before .before .before .before .pre in
-    holds-place (pre .holds) _ (pre .holds .most)
+read-requires c κs = holds-place (c .before .before .before .before .before .before .pre .holds) _ (c .before .before .before .before .before .before .pre .holds .most)
 
 loop-holds : tie.Need-loop-holds Inv-loop μ-loop
 loop-holds c =

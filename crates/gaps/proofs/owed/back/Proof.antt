@@ -17,9 +17,7 @@ loop-holds : tie.Need-loop-holds Inv-loop μ-loop
 loop-holds c = (c .before .pre .order, back-first (c .before .pre .value))
 
 before-requires : tie.Need-before-requires Inv-loop μ-loop
-before-requires c κs =
-    let pre = c .before .before .before .pre in
-    rw (c .before .loop .inv .1 .is) (omega (arith, c .loop-test .taken, pre .size))
+before-requires c κs = rw (c .before .loop .inv .1 .is) (omega (arith, c .loop-test .taken, c .before .before .before .pre .size))
 
 must-work-requires : tie.Need-must-work-requires Inv-loop μ-loop
 must-work-requires c κs =

@@ -19,9 +19,7 @@ read-requires c κs = search needs
 
 returns : tie.Need-returns
 returns c =
-    let worked-many = c .before .before .before .worked-many in
-    let works = c .before .before .works in
-    let e = sym (works .ensures ∙ ap owedWorks (worked-many .ensures)) ∙ c .before .if1 .taken in
+    let e = sym (c .before .before .works .ensures ∙ ap owedWorks (c .before .before .before .worked-many .ensures)) ∙ c .before .if1 .taken in
     record { low = rw e (c .read .ensures .low); high = rw e (c .read .ensures .high) }
 
 worth-requires : tie.Need-worth-requires
@@ -29,9 +27,7 @@ worth-requires c κs = search needs
 
 returns-2 : tie.Need-returns-2
 returns-2 c =
-    let worked-many = c .before .before .before .worked-many in
-    let works = c .before .before .works in
-    let e = sym (works .ensures ∙ ap owedWorks (worked-many .ensures)) ∙ c .before .if1 .left in
+    let e = sym (c .before .before .works .ensures ∙ ap owedWorks (c .before .before .before .worked-many .ensures)) ∙ c .before .if1 .left in
     record { low = rw e (c .worth .ensures .low); high = rw e (c .worth .ensures .high) }
 
 pub cut-short-spec : {M : Type 1} → statement M

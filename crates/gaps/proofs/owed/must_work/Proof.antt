@@ -8,9 +8,7 @@ chance-requires : tie.Need-chance-requires
 chance-requires c κs = search needs
 
 failure-requires : tie.Need-failure-requires
-failure-requires c κs =
-    let pre = c .before .before .pre in
-    rw (c .chance .ensures) (pre .units _)
+failure-requires c κs = rw (c .chance .ensures) (c .before .before .pre .units _)
 
 worth-requires : tie.Need-worth-requires
 worth-requires c κs = search needs

@@ -11,9 +11,7 @@ worked-many-requires : tie.Need-worked-many-requires
 worked-many-requires c κs = search needs
 
 read-requires : tie.Need-read-requires
-read-requires c κs =
-    let pre = c .before .before .before .before .pre in
-    paid-place (pre .0) (pre .1)
+read-requires c κs = paid-place (c .before .before .before .before .pre .0) (c .before .before .before .before .pre .1)
 
 back-requires : tie.Need-back-requires
 back-requires c κs =

@@ -8,9 +8,7 @@ cut-short-requires : tie.Need-cut-short-requires
 cut-short-requires c κs = search needs
 
 returns : tie.Need-returns
-returns c =
-    let pre = c .before .before .before .before .before .pre in
-    past-is pre (c .before .if1 .taken) (c .cut-short .ensures)
+returns c = past-is (c .before .before .before .before .before .pre) (c .before .if1 .taken) (c .cut-short .ensures)
 
 paid-requires : tie.Need-paid-requires
 paid-requires c κs = search needs

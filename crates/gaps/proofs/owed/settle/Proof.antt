@@ -87,10 +87,9 @@ same-length c = c .before .loop .inv .2 .kept .long
 
 returns : tie.Need-returns Inv-loop μ-loop
 returns c =
-    let lesser = c .before .before .before .before .lesser in
     let v = c .before .loop .inv in
-    let e : c .before .loop .i ≡ lesser .result = omega (arith, v .0, c .loop-test .left) in
-    (record { row = rw (e, lesser .ensures) at (v .2 .row) }, v .2 .kept)
+    let e : c .before .loop .i ≡ c .before .before .before .before .lesser .result = omega (arith, v .0, c .loop-test .left) in
+    (record { row = rw (e, c .before .before .before .before .lesser .ensures) at (v .2 .row) }, v .2 .kept)
 
 pub settle-spec : {M : Type 1} → statement M
 settle-spec =
