@@ -9,9 +9,7 @@ use native.Mathlib.Omega.{arith}
 use lib.ListN.{length, getD, take, length-append}
 use lib.Seq.{take-all, take-add}
 use Rattle.rules.specs.Below.{listBelow}
-use Rattle.rules.specs.File.{Deck, nthNumber, numbersFrom, allBytes, headerOf, systemNumbers, fileOf, systemIn, deckIn, fileRefusal, fansIn, countIn}
-use Rattle.rules.specs.File.{version, versionField, survivalField, headerLength, survivalBytes, weightBytes, systemBytes}
-use Rattle.rules.specs.File.{survivalOffset, weightsOffset, systemsOffset}
+use Rattle.rules.specs.File.{Deck, nthNumber, numbersFrom, allBytes, headerOf, systemNumbers, fileOf, systemIn, deckIn, fileRefusal, fansIn, countIn, version, versionField, survivalField, headerLength, survivalBytes, weightBytes, systemBytes, survivalOffset, weightsOffset, systemsOffset}
 use Rattle.deck.specs.Bounds.{Bytes, Bounds}
 use Rattle.rules.proofs.Lists.{below-length}
 use Rattle.deck.proofs.Lists.{under-none, under-cons, under-below}

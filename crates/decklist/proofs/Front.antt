@@ -10,9 +10,7 @@ use lib.ListN.{length, take}
 use lib.Seq.{length-take-le, getD-take}
 use borrow.Author.Tests.{le-ltb, ne-eqb, not-false}
 use Rattle.rules.specs.Refusal.{badSize}
-use Rattle.rules.specs.File.{versionField, zeroField, fansField, countField, survivalField, weightsField, systemsField, headerLength}
-use Rattle.rules.specs.File.{mostFans, mostSystems, survivalOffset, weightsOffset, systemsOffset, fileLength}
-use Rattle.rules.specs.File.{numberAt, fansIn, countIn, badLayout, fileRefusal}
+use Rattle.rules.specs.File.{versionField, zeroField, fansField, countField, survivalField, weightsField, systemsField, headerLength, mostFans, mostSystems, survivalOffset, weightsOffset, systemsOffset, fileLength, numberAt, fansIn, countIn, badLayout, fileRefusal}
 use Rattle.rules.proofs.Seven.{within-true}
 use Rattle.rules.proofs.Accepted.{first-same}
 use Rattle.deck.proofs.Sound.{sound}

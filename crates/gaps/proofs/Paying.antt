@@ -4,16 +4,14 @@ use mathlib.Core.Path.{_≡_, refl, sym, ap, _∙_}
 use mathlib.Core.Bool.{Bool, true, false, cond}
 use mathlib.Core.List.{List}
 use Prim.Native.Nat.{ℕ, zero, suc, _+_, _-_, _≤_, _<_}
-use native.Mathlib.Nat.{add-zero}
 use native.Mathlib.Numerals.{add-one}
 use native.Mathlib.Omega.{arith}
 use lib.Dec.{leb}
 use lib.ListN.{length, getD}
-use borrow.Author.Tests.{le-leb, ne-eqb}
+use borrow.Author.Tests.{ne-eqb}
 use Rattle.rules.specs.State.{S}
 use Rattle.rules.specs.Figure.{rounded, mixed, value}
 use Rattle.rules.proofs.Rounding.{nothing}
-use Rattle.rules.proofs.Tests.{by-both}
 use Rattle.memory.specs.declared.owed.Owed.{Owed}
 use Rattle.memory.specs.Owed.{owed, owedWorked, owedWorks, owing}
 use Rattle.memory.proofs.Owing.{owed-works, owed-fails, owed-ends, owed-dead}
@@ -21,7 +19,7 @@ use Rattle.places.specs.declared.Ends.{Ends}
 use Rattle.places.specs.Cells.{Both, Steady, one, worthOf}
 use Rattle.places.proofs.Cells.{both-at, both-as}
 use Rattle.places.proofs.Values.{Chance, worth-dead, worth-suc, worth-within}
-use Rattle.gaps.specs.Gaps.{Due, Owing}
+use Rattle.gaps.specs.Gaps.{Due}
 
 module _ (r : ℕ) (survival : List ℕ) (up : Bool) where
   -- a memory that owes nothing before a component

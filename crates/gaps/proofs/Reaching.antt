@@ -3,7 +3,7 @@
 use mathlib.Core.Path.{_≡_, refl, sym, ap, _∙_}
 use mathlib.Core.Bool.{Bool, cond}
 use mathlib.Core.List.{List}
-use Prim.Native.Nat.{ℕ, suc, _+_, _-_, _≤_, _<_, min}
+use Prim.Native.Nat.{ℕ, suc, _+_, _-_, _≤_, _<_}
 use native.Mathlib.Nat.{zero-add}
 use native.Mathlib.Omega.{arith}
 use lib.Dec.{leb}
@@ -13,7 +13,7 @@ use Rattle.rules.specs.Figure.{rounded, mixed}
 use Rattle.memory.specs.declared.owed.Owed.{Owed}
 use Rattle.memory.specs.Owed.{owed, owedFailed, owedWorks, owing}
 use Rattle.places.specs.declared.Ends.{Ends}
-use Rattle.places.specs.Cells.{Both, Shelf, Put, Kept, Place, cellAt, half, one, worthOf}
+use Rattle.places.specs.Cells.{Both, Put, Kept, Place, cellAt, half, one, worthOf}
 use Rattle.places.proofs.Cells.{both-at, both-as, row-none, row-other, row-more, workable-kept, kept-none, kept-trans}
 use Rattle.places.proofs.Values.{worth-within}
 use Rattle.gaps.specs.declared.Known.{Known}

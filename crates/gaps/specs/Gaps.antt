@@ -1,6 +1,5 @@
 -- Kinds 6 and 7: what the table holds of memories that owe as many as are left and of one that owes nothing, and what each function is handed.
 use mathlib.Core.Path.{_≡_}
-use mathlib.Core.Bool.{Bool}
 use mathlib.Core.List.{List}
 use Prim.Native.Nat.{ℕ, suc, _+_, _-_, _≤_, _<_, min}
 use lib.ListN.{length, getD}
@@ -8,7 +7,7 @@ use Rattle.rules.specs.State.{S}
 use Rattle.memory.specs.declared.owed.Owed.{Owed}
 use Rattle.memory.specs.Owed.{owed, owedWorked, owing}
 use Rattle.places.specs.declared.Ends.{Ends}
-use Rattle.places.specs.Cells.{Both, Shelf, Kept, Place, Within, Workable, half, worthOf}
+use Rattle.places.specs.Cells.{Both, Shelf, Kept, Within, Workable, half, worthOf}
 use Rattle.gaps.specs.declared.Known.{Known}
 
 -- a rule in range

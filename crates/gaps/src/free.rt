@@ -1,5 +1,4 @@
 // The memory that owes nothing: working it stays, and a failed component makes it owe.
-ghost use mathlib.Core.Path.{_≡_};
 ghost use Prim.Native.Nat.{_+_, _-_};
 ghost use lib.ListN.{getD};
 ghost use Rattle.rules.specs.State.{S};

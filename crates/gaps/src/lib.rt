@@ -6,7 +6,6 @@
 mod free; // free.rt: the memory that owes nothing, known for more and more components left
 mod owed; // owed.rt: memories that owe
 
-ghost use mathlib.Core.Path.{_≡_};
 ghost use Rattle.rules.specs.State.{S};
 ghost use Rattle.rules.specs.Memory.{row6, row7};
 ghost use Rattle.rules.specs.Figure.{figureOf};

@@ -1,5 +1,4 @@
 // Memories that owe: each component must work until the debt is paid.
-ghost use mathlib.Core.Path.{_≡_};
 ghost use mathlib.Core.Bool.{cond};
 ghost use Prim.Native.Nat.{_+_, _-_, _≤_};
 ghost use Rattle.memory.specs.Owed.{owed, owing, owedWorks};

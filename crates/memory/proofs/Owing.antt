@@ -1,10 +1,8 @@
 -- Rows 6 and 7: what the program's memory owes reads as document 01's pair (x, g), and as the line's number g past as many clean ones as can count;
 -- one that owes r is dead. Assumes nothing.
-use mathlib.Core.Path.{_≡_, refl, ap}
-use mathlib.Core.Bool.{cond}
-use Prim.Native.Nat.{ℕ, zero, suc, _+_, _-_, _≤_, _<_}
+use mathlib.Core.Path.{_≡_}
+use Prim.Native.Nat.{ℕ, zero, suc, _-_, _≤_, _<_}
 use native.Mathlib.Omega.{arith}
-use lib.Dec.{eqb}
 use borrow.Author.Tests.{le-leb, lt-leb, ne-eqb}
 use Rattle.rules.specs.Memory.{Memory, live, dead, moved, ended, machineOf, row6, row7, Ring, pair, working7, failing7, end7}
 use Rattle.rules.proofs.Apart.{line-gap}

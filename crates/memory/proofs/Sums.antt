@@ -1,6 +1,6 @@
 -- Rows 1 to 3: the program's sum reads as document 01's memory. A sum below k stands for the living memory of that number, one from k on for the
 -- dead one; under row 3 every sum is a living memory. Each step keeps it so. Assumes nothing.
-use mathlib.Core.Path.{_≡_, refl, ap}
+use mathlib.Core.Path.{_≡_, refl}
 use mathlib.Core.Bool.{Bool, true, false, cond, not}
 use Prim.Native.Nat.{ℕ, suc, _+_, _≤_, _<_}
 use native.Mathlib.Omega.{arith}

@@ -4,7 +4,7 @@ use mathlib.Core.Path.{_≡_, refl}
 use mathlib.Core.Bool.{Bool, false}
 use Prim.Native.Nat.{ℕ, zero, suc, _<_}
 use Rattle.rules.specs.State.{down}
-use Rattle.rules.specs.Memory.{Machine, run, Memory, dead, Row, moved, ended, machineOf}
+use Rattle.rules.specs.Memory.{Machine, run, dead, Row, moved, ended, machineOf}
 use Rattle.rules.specs.Figure.{value}
 use Rattle.rules.proofs.Tests.{by-test}
 use Rattle.rules.proofs.Rounding.{nothing}

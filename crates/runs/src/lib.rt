@@ -3,13 +3,12 @@
 // A component that works brings back the memory with no run, so of one lead only that memory is kept: what it is worth with i components left stands at
 // place i. Each value comes of the earlier ones by one run taken back. The table is all that a ring uses: one lead at a time, each written over the last.
 ghost use mathlib.Core.Path.{_≡_};
-ghost use Prim.Native.Nat.{suc, _-_, _≤_, _<_, min};
-ghost use lib.ListN.{length};
+ghost use Prim.Native.Nat.{suc, _-_, _<_, min};
 ghost use Rattle.rules.specs.State.{S};
 ghost use Rattle.rules.specs.Memory.{row4, row5};
 ghost use Rattle.rules.specs.Figure.{figureOf};
 ghost use Rattle.memory.specs.Run.{run, running};
-ghost use Rattle.places.specs.Cells.{Both, Kept, Written, Workable, worthOf};
+ghost use Rattle.places.specs.Cells.{Both, Kept, Written, worthOf};
 ghost use Rattle.runs.specs.Runs.{Decidable, Falling, Fillable, Filled, Asked};
 use memory::run::Lead;
 use memory::run::Run;

@@ -3,8 +3,7 @@
 use mathlib.Core.Path.{ap, ap₂, _∙_}
 use native.Mathlib.Omega.{arith}
 use Rattle.rules.specs.Below.{listBelow}
-use Rattle.rules.specs.File.{mostFans, mostSystems, survivalBytes, weightBytes, survivalOffset, weightsOffset, systemsOffset}
-use Rattle.rules.specs.File.{numbersFrom, nthSystem, deckIn}
+use Rattle.rules.specs.File.{mostFans, mostSystems, survivalBytes, weightBytes, survivalOffset, weightsOffset, systemsOffset, numbersFrom, nthSystem, deckIn}
 use Rattle.deck.specs.Read.{padded, noSystem, keptDeck}
 use Rattle.deck.proofs.Sound.{sound}
 use Rattle.deck.proofs.kept_deck.Statement.{statement}

@@ -5,16 +5,6 @@ use native.Mathlib.Omega.{arith}
 use Rattle.places.proofs.Cells.{kept-trans}
 use Rattle.gaps.proofs.Reaching.{holds-place, reached-able, reached-on}
 use Rattle.gaps.proofs.Whole.{start-begun, line-is}
-use mathlib.Core.Path.{ap}
-use native.Mathlib.Omega.{arith}
-use Rattle.places.proofs.Cells.{kept-trans}
-use Rattle.gaps.proofs.Reaching.{holds-place, reached-able, reached-on}
-use Rattle.gaps.proofs.Whole.{start-begun, line-is}
-use mathlib.Core.Path.{ap}
-use native.Mathlib.Omega.{arith}
-use Rattle.places.proofs.Cells.{kept-trans}
-use Rattle.gaps.proofs.Reaching.{holds-place, reached-able, reached-on}
-use Rattle.gaps.proofs.Whole.{start-begun, line-is}
 use Rattle.gaps.proofs.line.Statement.{statement}
 use Rattle.gaps.proofs.line.Tie as tie
 

@@ -6,19 +6,6 @@ use native.Mathlib.Omega.{arith}
 use lib.ListN.{length}
 use Rattle.places.proofs.Cells.{kept-trans}
 use Rattle.gaps.proofs.Whole.{start-begun, closed-is, Closing, closing-first, closing-last, closing-bringable, closing-passable, closing-steady, closing-more}
-use mathlib.Core.Path.{_≡_, refl, ap}
-use Prim.Native.Nat.{_-_}
-use native.Mathlib.Omega.{arith}
-use lib.ListN.{length}
-use Rattle.places.proofs.Cells.{kept-trans}
-use Rattle.gaps.proofs.Whole.{start-begun, closed-is, Closing, closing-first, closing-last, closing-bringable, closing-passable, closing-steady, closing-more}
-use mathlib.Core.Path.{ap, _∙_}
-use Prim.Native.Nat.{_-_, min}
-use native.Mathlib.Omega.{arith}
-use Rattle.memory.specs.Owed.{owed}
-use Rattle.places.proofs.Cells.{kept-trans}
-use Rattle.gaps.specs.Gaps.{Asked}
-use Rattle.gaps.proofs.Whole.{asked-kept, start-begun, Closing, closing-first, closing-last, closing-bringable, closing-passable, closing-steady, closing-more}
 use Rattle.gaps.proofs.ring.Statement.{statement}
 use Rattle.gaps.proofs.ring.Tie as tie
 

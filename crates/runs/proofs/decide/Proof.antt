@@ -1,11 +1,11 @@
 -- `decide` writes the unit as long as the lead and all that is left stay below k. Assumes nothing.
 use borrow.Author.Needs.{needs}
-use mathlib.Core.Path.{_≡_, sym}
-use Prim.Native.Nat.{suc, _+_, _-_, _≤_, min}
+use mathlib.Core.Path.{_≡_}
+use Prim.Native.Nat.{suc, _-_, _≤_}
 use native.Mathlib.Omega.{arith}
 use Rattle.rules.specs.State.{S}
 use Rattle.places.specs.Cells.{Written}
-use Rattle.places.proofs.Cells.{written-none, written-more, room-kept}
+use Rattle.places.proofs.Cells.{written-more}
 use Rattle.runs.proofs.decide.Statement.{statement}
 use Rattle.runs.proofs.decide.Tie as tie
 

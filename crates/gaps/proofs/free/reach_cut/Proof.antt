@@ -1,20 +1,10 @@
 -- `reach_cut` goes on while debts are cut short. Assumes nothing.
 use borrow.Author.Needs.{needs}
-use mathlib.Core.Path.{_≡_, ap}
+use mathlib.Core.Path.{ap}
 use Prim.Native.Nat.{_-_, _≤_}
 use native.Mathlib.Omega.{arith}
 use Rattle.memory.specs.Owed.{owed}
 use Rattle.gaps.proofs.Reaching.{Stands, holds-place, cut-place, cut-is, failed-is, stands-first, stands-stepping, stands-more}
-use mathlib.Core.Path.{_≡_, ap}
-use Prim.Native.Nat.{_-_, _≤_}
-use native.Mathlib.Omega.{arith}
-use Rattle.memory.specs.Owed.{owed}
-use Rattle.gaps.proofs.Reaching.{Stands, holds-place, cut-place, cut-is, failed-is, stands-first, stands-stepping, stands-more}
-use mathlib.Core.Path.{_≡_, ap, _∙_}
-use Prim.Native.Nat.{ℕ, _-_, _≤_}
-use native.Mathlib.Omega.{arith}
-use Rattle.memory.specs.Owed.{owed}
-use Rattle.gaps.proofs.Reaching.{Stands, holds-place, holds-at, cut-place, cut-is, stands-stepping, stands-more}
 use Rattle.gaps.proofs.free.reach_cut.Statement.{statement}
 use Rattle.gaps.proofs.free.reach_cut.Tie as tie
 

@@ -1,6 +1,5 @@
 -- `back` takes a debt back a component at a time. Assumes nothing.
 use borrow.Author.Needs.{needs}
-use mathlib.Core.Path.{_≡_}
 use Prim.Native.Nat.{_-_, _≤_}
 use native.Mathlib.Omega.{arith}
 use Rattle.gaps.proofs.Paying.{Back, back-first, back-last, back-due, back-more}

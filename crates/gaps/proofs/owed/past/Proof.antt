@@ -1,6 +1,6 @@
 -- `past` takes apart a debt that is cut short and one that is paid. Assumes nothing.
 use borrow.Author.Needs.{needs}
-use Rattle.gaps.proofs.Reaching.{cut-place, past-is}
+use Rattle.gaps.proofs.Reaching.{past-is}
 use Rattle.gaps.proofs.owed.past.Statement.{statement}
 use Rattle.gaps.proofs.owed.past.Tie as tie
 

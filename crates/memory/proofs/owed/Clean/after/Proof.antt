@@ -1,7 +1,7 @@
 -- `after` takes the lesser of two numbers. Assumes nothing.
 use borrow.Author.Needs.{needs}
-use mathlib.Core.Path.{_≡_, ap}
-use Prim.Native.Nat.{_-_, min}
+use mathlib.Core.Path.{ap}
+use Prim.Native.Nat.{_-_}
 use native.Mathlib.Omega.{arith}
 use Rattle.memory.specs.Owed.{clean}
 use Rattle.memory.proofs.owed.Clean.after.Statement.{statement}
