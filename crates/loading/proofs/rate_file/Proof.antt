@@ -7,7 +7,7 @@ use borrow.Author.Tests.{not-false}
 use Rattle.rules.specs.declared.Rating.the-variants.{Refused}
 use Rattle.rules.proofs.Seven.{within-true}
 use Rattle.deck.specs.Read.{keptDeck}
-use Rattle.deck.proofs.Kept.{read-refusal, read-none, read-deck}
+use Rattle.deck.proofs.Kept.{read-none, read-deck}
 use Rattle.systems.specs.Arrays.{answerAt}
 use Rattle.systems.proofs.Kept.{kept-answer, kept-held}
 use Rattle.loading.proofs.Answers.{numbered, loading-refused, loading-outside, loading-answer}
@@ -23,7 +23,7 @@ outside-requires c κs = search needs
 returns : tie.Need-returns
 returns c =
     let a = c .before .before .before .before .before .args in
-    let is = read-refusal _ _ (c .before .before .before .read-deck .ensures) in
+    let is = c .before .before .before .read-deck .ensures .refusal in
     ap Refused is ∙ sym (loading-refused (a .file .now) (a .system) (λ none. c .if1 .taken (is ∙ none)))
 
 returns-2 : tie.Need-returns-2
