@@ -11,11 +11,12 @@ use Rattle.rules.specs.declared.Rule.{Rule}
 use Rattle.rules.specs.declared.Counting.the-variants as counting
 use Rattle.rules.specs.Count.{countsOf}
 use Rattle.rules.specs.Refusal.{cells, shortTable, shortRoom, firstOf, countRefusal}
-use Rattle.rules.specs.Answer.{unless, countingOf, roomAfter}
+use Rattle.rules.specs.Answer.{unless, roomAfter}
 use Rattle.rules.proofs.Seven.{seven}
 use Rattle.rules.proofs.Accepted.{none-first}
 use Rattle.refusals.specs.Shared.{after, ruleRefusal}
 use Rattle.rules.proofs.Unless.{unless-none, unless-some}
+use Rattle.rules.proofs.Answer.{counts}
 use Rattle.refusals.proofs.Laws.{count-after, accepted}
 use Rattle.counts.specs.Tally.{refusalOf, Countable, Tallied, OnLine}
 use Rattle.counts.specs.Outcome.{Outcome}
@@ -56,15 +57,15 @@ module _ (rule : Rule) (n : ℕ) (weights table room : List ℕ) {number : ℕ} 
   answer f x z = rw (← same) (sym (unless-none number f x z))
 
   pub refused : (number ≡ 0 → ⊥) → Outcome rule n weights table room (counting.Refused number) table room
-  unfolding countingOf roomAfter
-  refused h = record { answered = otherwise _ _ h; cleared = otherwise (λ r. table) _ h; written = otherwise (λ r. room) _ h }
+  unfolding roomAfter
+  refused h = record { answered = counts _ _ .1 (otherwise _ _ h); cleared = otherwise (λ r. table) _ h; written = otherwise (λ r. room) _ h }
 
   pub counted : {used tableExit roomExit : List ℕ} → number ≡ 0 → Tallied rule n weights table room used roomExit
       → tableExit ≡ replicate cells 0 ++ drop cells used → Outcome rule n weights table room counting.Counted tableExit roomExit
-  unfolding countingOf roomAfter countsOf
+  unfolding roomAfter countsOf
   counted z f d =
       record {
-        answered = answer _ _ z;
+        answered = counts _ _ .1 (answer _ _ z);
         cleared = d ∙ ap (λ x. replicate cells 0 ++ x) (outside-drop (f .used)) ∙ answer (λ r. table) _ z;
         written = stored-list (countable z .slots) (f .counts) ∙ answer (λ r. room) _ z;
       }

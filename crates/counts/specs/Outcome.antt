@@ -5,9 +5,9 @@ use Prim.Native.Nat.{ℕ}
 use Rattle.rules.specs.declared.Rule.{Rule}
 use Rattle.rules.specs.declared.Counting.{Counting}
 use Rattle.rules.specs.Refusal.{countRefusal}
-use Rattle.rules.specs.Answer.{tableAfter, countingOf, roomAfter}
+use Rattle.rules.specs.Answer.{Counts, tableAfter, roomAfter}
 
 pub record Outcome (rule : Rule) (n : ℕ) (weights table room : List ℕ) (answer : Counting) (tableExit roomExit : List ℕ) : Type 0 where
-  pub answered : answer ≡ countingOf rule n weights table room
+  pub answered : Counts answer (countRefusal rule n weights table room)
   pub cleared : tableExit ≡ tableAfter (countRefusal rule n weights table room) table
   pub written : roomExit ≡ roomAfter (countRefusal rule n weights table room) rule n weights room

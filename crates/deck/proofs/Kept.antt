@@ -6,7 +6,8 @@ use lib.ListN.{getD, take}
 use Rattle.rules.specs.declared.System.{System}
 use Rattle.rules.specs.File.{Deck, mostFans, mostSystems, fansIn, countIn, systemIn, fileOf, deckIn, fileRefusal}
 use Rattle.deck.specs.declared.Read.{Read}
-use Rattle.deck.specs.Read.{noDeck, arraysOf, keptDeck, readOf}
+use Rattle.deck.specs.Read.{noDeck, arraysOf, keptDeck}
+use Rattle.deck.specs.Outcome.{Handed}
 use Rattle.deck.specs.Bounds.{Bounds}
 use Rattle.rules.proofs.Lists.{below-length}
 use Rattle.rules.proofs.Unless.{unless-none}
@@ -14,21 +15,13 @@ use Rattle.deck.proofs.Lists.{padded-take, padded-get}
 use Rattle.deck.proofs.File.{file-accepted, deck-back}
 
 module _ (bytes : List ℕ) where
-  read-kept : fileRefusal bytes ≡ 0 → readOf bytes ≡ record { refusal = 0; deck = keptDeck bytes }
-  unfolding readOf
-  read-kept e = λ x. record { refusal = e x; deck = unless-none (fileRefusal bytes) (λ n. noDeck) (keptDeck bytes) e x }
-
   -- what the reader's answer is, by its refusal
-  module _ (r : Read) (is : r ≡ readOf bytes) where
-    pub read-refusal : r .refusal ≡ fileRefusal bytes
-    unfolding readOf
-    read-refusal = ap (λ q. q .refusal) is
-
+  module _ (r : Read) (is : Handed bytes r) where
     pub read-none : r .refusal ≡ 0 → fileRefusal bytes ≡ 0
-    read-none e = sym read-refusal ∙ e
+    read-none e = sym (is .refusal) ∙ e
 
     pub read-deck : r .refusal ≡ 0 → r .deck ≡ keptDeck bytes
-    read-deck e = ap (λ q. q .deck) (is ∙ read-kept (read-none e))
+    read-deck e = is .deck ∙ unless-none (fileRefusal bytes) (λ n. noDeck) (keptDeck bytes) (read-none e)
 
   pub kept-survival : take (fansIn bytes) (keptDeck bytes .survival) ≡ deckIn bytes .survival
   unfolding keptDeck deckIn
@@ -57,5 +50,8 @@ module _ (bytes : List ℕ) where
       }
 
 -- the reader hands on the deck that a file was written from
-pub read-file : (d : Deck) → Bounds d → readOf (fileOf d) ≡ record { refusal = 0; deck = arraysOf d }
-read-file d ok = read-kept (fileOf d) (file-accepted d ok) ∙ rw (kept-arrays (fileOf d), deck-back d ok)
+pub read-file : (d : Deck) → Bounds d → (r : Read) → Handed (fileOf d) r → r ≡ record { refusal = 0; deck = arraysOf d }
+read-file d ok r is =
+    let refusal = is .refusal ∙ file-accepted d ok in
+    let deck = read-deck (fileOf d) r is refusal ∙ kept-arrays (fileOf d) ∙ ap arraysOf (deck-back d ok) in
+    λ x. record { refusal = refusal x; deck = deck x }

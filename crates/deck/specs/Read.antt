@@ -1,13 +1,11 @@
--- What a reader hands on: a file's refusal, and its deck in arrays of fixed length.
+-- What a reader hands on: a file's deck in arrays of fixed length.
 use mathlib.Core.List.{List, _++_}
 use Prim.Native.Nat.{ℕ, _-_}
 use lib.ListN.{length, replicate}
 use Rattle.rules.specs.declared.System.{System}
-use Rattle.rules.specs.Answer.{unless}
 use Rattle.rules.specs.File as file
-use Rattle.rules.specs.File.{mostFans, mostSystems, fansIn, countIn, deckIn, fileRefusal}
+use Rattle.rules.specs.File.{mostFans, mostSystems, fansIn, countIn, deckIn}
 use Rattle.deck.specs.declared.Deck.{Deck}
-use Rattle.deck.specs.declared.Read.{Read}
 
 -- a list followed by so many fillers that it has k entries
 unfoldable pub padded : {A : Type 0} → (k : ℕ) (filler : A) → List A → List A
@@ -45,7 +43,3 @@ keptDeck bytes = record {
   weights = padded mostFans 0 (deckIn bytes .weights);
   systems = padded mostSystems noSystem (deckIn bytes .systems);
 }
-
--- the reader's answer
-unfoldable pub readOf : List ℕ → Read
-readOf bytes = record { refusal = fileRefusal bytes; deck = unless (fileRefusal bytes) (λ r. noDeck) (keptDeck bytes) }

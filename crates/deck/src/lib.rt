@@ -7,7 +7,8 @@ ghost use mathlib.Core.Path.{_≡_};
 ghost use Prim.Native.Nat.{_≤_};
 ghost use lib.ListN.{length};
 ghost use Rattle.rules.specs.File.{headerLength, badVersion, badLayout, fileRefusal};
-ghost use Rattle.deck.specs.Read.{noDeck, keptDeck, readOf};
+ghost use Rattle.deck.specs.Read.{noDeck, keptDeck};
+ghost use Rattle.deck.specs.Outcome.{Checked, Handed};
 use crate::layout::MOST_FANS;
 use crate::layout::MOST_SYSTEMS;
 use rules::System;
@@ -58,7 +59,7 @@ fn bad_layout(bytes: &[u8]) -> bool
 
 // A file's refusal, checked 10, 11, 2, 12, 13; 0 where there is none.
 pub fn file_refusal(bytes: &[u8]) -> u64
-    ensures { λ r. ⌜ r ≡ fileRefusal (now (bytes .entry)) ⌝ }
+    ensures { λ r. ⌜ Checked (now (bytes .entry)) r ⌝ }
 {
     if bytes.len() < layout::HEADER_LENGTH {
         return 10;
@@ -118,7 +119,7 @@ fn kept_deck(bytes: &[u8]) -> Deck
 
 // The reader: the file's refusal, and its deck where there is none.
 pub fn read_deck(bytes: &[u8]) -> Read
-    ensures { λ r. ⌜ r ≡ readOf (now (bytes .entry)) ⌝ }
+    ensures { λ r. ⌜ Handed (now (bytes .entry)) r ⌝ }
 {
     let refusal = file_refusal(bytes);
     if refusal != 0 {

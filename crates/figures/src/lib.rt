@@ -18,10 +18,9 @@ fn answer(rule: Rule, survival: &[u32], weights: &[u16], table: &mut [u64]) -> R
 {
     let ends = engine::rate(rule, survival, weights, table);
     cells::zero(table, CELLS);
-    Rating::Range {
-        low: ends.low,
-        high: ends.high,
-    }
+    let low = ends.low;
+    let high = ends.high;
+    Rating::Range { low, high }
 }
 
 // Refusal 3.
@@ -120,14 +119,15 @@ pub fn stretch(
         return Rating::Refused(refused);
     }
     let start = a as usize - 1;
-    let upto = b as usize;
+    let end = b as usize;
     let rated = rated_weights(rule, survival.len(), weights, a, b);
-    answer(rule, &survival[start..upto], rated, table)
+    answer(rule, &survival[start..end], rated, table)
 }
 
 // The figures of a whole list: its stretch from 1 to n. Condition three: `figures-third` of rules/proofs/Accepted.
 pub fn figures(rule: Rule, survival: &[u32], weights: &[u16], table: &mut [u64]) -> Rating
     ensures { λ r. ⌜ Listed rule (now (survival .entry)) (now (weights .entry)) (now (table .entry)) (now (table .exit)) r ⌝ }
 {
-    stretch(rule, 1, survival.len() as u64, survival, weights, table)
+    let n = survival.len() as u64;
+    stretch(rule, 1, n, survival, weights, table)
 }

@@ -20,6 +20,7 @@ use Rattle.rules.specs.File.{Deck, badNumber, fileRefusal, systemOf, packed, lo
 use Rattle.rules.proofs.Enclosure.{value-le}
 use Rattle.rules.proofs.Conditions.{below-unit}
 use Rattle.rules.proofs.Accepted.{stretch-sound}
+use Rattle.loading.specs.Outcome.{Answered}
 use Rattle.loading.specs.Packing.{mostRefusal, Packable}
 
 -- a refusal of a list of conditions is 0 or one of the list's numbers
@@ -82,8 +83,8 @@ packed-tells (Refused n) (Range l h) s t e = absurd (omega arith)
 packed-tells (Refused n) (Refused k) s t e = let same : n ≡ k = omega arith in ap Refused same
 
 -- any two outcomes that the contract allows are equal
-pub one-outcome : (bytes : List ℕ) (s r q : ℕ) → r ≡ packed (loadingOf bytes s) → q ≡ packed (loadingOf bytes s) → r ≡ q
-one-outcome bytes s r q e d = e ∙ sym d
+pub one-outcome : {bytes : List ℕ} {s r q : ℕ} → Answered bytes s r → Answered bytes s q → r ≡ q
+one-outcome h k = h .number ∙ sym (k .number)
 
 -- and equal numbers come of equal answers
 pub one-answer : (bytes other : List ℕ) (s t : ℕ) → packed (loadingOf bytes s) ≡ packed (loadingOf other t) → loadingOf bytes s ≡ loadingOf other t

@@ -1,6 +1,7 @@
 // The loading computer's call: a deck file's bytes and a system number in, one 64-bit number out.
 ghost use mathlib.Core.Path.{_≡_};
 ghost use Rattle.rules.specs.File.{packed, loadingOf};
+ghost use Rattle.loading.specs.Outcome.{Answered};
 ghost use Rattle.loading.specs.Packing.{Packable};
 use rules::Rating;
 
@@ -10,14 +11,15 @@ const HALF_WORD: u64 = 4294967296;
 const REFUSED: u64 = (HALF_WORD - 1) * HALF_WORD;
 
 // The answer for a file's system, counted from 1: the file's refusal, then 14, then the system's own.
-pub fn rate_file(file: &[u8], system: u64) -> Rating
+fn rate_file(file: &[u8], system: u64) -> Rating
     ensures { λ r. ⌜ r ≡ loadingOf (now (file .entry)) system ⌝ }
 {
     let read = deck::read_deck(file);
     let refusal = read.refusal;
     let deck = read.deck;
+    let refused = refusal != 0;
     let outside = refusals::outside(1, system, deck.count);
-    if refusal != 0 {
+    if refused {
         return Rating::Refused(refusal);
     }
     if outside {
@@ -40,7 +42,7 @@ pub fn pack(rating: Rating) -> u64
 // What the C program calls: `uint64_t foambeetle_rate(const uint8_t *file, size_t length, uint64_t system)`.
 #[no_mangle]
 pub extern "C" fn foambeetle_rate(file: &[u8], system: u64) -> u64
-    ensures { λ r. ⌜ r ≡ packed (loadingOf (now (file .entry)) system) ⌝ }
+    ensures { λ r. ⌜ Answered (now (file .entry)) system r ⌝ }
 {
     pack(rate_file(file, system))
 }

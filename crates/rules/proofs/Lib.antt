@@ -10,6 +10,7 @@ pub mod Rounding
 pub mod Enclosure
 pub mod Monotone
 pub mod Unless
+pub mod Answer
 pub mod Dead
 pub mod Reading
 pub mod Simulation

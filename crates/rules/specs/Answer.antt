@@ -1,8 +1,9 @@
 -- Document 01, "Refusal numbers": what each call answers, and what it leaves in the tables that it was lent.
 -- "A refusal returns its number and writes nothing."
-use mathlib.Core.Bool.{cond}
+use mathlib.Core.Path.{_≡_}
+use mathlib.Core.Bool.{Bool, true, false, cond}
 use mathlib.Core.List.{List, _++_}
-use Prim.Native.Nat.{ℕ, zero, suc}
+use Prim.Native.Nat.{ℕ, zero, suc, _<_}
 use lib.ListN.{drop, replicate}
 use Rattle.rules.specs.declared.Rule.{Rule}
 use Rattle.rules.specs.declared.Verdict.{Verdict}
@@ -22,6 +23,24 @@ use Rattle.rules.specs.Refusal.{cells, verdictRefusal, countRefusal, fig
 unfoldable pub unless : {A : Type 0} → (refusal : ℕ) (refused : ℕ → A) (answer : A) → A
 unless zero refused answer = answer
 unless (suc r) refused answer = refused (suc r)
+
+-- What each case of an answer says, given the call's refusal (0 for none) and the values of a call that is not refused. A case `Refused` says that
+-- there is a refusal, and gives its number.
+abbrev pub Given : (number refusal : ℕ) → Type 0
+Given number refusal = (number ≡ refusal) × (0 < refusal)
+
+abbrev pub Judges : Verdict → (refusal : ℕ) (failing : Bool) → Type 0
+Judges verdict.Works refusal failing = (refusal ≡ 0) × (failing ≡ false)
+Judges verdict.Fails refusal failing = (refusal ≡ 0) × (failing ≡ true)
+Judges (verdict.Refused number) refusal failing = Given number refusal
+
+abbrev pub Rates : Rating → (refusal low high : ℕ) → Type 0
+Rates (rating.Range l h) refusal low high = (refusal ≡ 0) × (l ≡ low) × (h ≡ high)
+Rates (rating.Refused number) refusal low high = Given number refusal
+
+abbrev pub Counts : Counting → (refusal : ℕ) → Type 0
+Counts counting.Counted refusal = refusal ≡ 0
+Counts (counting.Refused number) refusal = Given number refusal
 
 -- "After an accepted call the first 7,800 cells of the working table are 0, cells beyond are untouched"
 abbrev pub cleared : List ℕ → List ℕ

@@ -4,12 +4,10 @@ ghost use lib.ListN.{replicate};
 ghost use Rattle.rules.specs.Refusal.{cells};
 ghost use Rattle.rules.specs.Answer.{stretchOf};
 ghost use Rattle.systems.specs.Arrays.{answerAt, Held};
+use cells::CELLS;
 use deck::Deck;
 use rules::Rating;
 use rules::System;
-
-// The cells of a working table.
-const CELLS: usize = 7800;
 
 // A system's figures over a deck's lists, in a working table of the call's own.
 fn rate_lists(system: System, survival: &[u32], weights: &[u16]) -> Rating

@@ -1,11 +1,21 @@
--- The verdict's contract settles its answer: any two outcomes that it allows are equal. Assumes nothing.
+-- The verdict's contract settles its answer: it is the definitions' verdict, so any two outcomes that the contract allows are equal. Assumes nothing.
 use mathlib.Core.Path.{_≡_, sym, _∙_}
 use mathlib.Core.List.{List}
 use Prim.Native.Nat.{ℕ}
 use Rattle.rules.specs.declared.Rule.{Rule}
 use Rattle.rules.specs.declared.Verdict.{Verdict}
 use Rattle.rules.specs.Answer.{verdictOf}
+use Rattle.rules.proofs.Answer.{judges}
+use Rattle.verdict.specs.Outcome.{Judged}
 
-pub same-verdict : (rule : Rule) (n : ℕ) (weights : List ℕ) (state : ℕ) (r s : Verdict)
-    → r ≡ verdictOf rule n weights state → s ≡ verdictOf rule n weights state → r ≡ s
-same-verdict rule n weights state r s p q = p ∙ sym q
+module _ {rule : Rule} {n : ℕ} {weights : List ℕ} {state : ℕ} where
+  pub judged : {r : Verdict} → r ≡ verdictOf rule n weights state → Judged rule n weights state r
+  unfolding verdictOf
+  judged {r} e = record { answer = judges r _ _ .1 e }
+
+  pub verdict-is : {r : Verdict} → Judged rule n weights state r → r ≡ verdictOf rule n weights state
+  unfolding verdictOf
+  verdict-is {r} h = judges r _ _ .0 (h .answer)
+
+  pub same-verdict : {r s : Verdict} → Judged rule n weights state r → Judged rule n weights state s → r ≡ s
+  same-verdict p q = verdict-is p ∙ sym (verdict-is q)

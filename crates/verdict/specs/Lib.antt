@@ -1,2 +1,3 @@
--- What the verdict's own functions are called in their contracts.
+-- What the verdict's contracts cite: `Judged` is the public call's, `First` what its own functions are called.
+pub mod Outcome
 pub mod First

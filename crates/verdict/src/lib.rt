@@ -7,8 +7,8 @@ ghost use Rattle.rules.specs.State.{heldIn};
 ghost use Rattle.rules.specs.Verdict.{weightDown, someWindow, fails};
 ghost use Rattle.rules.specs.Refusal.{most, highOne};
 ghost use Rattle.rules.specs.Accepted.{Accepted};
-ghost use Rattle.rules.specs.Answer.{verdictOf};
 ghost use Rattle.verdict.specs.First.{firstWindow};
+ghost use Rattle.verdict.specs.Outcome.{Judged};
 use rules::Rule;
 use rules::Verdict;
 
@@ -118,7 +118,7 @@ fn fails_on(rule: Rule, n: u64, weights: &[u16], w: u64) -> bool
 
 // The verdict on one state: refusals 1, 2, 5, 6 and 9, then the rule.
 pub fn verdict_on(rule: Rule, n: u64, weights: &[u16], state: u64) -> Verdict
-    ensures { λ r. ⌜ r ≡ verdictOf rule n (now (weights .entry)) state ⌝ }
+    ensures { λ r. ⌜ Judged rule n (now (weights .entry)) state r ⌝ }
 {
     let refusal = refusals::rule_refusal(rule, n, weights);
     if refusal != 0 {

@@ -51,13 +51,13 @@ left13 c = left12 (c .before .before .before) ∙ first-after 12 _ _ (count (c .
 
 returns : tie.Need-returns
 unfolding fileRefusal
-returns c = sym (first-of 10 _ _ (lt-ltb _ _ (c .if1 .taken)))
+returns c = record { refusal = sym (first-of 10 _ _ (lt-ltb _ _ (c .if1 .taken))) }
 
 bad-version-requires : tie.Need-bad-version-requires
 bad-version-requires c κs = search needs
 
 returns-2 : tie.Need-returns-2
-returns-2 c = sym (left11 (c .before .before) ∙ first-of 11 _ _ (sym (c .before .bad-version .ensures) ∙ c .if2 .taken))
+returns-2 c = record { refusal = sym (left11 (c .before .before) ∙ first-of 11 _ _ (sym (c .before .bad-version .ensures) ∙ c .if2 .taken)) }
 
 number2-requires : tie.Need-number2-requires
 number2-requires c κs = search needs
@@ -66,7 +66,7 @@ outside-requires : tie.Need-outside-requires
 outside-requires c κs = search needs
 
 returns-3 : tie.Need-returns-3
-returns-3 c = sym (left2 (c .before .before .before) ∙ first-of 2 _ _ (size (c .before) ∙ c .if3 .taken))
+returns-3 c = record { refusal = sym (left2 (c .before .before .before) ∙ first-of 2 _ _ (size (c .before) ∙ c .if3 .taken)) }
 
 number2-requires-2 : tie.Need-number2-requires-2
 number2-requires-2 c κs = search needs
@@ -75,17 +75,17 @@ outside-requires-2 : tie.Need-outside-requires-2
 outside-requires-2 c κs = search needs
 
 returns-4 : tie.Need-returns-4
-returns-4 c = sym (left12 (c .before .before .before) ∙ first-of 12 _ _ (count (c .before) ∙ c .if4 .taken))
+returns-4 c = record { refusal = sym (left12 (c .before .before .before) ∙ first-of 12 _ _ (count (c .before) ∙ c .if4 .taken)) }
 
 bad-layout-requires : tie.Need-bad-layout-requires
 bad-layout-requires c κs = search needs
 
 returns-5 : tie.Need-returns-5
-returns-5 c = sym (left13 (c .before .before) ∙ first-of 13 _ _ (sym (c .before .bad-layout .ensures) ∙ c .if5 .taken))
+returns-5 c = record { refusal = sym (left13 (c .before .before) ∙ first-of 13 _ _ (sym (c .before .bad-layout .ensures) ∙ c .if5 .taken)) }
 
 returns-6 : tie.Need-returns-6
 unfolding firstOf
-returns-6 c = sym (left13 (c .before .before) ∙ first-after 13 _ [] (sym (c .before .bad-layout .ensures) ∙ c .if5 .left))
+returns-6 c = record { refusal = sym (left13 (c .before .before) ∙ first-after 13 _ [] (sym (c .before .bad-layout .ensures) ∙ c .if5 .left)) }
 
 pub file-refusal-spec : {M : Type 1} → statement M
 file-refusal-spec =

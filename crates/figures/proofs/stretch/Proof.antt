@@ -5,6 +5,7 @@ use native.Mathlib.Omega.{arith}
 use Rattle.rules.specs.declared.Rating.the-variants.{Refused}
 use Rattle.rules.specs.Answer.{stretchOf}
 use Rattle.rules.proofs.Unless.{unless-none, unless-some}
+use Rattle.figures.proofs.Outcome.{stretched}
 use Rattle.figures.proofs.Refused.{part-is, inside, fits, part-ratable, part-answer}
 use Rattle.figures.proofs.stretch.Statement.{statement}
 use Rattle.figures.proofs.stretch.Tie as tie
@@ -19,10 +20,8 @@ returns : tie.Need-returns
 unfolding stretchOf
 returns c =
     let e = c .before .refusal .ensures in
-    record {
-      answer = sym (unless-some _ _ _ (λ z. c .if1 .taken (e ∙ z)) ∙ ap Refused (sym e));
-      table = sym (unless-some _ _ _ (λ z. c .if1 .taken (e ∙ z)));
-    }
+    stretched (sym (unless-some _ _ _ (λ z. c .if1 .taken (e ∙ z)) ∙ ap Refused (sym e)))
+    (sym (unless-some _ _ _ (λ z. c .if1 .taken (e ∙ z))))
 
 sub-start : tie.Need-sub-start
 sub-start c =
@@ -75,10 +74,9 @@ returns-2 c =
     let x = c .before .before .before .before .before .before .before .before .before .before .before .before .args in
     let none = sym (c .before .before .before .before .before .before .before .refusal .ensures) ∙ c .before .before .before .before .before .before .if1 .left in
     let e = rw (c .before .before .before .before .before .rated-weights .ensures, part-is (x .a) (x .b) _ _ (inside (x .rule) (x .a) (x .b) (x .survival .now) (x .weights .now) (x .table .now) none)) at (c .before .before .answer .ensures) in
-    record {
-      answer = e .0 ∙ part-answer (x .rule) (x .a) (x .b) (x .survival .now) (x .weights .now) (x .table .now) none ∙ sym (unless-none _ _ _ none);
-      table = e .1 ∙ sym (unless-none _ _ _ none);
-    }
+    stretched
+    (e .0 ∙ part-answer (x .rule) (x .a) (x .b) (x .survival .now) (x .weights .now) (x .table .now) none ∙ sym (unless-none _ _ _ none))
+    (e .1 ∙ sym (unless-none _ _ _ none))
 
 pub stretch-spec : {M : Type 1} → statement M
 stretch-spec =

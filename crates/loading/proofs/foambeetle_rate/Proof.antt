@@ -13,7 +13,7 @@ pack-requires : tie.Need-pack-requires
 pack-requires c κs = rw (c .rate-file .ensures) (loading-packable _ _)
 
 returns : tie.Need-returns
-returns c = c .pack .ensures ∙ ap packed (c .before .rate-file .ensures)
+returns c = record { number = c .pack .ensures ∙ ap packed (c .before .rate-file .ensures) }
 
 pub foambeetle-rate-spec : {M : Type 1} → statement M
 foambeetle-rate-spec = tie.close (tie.spec rate-file-requires pack-requires returns)

@@ -3,11 +3,11 @@ use mathlib.Core.Path.{sym, ap, _∙_}
 use Prim.Native.Nat.{_-_}
 use native.Mathlib.Omega.{arith}
 use borrow.Author.Needs.{needs}
-use borrow.Author.Tests.{not-false}
+use borrow.Author.Tests.{eqb-true, eqb-false, not-true, not-false}
 use Rattle.rules.specs.declared.Rating.the-variants.{Refused}
 use Rattle.rules.proofs.Seven.{within-true}
 use Rattle.deck.specs.Read.{keptDeck}
-use Rattle.deck.proofs.Kept.{read-refusal, read-none, read-deck}
+use Rattle.deck.proofs.Kept.{read-none, read-deck}
 use Rattle.systems.specs.Arrays.{answerAt}
 use Rattle.systems.proofs.Kept.{kept-answer, kept-held}
 use Rattle.loading.proofs.Answers.{numbered, loading-refused, loading-outside, loading-answer}
@@ -23,14 +23,14 @@ outside-requires c κs = search needs
 returns : tie.Need-returns
 returns c =
     let a = c .before .before .before .before .before .args in
-    let is = read-refusal _ _ (c .before .before .before .read-deck .ensures) in
-    ap Refused is ∙ sym (loading-refused (a .file .now) (a .system) (λ none. c .if1 .taken (is ∙ none)))
+    let is = c .before .before .before .read-deck .ensures .refusal in
+    ap Refused is ∙ sym (loading-refused (a .file .now) (a .system) (λ none. eqb-false _ _ (not-true _ (c .if1 .taken)) (is ∙ none)))
 
 returns-2 : tie.Need-returns-2
 unfolding keptDeck
 returns-2 c =
     let read = c .before .before .before .before .read-deck .ensures in
-    let left = c .before .if1 .left in
+    let left = eqb-true _ _ (not-false _ (c .before .if1 .left)) in
     let outside = rw (read-deck _ _ read left) at (sym (c .before .before .outside .ensures) ∙ c .if2 .taken) in
     sym (loading-outside _ _ (read-none _ _ read left) outside)
 
@@ -44,7 +44,7 @@ rate-system-requires : tie.Need-rate-system-requires
 unfolding keptDeck
 rate-system-requires c κs =
     let read = c .before .before .before .before .read-deck .ensures in
-    let left = c .before .if1 .left in
+    let left = eqb-true _ _ (not-false _ (c .before .if1 .left)) in
     let deck = read-deck _ _ read left in
     let inside = rw deck at (sym (c .before .before .outside .ensures) ∙ c .if2 .left) in
     let a = c .before .before .before .before .before .before .args in
@@ -54,7 +54,7 @@ returns-3 : tie.Need-returns-3
 unfolding keptDeck
 returns-3 c =
     let read = c .before .before .before .before .before .read-deck .ensures in
-    let left = c .before .before .if1 .left in
+    let left = eqb-true _ _ (not-false _ (c .before .before .if1 .left)) in
     let deck = read-deck _ _ read left in
     let inside = rw deck at (sym (c .before .before .before .outside .ensures) ∙ c .before .if2 .left) in
     let a = c .before .before .before .before .before .before .before .args in

@@ -2,6 +2,7 @@
 use mathlib.Core.Path.{ap, _∙_}
 use borrow.Author.Needs.{needs}
 use Rattle.rules.specs.File.{packed}
+use Rattle.figures.proofs.Outcome.{figures-are}
 use Rattle.ratings.proofs.Packed.{figures-packable}
 use Rattle.ratings.proofs.foambeetle_figures.Statement.{statement}
 use Rattle.ratings.proofs.foambeetle_figures.Tie as tie
@@ -10,7 +11,7 @@ figures-requires : tie.Need-figures-requires
 figures-requires c κs = search needs
 
 pack-requires : tie.Need-pack-requires
-pack-requires c κs = rw (c .before .before .figures .ensures .answer) (figures-packable _ _ _ _)
+pack-requires c κs = rw (figures-are (c .before .before .figures .ensures)) (figures-packable _ _ _ _)
 
 same-length : tie.Need-same-length
 same-length c = search needs
@@ -18,7 +19,7 @@ same-length c = search needs
 returns : tie.Need-returns
 returns c =
     let e = c .before .before .before .figures .ensures in
-    record { answer = c .pack .ensures ∙ ap packed (e .answer); table = e .table }
+    record { answer = c .pack .ensures ∙ ap packed (figures-are e); table = e .table }
 
 pub foambeetle-figures-spec : {M : Type 1} → statement M
 foambeetle-figures-spec = tie.close (tie.spec figures-requires pack-requires same-length returns)

@@ -15,20 +15,22 @@ use Rattle.rules.specs.Accepted.{Accepted}
 use Rattle.refusals.specs.Shared.{ruleRefusal}
 use Rattle.rules.proofs.Unless.{unless-some}
 use Rattle.refusals.proofs.Laws.{verdict-after, after-none, after-some, accepted}
+use Rattle.verdict.specs.Outcome.{Judged}
+use Rattle.verdict.proofs.Outcome.{judged}
 use Rattle.verdict.proofs.verdict_on.Statement.{statement}
 use Rattle.verdict.proofs.verdict_on.Tie as tie
 
 module _ (rule : Rule) (n : ℕ) (ws : List ℕ) (w : ℕ) where
-  refused : (r : ℕ) → r ≡ ruleRefusal rule n ws → (r ≡ 0 → ⊥) → Refused r ≡ verdictOf rule n ws w
+  refused : (r : ℕ) → r ≡ ruleRefusal rule n ws → (r ≡ 0 → ⊥) → Judged rule n ws w (Refused r)
   unfolding verdictOf
   refused r e h =
-      sym (rw (verdict-after rule n ws w, ← e, after-some r (cond (highOne n w) 9 0) h) (unless-some r Refused _ h))
+      judged (sym (rw (verdict-after rule n ws w, ← e, after-some r (cond (highOne n w) 9 0) h) (unless-some r Refused _ h)))
 
-  judged : (high failing : Bool) → ruleRefusal rule n ws ≡ 0 → highOne n w ≡ high → fails rule n ws w ≡ failing
-      → cond high (Refused 9) (cond failing Fails Works) ≡ verdictOf rule n ws w
+  accepted-is : (high failing : Bool) → ruleRefusal rule n ws ≡ 0 → highOne n w ≡ high → fails rule n ws w ≡ failing
+      → Judged rule n ws w (cond high (Refused 9) (cond failing Fails Works))
   unfolding verdictOf unless
-  judged true failing z h f = rw (verdict-after rule n ws w, after-none _ (cond (highOne n w) 9 0) z, h)
-  judged false failing z h f = rw (verdict-after rule n ws w, after-none _ (cond (highOne n w) 9 0) z, h, f)
+  accepted-is true failing z h f = judged (rw (verdict-after rule n ws w, after-none _ (cond (highOne n w) 9 0) z, h))
+  accepted-is false failing z h f = judged (rw (verdict-after rule n ws w, after-none _ (cond (highOne n w) 9 0) z, h, f))
 
 rule-refusal-requires : tie.Need-rule-refusal-requires
 rule-refusal-requires c κs = search needs
@@ -47,7 +49,7 @@ high-one-requires : tie.Need-high-one-requires
 high-one-requires c κs = (sound c .size-low, sound c .size-high)
 
 returns-2 : tie.Need-returns-2
-returns-2 c = judged _ _ _ _ true _ (none (c .before .before)) (sym (c .before .high-one .ensures) ∙ c .if2 .taken) refl
+returns-2 c = accepted-is _ _ _ _ true _ (none (c .before .before)) (sym (c .before .high-one .ensures) ∙ c .if2 .taken) refl
 
 fails-on-requires : tie.Need-fails-on-requires
 fails-on-requires c κs =
@@ -55,13 +57,13 @@ fails-on-requires c κs =
 
 returns-3 : tie.Need-returns-3
 returns-3 c =
-    judged _ _ _ _ false true (none (c .before .before .before .before))
+    accepted-is _ _ _ _ false true (none (c .before .before .before .before))
     (sym (c .before .before .before .high-one .ensures) ∙ c .before .before .if2 .left)
     (sym (c .before .fails-on .ensures) ∙ c .if3 .taken)
 
 returns-4 : tie.Need-returns-4
 returns-4 c =
-    judged _ _ _ _ false false (none (c .before .before .before .before))
+    accepted-is _ _ _ _ false false (none (c .before .before .before .before))
     (sym (c .before .before .before .high-one .ensures) ∙ c .before .before .if2 .left)
     (sym (c .before .fails-on .ensures) ∙ c .if3 .left)
 

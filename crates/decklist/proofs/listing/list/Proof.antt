@@ -1,6 +1,6 @@
 -- `listing::list` meets its contract, on a refusal and on none: all lines fit. Assumes nothing.
 use native.Mathlib.Omega.{arith}
-use Rattle.deck.proofs.Kept.{read-refusal, read-none, read-deck}
+use Rattle.deck.proofs.Kept.{read-none, read-deck}
 use Rattle.text.proofs.Adding.{put-added, added-more}
 use Rattle.decklist.proofs.Lengths.{head-short}
 use Rattle.decklist.proofs.Printing.{printed, refused-list, kept-listable, kept-list}
@@ -32,7 +32,7 @@ returns c =
     let read = c .before .before .before .before .before .before .before .before .before .before .before .read-deck in
     let file = put-added (omega (arith, start .pre)) (c .before .before .before .before .before .before .put .ensures) in
     printed (added-more file (c .before .before .put-refused .ensures))
-    (refused-list (start .args .bytes .now) (read .result .refusal) (read-refusal _ _ (read .ensures)) (c .before .before .before .before .before .before .before .before .before .if1 .taken))
+    (refused-list (start .args .bytes .now) (read .result .refusal) (read .ensures .refusal) (c .before .before .before .before .before .before .before .before .before .if1 .taken))
 
 slice-aggregate-put-pair : tie.Need-slice-aggregate-put-pair
 slice-aggregate-put-pair c = search needs

@@ -1,0 +1,17 @@
+-- What the two calls over a file's bytes answer.
+use mathlib.Core.Path.{_≡_}
+use mathlib.Core.List.{List}
+use Prim.Native.Nat.{ℕ}
+use Rattle.rules.specs.Answer.{unless}
+use Rattle.rules.specs.File.{fileRefusal}
+use Rattle.deck.specs.declared.Read.{Read}
+use Rattle.deck.specs.Read.{noDeck, keptDeck}
+
+-- the outcome of asking for a file's refusal
+pub record Checked (bytes : List ℕ) (r : ℕ) : Type 0 where
+  pub refusal : r ≡ fileRefusal bytes
+
+-- the outcome of reading a file: its refusal, and its deck where there is none
+pub record Handed (bytes : List ℕ) (r : Read) : Type 0 where
+  pub refusal : r .refusal ≡ fileRefusal bytes
+  pub deck : r .deck ≡ unless (fileRefusal bytes) (λ n. noDeck) (keptDeck bytes)

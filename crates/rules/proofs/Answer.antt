@@ -1,0 +1,69 @@
+-- Each answer by its cases is the answer as one equation: the refusal where there is one, else the values. One way by the cases of the answer, the
+-- other by those of the refusal. Assumes nothing.
+use mathlib.Core.Path.{_≡_, refl, sym, ap, ap₂, _∙_}
+use mathlib.Core.Logic.{_↔_}
+use mathlib.Core.Bool.{Bool, true, false, cond}
+use Prim.Native.Nat.{ℕ, zero, suc}
+use native.Mathlib.Omega.{arith}
+use Rattle.rules.specs.declared.Verdict.{Verdict}
+use Rattle.rules.specs.declared.Verdict.the-variants as verdict
+use Rattle.rules.specs.declared.Rating.{Rating}
+use Rattle.rules.specs.declared.Rating.the-variants as rating
+use Rattle.rules.specs.declared.Counting.{Counting}
+use Rattle.rules.specs.declared.Counting.the-variants as counting
+use Rattle.rules.specs.Answer.{unless, Given, Judges, Rates, Counts}
+use Rattle.rules.proofs.Unless.{unless-some, unless-none}
+
+-- a case `Refused`, and a case that is none
+given-is : {A : Type 0} (refused : ℕ → A) (answer : A) (number refusal : ℕ) → Given number refusal → refused number ≡ unless refusal refused answer
+given-is refused answer number refusal g = ap refused (g .0) ∙ sym (unless-some refusal refused answer (λ z. omega (arith, g .1)))
+
+none-is : {A : Type 0} (refused : ℕ → A) (answer : A) {r : A} (refusal : ℕ) → refusal ≡ 0 → r ≡ answer → r ≡ unless refusal refused answer
+none-is refused answer refusal z e = e ∙ sym (unless-none refusal refused answer z)
+
+abbrev verdictBy : (refusal : ℕ) (failing : Bool) → Verdict
+verdictBy refusal failing = unless refusal verdict.Refused (cond failing verdict.Fails verdict.Works)
+
+pub judges : (r : Verdict) (refusal : ℕ) (failing : Bool) → Judges r refusal failing ↔ (r ≡ verdictBy refusal failing)
+unfolding unless
+judges r refusal failing = (to r, λ e. rw e (from refusal failing))
+  where
+    to : (r : Verdict) → Judges r refusal failing → r ≡ verdictBy refusal failing
+    to verdict.Works h = none-is verdict.Refused _ refusal (h .0) (rw (h .1))
+    to verdict.Fails h = none-is verdict.Refused _ refusal (h .0) (rw (h .1))
+    to (verdict.Refused number) h = given-is verdict.Refused _ number refusal h
+
+    from : (refusal : ℕ) (failing : Bool) → Judges (verdictBy refusal failing) refusal failing
+    from zero false = (refl, refl)
+    from zero true = (refl, refl)
+    from (suc q) failing = (refl, omega arith)
+
+abbrev ratingBy : (refusal low high : ℕ) → Rating
+ratingBy refusal low high = unless refusal rating.Refused (rating.Range low high)
+
+pub rates : (r : Rating) (refusal low high : ℕ) → Rates r refusal low high ↔ (r ≡ ratingBy refusal low high)
+unfolding unless
+rates r refusal low high = (to r, λ e. rw e (from refusal))
+  where
+    to : (r : Rating) → Rates r refusal low high → r ≡ ratingBy refusal low high
+    to (rating.Range l h) v = none-is rating.Refused _ refusal (v .0) (ap₂ rating.Range (v .1) (v .2))
+    to (rating.Refused number) v = given-is rating.Refused _ number refusal v
+
+    from : (refusal : ℕ) → Rates (ratingBy refusal low high) refusal low high
+    from zero = (refl, refl, refl)
+    from (suc q) = (refl, omega arith)
+
+abbrev countingBy : (refusal : ℕ) → Counting
+countingBy refusal = unless refusal counting.Refused counting.Counted
+
+pub counts : (r : Counting) (refusal : ℕ) → Counts r refusal ↔ (r ≡ countingBy refusal)
+unfolding unless
+counts r refusal = (to r, λ e. rw e (from refusal))
+  where
+    to : (r : Counting) → Counts r refusal → r ≡ countingBy refusal
+    to counting.Counted h = none-is counting.Refused _ refusal h refl
+    to (counting.Refused number) h = given-is counting.Refused _ number refusal h
+
+    from : (refusal : ℕ) → Counts (countingBy refusal) refusal
+    from zero = refl
+    from (suc q) = (refl, omega arith)
