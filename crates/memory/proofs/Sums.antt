@@ -1,25 +1,17 @@
 -- Rows 1 to 3: the program's sum reads as document 01's memory. A sum below k stands for the living memory of that number, one from k on for the
 -- dead one; under row 3 every sum is a living memory. Each step keeps it so. Assumes nothing.
 use mathlib.Core.Path.{_≡_, refl}
-use mathlib.Core.Bool.{Bool, true, false, cond, not}
+use mathlib.Core.Bool.{Bool, true, false, cond}
 use Prim.Native.Nat.{ℕ, suc, _+_, _≤_, _<_}
 use native.Mathlib.Omega.{arith}
 use native.Mathlib.Numerals.{add-one}
-use lib.Dec.{ltb, leb}
-use borrow.Author.Tests.{ltb-true, ltb-false, lt-ltb, le-ltb, le-leb, lt-leb}
+use lib.Dec.{ltb}
+use borrow.Author.Tests.{ltb-true, ltb-false, lt-ltb, le-ltb}
 use Rattle.rules.specs.Memory.{Memory, live, dead, moved, ended, machineOf, row1, row3}
 use Rattle.rules.proofs.Simulation.{Alike, Same, alike-same}
 use Rattle.rules.proofs.Dead.{Dead}
 use Rattle.memory.specs.declared.sum.Sum.{Sum}
 use Rattle.memory.specs.Sum.{sum, belowLimit, sumOutside, summing}
-
--- a number past the upper end
-pub past-high : (h c : ℕ) → ltb h c ≡ not (leb c h)
-past-high h c = go (ltb h c) refl
-  where
-    go : (t : Bool) → ltb h c ≡ t → t ≡ not (leb c h)
-    go true e = rw (lt-leb c h (ltb-true _ _ e))
-    go false e = rw (le-leb c h (ltb-false _ _ e))
 
 -- rows 1 and 2
 data Adds (k : ℕ) : Sum → Memory ℕ → Type 0 where

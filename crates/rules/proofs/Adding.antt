@@ -1,22 +1,22 @@
 -- Kinds 1 to 3: reading through the memory is the verdict on the number failed, or on the weights of the failed ones.
 -- With i components left the number in memory and what the places below i add to it decide. Kind 1 is kind 2 with every weight 1.
 -- Assumes nothing.
-use mathlib.Core.Path.{_≡_, refl, sym, ap, _∙_}
-use mathlib.Core.Bool.{Bool, true, false, cond, not}
+use mathlib.Core.Path.{_≡_, sym, ap, _∙_}
+use mathlib.Core.Bool.{cond, not}
 use mathlib.Core.List.{List}
 use Prim.Native.Nat.{ℕ, zero, suc, _+_, _^_, _<_}
 use native.Mathlib.Omega.{arith}
 use native.Mathlib.Nat.{add-zero, zero-add}
-use lib.Dec.{ltb, leb}
+use lib.Dec.{ltb}
 use lib.Count.{ones}
-use borrow.Author.Tests.{ltb-true, ltb-false, lt-ltb, le-ltb, le-leb, lt-leb}
+use borrow.Author.Tests.{ltb-true, ltb-false, lt-ltb, le-ltb}
 use Rattle.rules.specs.Below.{sumBelow, held, within}
 use Rattle.rules.specs.State.{down, numberOf}
 use Rattle.rules.specs.Verdict.{weightDown, fails1, fails2, fails3}
 use Rattle.rules.specs.Memory.{run, live, moved, ended, machineOf, row1, row3}
 use Rattle.rules.proofs.Sums.{held-sum}
 use Rattle.rules.proofs.Bits.{ones-held}
-use Rattle.rules.proofs.Tests.{by-test, by-both}
+use Rattle.rules.proofs.Tests.{by-test, by-both, not-leb}
 use Rattle.rules.proofs.Dead.{row-run}
 
 -- what the failed ones among the places below i add
@@ -42,13 +42,6 @@ counted-run l h w (suc i) c =
     by-both (λ m x. run (machineOf (row3 l h)) i m w ≡ not (within l (c + (held (λ d. down d w) i + x)) h)) (down i w) _ _ _ _
     (λ d. counted-run l h w i (suc c) ∙ ap (λ x. not (within l x h)) (omega arith))
     (λ d. rw add-zero (counted-run l h w i c))
-
-not-leb : (a b : ℕ) → ltb a b ≡ not (leb b a)
-not-leb a b = go (ltb a b) refl
-  where
-    go : (t : Bool) → ltb a b ≡ t → t ≡ not (leb b a)
-    go true e = rw (lt-leb b a (ltb-true _ _ e))
-    go false e = rw (le-leb b a (ltb-false _ _ e))
 
 pub kind1 : (n k w : ℕ) → 0 < k → w < 2 ^ n → run (machineOf (row1 k (λ i. 1))) n (live 0) w ≡ not (fails1 k w)
 kind1 n k w pos small =
