@@ -18,6 +18,7 @@ others=(
     "the library links every way, and exports its calls alone: python3 tests/library.py"
     "what is installed runs, and goes again: python3 tests/install.py"
     "one version everywhere: python3 tests/version.py"
+    "the list of proofs names what there is: python3 tests/names.py"
 )
 
 command -v rt >/dev/null || {
