@@ -1,8 +1,10 @@
 -- `answer` rates, then sets the cells to 0: the cells past 7,800 are kept by the one and the other. Assumes nothing.
 use borrow.Author.Needs.{needs}
-use mathlib.Core.Path.{ap, _∙_}
+use mathlib.Core.Path.{ap, ap₂, _∙_}
 use mathlib.Core.List.{_++_}
 use lib.ListN.{replicate}
+use Rattle.rules.specs.declared.Rating.the-variants.{Range}
+use Rattle.rules.specs.Refusal.{cells}
 use Rattle.figures.proofs.answer.Statement.{statement}
 use Rattle.figures.proofs.answer.Tie as tie
 
@@ -18,7 +20,7 @@ same-length c = search needs
 returns : tie.Need-returns
 returns c =
     let e = c .before .before .before .before .before .before .rate .ensures in
-    (rw (e .0 .low, e .0 .high), c .before .before .zero .ensures ∙ ap (λ rest. replicate 7800 0 ++ rest) (e .1 .rest))
+    (ap₂ Range (e .0 .low) (e .0 .high), c .before .before .zero .ensures ∙ ap (λ rest. replicate cells 0 ++ rest) (e .1 .rest))
 
 pub answer-spec : {M : Type 1} → statement M
 answer-spec = tie.close (tie.spec rate-requires zero-requires same-length returns)
