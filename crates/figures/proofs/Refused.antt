@@ -16,7 +16,7 @@ use Rattle.rules.specs.Refusal.{firstOf, badKind, badSize, badStretch, aboveUni
 use Rattle.rules.specs.Accepted.{Ratable}
 use Rattle.rules.specs.Answer.{range}
 use Rattle.rules.proofs.Tests.{by-test}
-use Rattle.rules.proofs.Accepted.{first-same, first-after, in-stretch, stretch-length, stretch-sound, weights-sound, accepted-unread, unread-range, unread-answer}
+use Rattle.rules.proofs.Accepted.{first-same, first-after, in-stretch, stretch-length, stretch-ratable, weights-accepted, accepted-unread, unread-range, unread-answer}
 use Rattle.refusals.specs.Shared.{ratedRefusal, after}
 use Rattle.figures.specs.Outcome.{ratedOf}
 
@@ -50,7 +50,7 @@ module _ (rule : Rule) (n : ℕ) (ws : List ℕ) (a b : ℕ) where
   rated-same listed = ⊎-elim (λ s. inl (s .0)) (λ o. ⊎-elim (λ k. absurd (eqb-false _ _ (k .1) (listed (k .0)))) inr o) rated-by
 
   six-same : (m : ℕ) → badWeights rule n ws (stretch a b ws) ≡ false → ranged rule m (total (ratedOf rule n ws a b)) ≡ inRange rule m (stretch a b ws)
-  six-same m e = ⊎-elim (λ s. rw s) (λ k. unread-range rule m _ _ k) (rated-same (λ two. weights-sound rule n (length ws) _ e two .0))
+  six-same m e = ⊎-elim (λ s. rw s) (λ k. unread-range rule m _ _ k) (rated-same (λ two. weights-accepted rule n (length ws) _ e two .0))
 
   pub own-is : (m : ℕ) → ratedRefusal rule n (length ws) m (total (ratedOf rule n ws a b)) ≡ firstOf ((5, badWeights rule n ws (stretch a b ws)) ∷ (6, not (inRange rule m (stretch a b ws))) ∷ [])
   unfolding ratedRefusal
@@ -96,7 +96,7 @@ module _ (rule : Rule) (a b : ℕ) (survival weights table : List ℕ) where
     part = stretch a b survival
 
     ratable : (badStretch a b n ≡ false) × (rule .kind ≡ 2 → length weights ≡ n) × Ratable rule part (stretch a b weights) table
-    ratable = stretch-sound rule a b survival weights table none
+    ratable = stretch-ratable rule a b survival weights table none
 
     pub inside : badStretch a b n ≡ false
     inside = ratable .0

@@ -19,7 +19,7 @@ use Rattle.rules.specs.Answer.{unless, stretchOf}
 use Rattle.rules.specs.File.{Deck, badNumber, fileRefusal, systemOf, packed, loadingOf}
 use Rattle.rules.proofs.Enclosure.{value-le}
 use Rattle.rules.proofs.Conditions.{below-unit}
-use Rattle.rules.proofs.Accepted.{stretch-sound}
+use Rattle.rules.proofs.Accepted.{stretch-ratable}
 use Rattle.loading.specs.Outcome.{Answered}
 use Rattle.loading.specs.Packing.{mostRefusal, Packable}
 
@@ -53,7 +53,7 @@ pub stretch-packable : (rule : Rule) (a b : ℕ) (survival weights table : List 
 unfolding stretchOf
 stretch-packable rule a b survival weights table =
     let within : (up : Bool) → stretchRefusal rule a b survival weights table ≡ 0 → figure up S rule (stretch a b survival) (stretch a b weights) ≤ S
-    = λ up e. figure-le up rule _ _ (stretch-sound rule a b survival weights table e .2 .units) in
+    = λ up e. figure-le up rule _ _ (stretch-ratable rule a b survival weights table e .2 .units) in
     unless-packable _ _ (stretch-le rule a b survival weights table) (λ e. (within false e, within true e))
 
 system-packable : (d : Deck) (s : System) → Packable (systemOf d s)

@@ -14,7 +14,7 @@ use Rattle.rules.specs.State.{ruleOf}
 use Rattle.rules.specs.Refusal.{rangeOne, rangeTwo, badKind, badSize, badWeights, ranged, inRange, firstOf, highOne, shortTable, shortRoom, verdictRefusal, countRefusal}
 use Rattle.rules.specs.Accepted.{Accepted}
 use Rattle.rules.proofs.Seven.{range-kind}
-use Rattle.rules.proofs.Accepted.{none-first, sound}
+use Rattle.rules.proofs.Accepted.{none-first, rule-accepted}
 use Rattle.refusals.specs.Shared.{ratedRefusal, ruleRefusal, after}
 
 -- ---- one refusal after another
@@ -68,7 +68,7 @@ accepted rule n weights e =
     let a = none-first 0 _ _ e in
     let b = none-first 1 _ _ (a .1) in
     let c = none-first 4 _ _ (b .1) in
-    sound rule n n weights weights (a .0) (b .0) (c .0) (λ l. l) (none-first 5 _ _ (c .1) .0)
+    rule-accepted rule n n weights weights (a .0) (b .0) (c .0) (λ l. l) (none-first 5 _ _ (c .1) .0)
 
 -- ---- a row of the column "range", at its kinds
 

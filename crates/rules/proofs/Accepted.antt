@@ -56,16 +56,16 @@ unless-same zero q refused x y e h = rw (← e) (h refl)
 unless-same (suc r) q refused x y e h = rw (← e)
 
 -- refusal 5 not given: the weights are as many as the components, and light enough
-pub weights-sound : (rule : Rule) (n listed t : ℕ) → weightsOut rule n listed t ≡ false → rule .kind ≡ 2 → (listed ≡ n) × (t ≤ heaviest)
+pub weights-accepted : (rule : Rule) (n listed t : ℕ) → weightsOut rule n listed t ≡ false → rule .kind ≡ 2 → (listed ≡ n) × (t ≤ heaviest)
 unfolding weightsOut
-weights-sound rule n listed t e two =
+weights-accepted rule n listed t e two =
     let h = neither (not (eqb listed n)) (ltb heaviest t) (rw (eq-eqb (rule .kind) 2 two) at e) in
     (eqb-true listed n (not-false _ (h .0)), ltb-false heaviest t (h .1))
 
 -- a rule that none of 1, 2, 5 and 6 meets; in a stretch 5 is asked of the whole list
-pub sound : (rule : Rule) (n whole : ℕ) (weights rated : List ℕ) → badKind rule ≡ false → badSize n ≡ false → badWeights rule whole weights rated ≡ false
+pub rule-accepted : (rule : Rule) (n whole : ℕ) (weights rated : List ℕ) → badKind rule ≡ false → badSize n ≡ false → badWeights rule whole weights rated ≡ false
     → (length weights ≡ whole → length rated ≡ n) → not (inRange rule n rated) ≡ false → Accepted rule n rated
-sound rule n whole weights rated kind size listed as-many range =
+rule-accepted rule n whole weights rated kind size listed as-many range =
     let k = within-true 1 (rule .kind) 7 (not-false _ kind) in
     let s = within-true 1 n 64 (not-false _ size) in
     record {
@@ -73,8 +73,8 @@ sound rule n whole weights rated kind size listed as-many range =
       kind-high = k .1;
       size-low = s .0;
       size-high = s .1;
-      weights-length = λ two. as-many (weights-sound rule whole (length weights) (total rated) listed two .0);
-      weights-total = λ two. weights-sound rule whole (length weights) (total rated) listed two .1;
+      weights-length = λ two. as-many (weights-accepted rule whole (length weights) (total rated) listed two .0);
+      weights-total = λ two. weights-accepted rule whole (length weights) (total rated) listed two .1;
       in-range = not-false _ range;
     }
 
@@ -118,16 +118,16 @@ module _ {rule : Rule} {n : ℕ} {weights : List ℕ} (ok : Accepted rule n weig
 
 -- no refusal, so the list can be rated
 module _ (rule : Rule) (survival weights table : List ℕ) where
-  pub figures-sound : figuresRefusal rule survival weights table ≡ 0 → Ratable rule survival weights table
+  pub figures-ratable : figuresRefusal rule survival weights table ≡ 0 → Ratable rule survival weights table
   unfolding figuresRefusal
-  figures-sound e =
+  figures-ratable e =
       let a = none-first 0 _ _ e in
       let b = none-first 1 _ _ (a .1) in
       let c = none-first 3 _ _ (b .1) in
       let d = none-first 4 _ _ (c .1) in
       let f = none-first 5 _ _ (d .1) in
       record {
-        accepted = sound rule (length survival) (length survival) weights weights (a .0) (b .0) (d .0) (λ l. l) (f .0);
+        accepted = rule-accepted rule (length survival) (length survival) weights weights (a .0) (b .0) (d .0) (λ l. l) (f .0);
         units = units-in survival (c .0);
         room = ltb-false _ _ (none-first 6 _ _ (f .1) .0);
       }
@@ -137,7 +137,7 @@ module _ (rule : Rule) (survival weights table : List ℕ) where
   unfolding figuresOf
   figures-third l h e =
       let a = answered _ l h _ e in
-      let s = figures-sound (a .0) in
+      let s = figures-ratable (a .0) in
       let low-is : low S rule survival weights ≡ l = cc (a .1) in
       let high-is : high S rule survival weights ≡ h = cc (a .1) in
       rw (← low-is, ← high-is) (third rule survival weights (s .accepted .size-low) (s .units) (s .accepted .in-range))
@@ -164,10 +164,10 @@ stretch-length a b xs e =
     simp (length-take, length-drop) (omega arith)
 
 module _ (rule : Rule) (a b : ℕ) (survival weights table : List ℕ) where
-  pub stretch-sound : stretchRefusal rule a b survival weights table ≡ 0
+  pub stretch-ratable : stretchRefusal rule a b survival weights table ≡ 0
       → (badStretch a b (length survival) ≡ false) × (rule .kind ≡ 2 → length weights ≡ length survival) × Ratable rule (stretch a b survival) (stretch a b weights) table
   unfolding stretchRefusal
-  stretch-sound e =
+  stretch-ratable e =
       let v = none-first 0 _ _ e in
       let w = none-first 1 _ _ (v .1) in
       let t = none-first 2 _ _ (w .1) in
@@ -181,9 +181,9 @@ module _ (rule : Rule) (a b : ℕ) (survival weights table : List ℕ) where
       let as-many : length weights ≡ length survival → length (stretch a b weights) ≡ length (stretch a b survival)
       = λ l. stretch-length a b weights (rw l (t .0)) ∙ sym size in (
         t .0,
-        λ two. weights-sound rule (length survival) (length weights) _ (d .0) two .0,
+        λ two. weights-accepted rule (length survival) (length weights) _ (d .0) two .0,
         record {
-          accepted = sound rule _ (length survival) weights _ (v .0) in-size (d .0) as-many (f .0);
+          accepted = rule-accepted rule _ (length survival) weights _ (v .0) in-size (d .0) as-many (f .0);
           units = units-in (stretch a b survival) (c .0);
           room = ltb-false _ _ (none-first 6 _ _ (f .1) .0);
         },
@@ -195,7 +195,7 @@ module _ (rule : Rule) (a b : ℕ) (survival weights table : List ℕ) where
   unfolding stretchOf
   stretch-third l h e =
       let v = answered _ l h _ e in
-      let s = stretch-sound (v .0) in
+      let s = stretch-ratable (v .0) in
       let size = stretch-length a b survival (s .0) in
       let low-is : low S rule (stretch a b survival) (stretch a b weights) ≡ l = cc (v .1) in
       let high-is : high S rule (stretch a b survival) (stretch a b weights) ≡ h = cc (v .1) in
@@ -283,12 +283,12 @@ module _ (rule : Rule) (survival weights table : List ℕ) where
       first-same 5 _ _ _ _ (sym (weights-same rule n weights (stretch 1 n weights) same)) (λ ws.
       first-same 6 _ _ _ _
       (ap (λ xs. not (inRange rule (length xs) (stretch 1 n weights))) (stretch-all survival n refl)
-      ∙ ap not (sym (range-same rule n weights (stretch 1 n weights) same n (λ two. weights-sound rule n (length weights) _ ws two .0))))
+      ∙ ap not (sym (range-same rule n weights (stretch 1 n weights) same n (λ two. weights-accepted rule n (length weights) _ ws two .0))))
       (λ r. refl))))))
 
   pub whole-is-stretch : figuresOf rule survival weights table ≡ stretchOf rule 1 n survival weights table
   unfolding figuresOf stretchOf
   whole-is-stretch =
       unless-same _ _ Refused _ _ whole-refusal
-      (λ e. answer-same rule n weights (stretch 1 n weights) same survival (figures-sound rule survival weights table e .accepted .weights-length)
+      (λ e. answer-same rule n weights (stretch 1 n weights) same survival (figures-ratable rule survival weights table e .accepted .weights-length)
       ∙ ap (λ xs. range rule xs (stretch 1 n weights)) (sym (stretch-all survival n refl)))
