@@ -1,8 +1,8 @@
 -- What decklist is asked for: by no word to list, by one word what it says; by any other, or by more than one, nothing that it knows.
-use mathlib.Core.Bool.{Bool, true, false, cond}
+use mathlib.Core.Bool.{true, false, cond}
 use mathlib.Core.List.{List}
 use Prim.Native.Nat.{ℕ}
-use lib.Dec.{ltb, eqb}
+use lib.Dec.{ltb}
 use Rattle.text.specs.Decimal.{text}
 use Rattle.program.specs.Edges.{sameText}
 use Rattle.decklist.specs.declared.task.Task.{Task}

@@ -30,8 +30,10 @@ fn main() {
     let length = os::arg(1, &mut word);
     let task = task::task_of(os::arg_count(), &word[..length]);
     match task {
-        Task::Listing(percent) => list_input(percent),
-        Task::Help => write_text(b"usage: decklist [--percent] < FILE\n"),
+        Task::Listing { percent } => list_input(percent),
+        Task::Help => write_text(
+            b"usage: decklist [--percent] < FILE\n       decklist --help\n       decklist --version\n",
+        ),
         Task::Version => write_text(b"decklist 1.0.0\n"),
         Task::Unknown => {
             io::write_all(

@@ -1,5 +1,5 @@
 -- A percent's digits, written from the last one to the first, and how far its text reaches. Assumes nothing.
-use mathlib.Core.Path.{_≡_, sym, _∙_}
+use mathlib.Core.Path.{_≡_, sym}
 use mathlib.Core.Bool.{true, false}
 use mathlib.Core.List.{List, _++_, _∷_}
 use Prim.Native.Nat.{ℕ, zero, suc, _/_, _%_, _+_, _-_, _≤_, _<_}

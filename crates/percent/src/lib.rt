@@ -1,6 +1,5 @@
 // Figures in percent, with six digits after the point: what is put for a range encloses what the range does.
 ghost use mathlib.Core.Path.{_≡_};
-ghost use mathlib.Core.Bool.{true, false};
 ghost use Prim.Native.Nat.{_+_, _≤_};
 ghost use lib.ListN.{length};
 ghost use Rattle.rules.specs.State.{S};
@@ -18,20 +17,15 @@ const POINT_DIGITS: usize = 6;
 
 const ZERO: u8 = 48;
 
-// A figure in millionths of a percent, rounded down.
-fn rounded_down(figure: u64) -> u64
+// A figure in millionths of a percent, rounded down or up.
+fn percent_of(up: bool, figure: u64) -> u64
     requires { ⌜ figure ≤ S ⌝ }
-    ensures { λ r. ⌜ r ≡ percentOf false figure ⌝ }
+    ensures { λ r. ⌜ r ≡ percentOf up figure ⌝ }
 {
+    if up {
+        return (figure * WHOLE + (UNIT - 1)) / UNIT;
+    }
     figure * WHOLE / UNIT
-}
-
-// The same, rounded up.
-fn rounded_up(figure: u64) -> u64
-    requires { ⌜ figure ≤ S ⌝ }
-    ensures { λ r. ⌜ r ≡ percentOf true figure ⌝ }
-{
-    (figure * WHOLE + (UNIT - 1)) / UNIT
 }
 
 // A number's last six digits, zeros in front where it has fewer.
@@ -67,6 +61,6 @@ pub fn put_range(low: u64, high: u64, out: &mut [u8], at: usize) -> usize
     requires room { ⌜ at + rangeRoom ≤ length (now out) ⌝ }
     ensures { λ r. ⌜ Added (rangeText low high) (now (out .entry)) at (now (out .exit)) r ⌝ }
 {
-    let middle = put_percent(b" ", rounded_down(low), out, at);
-    put_percent(b" to ", rounded_up(high), out, middle)
+    let middle = put_percent(b" ", percent_of(false, low), out, at);
+    put_percent(b" to ", percent_of(true, high), out, middle)
 }

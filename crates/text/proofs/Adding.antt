@@ -38,7 +38,10 @@ module _ {out after : List ℕ} {at end : ℕ} where
 
   pub pair-reach : (first : List ℕ) (a : ℕ) (second : List ℕ) (b : ℕ) → Added (pairText first a second b) out at after end → end ≤ at + pairRoom first second
   pair-reach first a second b added =
-      omega (arith, added .ends, length-append (named first a) (named second b), length-append first (decimal a), length-append second (decimal b), decimal-short a, decimal-short b)
+      let lengths = length-append (named first a) (named second b) in
+      let one = length-append first (decimal a) in
+      let two = length-append second (decimal b) in
+      omega (arith, added .ends, lengths, one, two, decimal-short a, decimal-short b)
 
   pub added-more : {text more last : List ℕ} {stop : ℕ} → Added text out at after end → Added more after end last stop → Added (text ++ more) out at last stop
   added-more {text} {more} one two =

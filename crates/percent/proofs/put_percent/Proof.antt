@@ -39,9 +39,10 @@ same-length c = search needs
 
 returns : tie.Need-returns
 returns c =
-    let start = c .before .before .before .before .before .before .before .before .before .before .before .before .before .before .before .before .before .before .before .before .before .before in
-    let named = c .before .before .before .before .before .before .before .before .before .before .before .before .before .before .before .before .before .before .put-named in
-    let point = c .before .before .before .before .before .before .before .before .before .before .before .before .before .put in
+    let pointed = c .before .before .before .before .before .before .before .before .before .before .before .before .before in
+    let start = pointed .before .before .before .before .before .before .before .before .before in
+    let named = pointed .before .before .before .before .before .put-named in
+    let point = pointed .put in
     let digits = c .before .before .before .before .before .before .before .before .before .before .last-digits in
     let last = c .before .before .before .before .before .before .before .put2 in
     let percent = c .before .before .put3 in

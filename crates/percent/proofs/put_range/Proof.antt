@@ -10,8 +10,8 @@ use Rattle.percent.proofs.put_range.Tie as tie
 slice-aggregate-put-percent : tie.Need-slice-aggregate-put-percent
 slice-aggregate-put-percent c = search needs
 
-rounded-down-requires : tie.Need-rounded-down-requires
-rounded-down-requires c κs = search needs
+percent-of-requires : tie.Need-percent-of-requires
+percent-of-requires c κs = search needs
 
 put-percent-requires : tie.Need-put-percent-requires
 put-percent-requires c κs = search needs
@@ -19,8 +19,8 @@ put-percent-requires c κs = search needs
 slice-aggregate-put-percent-2 : tie.Need-slice-aggregate-put-percent-2
 slice-aggregate-put-percent-2 c = search needs
 
-rounded-up-requires : tie.Need-rounded-up-requires
-rounded-up-requires c κs = search needs
+percent-of-requires-2 : tie.Need-percent-of-requires-2
+percent-of-requires-2 c κs = search needs
 
 put-percent-requires-2 : tie.Need-put-percent-requires-2
 put-percent-requires-2 c κs =
@@ -33,19 +33,20 @@ same-length c = search needs
 
 returns : tie.Need-returns
 returns c =
-    let down = c .before .before .before .before .before .before .before .before .before .before .rounded-down .ensures in
-    let up = c .before .before .before .before .rounded-up .ensures in
-    added-more (rw down at (c .before .before .before .before .before .before .before .before .put-percent .ensures)) (rw up at (c .before .before .put-percent2 .ensures))
+    let down = c .before .before .before .before .before .before .before .before .before .before .percent-of .ensures in
+    let up = c .before .before .before .before .percent-of2 .ensures in
+    let first = rw down at (c .before .before .before .before .before .before .before .before .put-percent .ensures) in
+    added-more first (rw up at (c .before .before .put-percent2 .ensures))
 
 pub put-range-spec : {M : Type 1} → statement M
 put-range-spec =
     tie.close
     (tie.spec
     slice-aggregate-put-percent
-    rounded-down-requires
+    percent-of-requires
     put-percent-requires
     slice-aggregate-put-percent-2
-    rounded-up-requires
+    percent-of-requires-2
     put-percent-requires-2
     same-length
     returns)

@@ -31,8 +31,9 @@ returns c =
     let start = c .before .before .before .before .before .before .before .before .before .before .before .before .before .before in
     let read = c .before .before .before .before .before .before .before .before .before .before .before .read-deck in
     let file = put-added (omega (arith, start .pre)) (c .before .before .before .before .before .before .put .ensures) in
+    let taken = c .before .before .before .before .before .before .before .before .before .if1 .taken in
     printed (added-more file (c .before .before .put-refused .ensures))
-    (refused-list (start .args .bytes .now) (start .args .percent) (read .result .refusal) (read-refusal _ _ (read .ensures)) (c .before .before .before .before .before .before .before .before .before .if1 .taken))
+    (refused-list (start .args .bytes .now) (start .args .percent) (read .result .refusal) (read-refusal _ _ (read .ensures)) taken)
 
 put-head-requires : tie.Need-put-head-requires
 put-head-requires c κs = search needs

@@ -19,7 +19,9 @@ same-length c = search needs
 returns : tie.Need-returns
 returns c =
     let start = c .before .before .before .before .before .before .before in
-    whole-printed (start .args .percent) (start .args .input .now) _ (start .args .filled) _ (omega (arith, c .before .before .before .before .before .buffer .given)) (c .before .before .list .ensures)
+    whole-printed (start .args .percent) (start .args .input .now) _ (start .args .filled) _
+    (omega (arith, c .before .before .before .before .before .buffer .given))
+    (c .before .before .list .ensures)
 
 pub list-front-spec : {M : Type 1} → statement M
 list-front-spec = tie.close (tie.spec slice-aggregate-list list-requires same-length returns)

@@ -19,7 +19,8 @@ same-length c = search needs
 returns : tie.Need-returns
 returns c =
     let start = c .before .before .before .before .before .before .before in
-    rw (not-true (start .args .percent) (c .before .before .before .before .before .if1 .taken)) (put-added (omega (arith, start .pre .1)) (c .before .before .put .ensures))
+    let unasked = not-true (start .args .percent) (c .before .before .before .before .before .if1 .taken) in
+    rw unasked (put-added (omega (arith, start .pre .1)) (c .before .before .put .ensures))
 
 put-range-requires : tie.Need-put-range-requires
 put-range-requires c κs = search needs
@@ -41,7 +42,8 @@ returns-2 c =
     let start = c .before .before .before .before .before .before .before .before .before .before .before in
     let range = c .before .before .before .before .before .before .before .put-range in
     let room = range-short (start .args .low) (start .args .high) in
-    rw (not-false (start .args .percent) (c .before .before .before .before .before .before .before .before .before .if1 .left))
+    let asked = not-false (start .args .percent) (c .before .before .before .before .before .before .before .before .before .if1 .left) in
+    rw asked
     (added-more (range .ensures) (put-added (omega (arith, start .pre .1, range .kept, range .ensures .ends, room)) (c .before .before .put2 .ensures)))
 
 pub put-end-spec : {M : Type 1} → statement M

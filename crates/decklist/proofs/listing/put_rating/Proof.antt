@@ -35,7 +35,10 @@ same-length : tie.Need-same-length
 same-length c = search needs
 
 returns : tie.Need-returns
-returns c = rw (c .before .before .before .before .before .before .before .before .before .before .before .rating .given .1) (added-more (c .before .before .before .before .before .before .put-pair .ensures) (c .before .before .put-end .ensures))
+returns c =
+    let is = c .before .before .before .before .before .before .before .before .before .before .before .rating .given in
+    let pair = c .before .before .before .before .before .before .put-pair in
+    rw (is .1) (added-more (pair .ensures) (c .before .before .put-end .ensures))
 
 same-length-2 : tie.Need-same-length-2
 same-length-2 c = search needs

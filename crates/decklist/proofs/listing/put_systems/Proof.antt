@@ -35,8 +35,9 @@ put-system-requires : tie.Need-put-system-requires Inv-loop μ-loop
 put-system-requires c κs =
     let start = c .before .before .before .before .before .before in
     let l = c .before .before .before .before .loop in
-    let lines = lines-short (start .args .percent) (l .s) (answerAt (start .args .deck)) in
-    (rw (c .before .rate-system .ensures) (answer-within (start .args .deck) (l .s)), omega (arith, start .pre .1, start .pre .0 .most, l .inv .1, l .inv .2 .ends, lines))
+    let d = start .args .deck in
+    let lines = lines-short (start .args .percent) (l .s) (answerAt d) in
+    (rw (c .before .rate-system .ensures) (answer-within d (l .s)), omega (arith, start .pre .1, start .pre .0 .most, l .inv .1, l .inv .2 .ends, lines))
 
 loop-less : tie.Need-loop-less Inv-loop μ-loop
 loop-less c = omega arith

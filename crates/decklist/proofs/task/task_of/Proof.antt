@@ -18,7 +18,10 @@ same-requires : tie.Need-same-requires
 same-requires c κs = search needs
 
 returns-3 : tie.Need-returns-3
-returns-3 c = simp (le-ltb _ _ (c .before .before .before .if2 .left), le-ltb _ _ (c .before .before .before .before .if1 .left), sym (c .before .same .ensures) ∙ c .if3 .taken)
+returns-3 c =
+    let one = le-ltb _ _ (c .before .before .before .before .if1 .left) in
+    let two = le-ltb _ _ (c .before .before .before .if2 .left) in
+    simp (two, one, sym (c .before .same .ensures) ∙ c .if3 .taken)
 
 slice-aggregate-same-2 : tie.Need-slice-aggregate-same-2
 slice-aggregate-same-2 c = search needs
@@ -28,7 +31,10 @@ same-requires-2 c κs = search needs
 
 returns-4 : tie.Need-returns-4
 returns-4 c =
-    simp (le-ltb _ _ (c .before .before .before .before .before .before .if2 .left), le-ltb _ _ (c .before .before .before .before .before .before .before .if1 .left), sym (c .before .before .before .before .same .ensures) ∙ c .before .before .before .if3 .left, sym (c .before .same2 .ensures) ∙ c .if4 .taken)
+    let one = le-ltb _ _ (c .before .before .before .before .before .before .before .if1 .left) in
+    let two = le-ltb _ _ (c .before .before .before .before .before .before .if2 .left) in
+    let no-help = sym (c .before .before .before .before .same .ensures) ∙ c .before .before .before .if3 .left in
+    simp (two, one, no-help, sym (c .before .same2 .ensures) ∙ c .if4 .taken)
 
 slice-aggregate-same-3 : tie.Need-slice-aggregate-same-3
 slice-aggregate-same-3 c = search needs
@@ -38,15 +44,21 @@ same-requires-3 c κs = search needs
 
 returns-5 : tie.Need-returns-5
 returns-5 c =
-    let no-help = sym (c .before .before .before .before .before .before .before .same .ensures) ∙ c .before .before .before .before .before .before .if3 .left in
+    let one = le-ltb _ _ (c .before .before .before .before .before .before .before .before .before .before .if1 .left) in
+    let two = le-ltb _ _ (c .before .before .before .before .before .before .before .before .before .if2 .left) in
+    let other = c .before .before .before .before .before .before in
+    let no-help = sym (other .before .same .ensures) ∙ other .if3 .left in
     let no-version = sym (c .before .before .before .before .same2 .ensures) ∙ c .before .before .before .if4 .left in
-    simp (le-ltb _ _ (c .before .before .before .before .before .before .before .before .before .if2 .left), le-ltb _ _ (c .before .before .before .before .before .before .before .before .before .before .if1 .left), no-help, no-version, sym (c .before .same3 .ensures) ∙ c .if5 .taken)
+    simp (two, one, no-help, no-version, sym (c .before .same3 .ensures) ∙ c .if5 .taken)
 
 returns-6 : tie.Need-returns-6
 returns-6 c =
-    let no-help = sym (c .before .before .before .before .before .before .before .same .ensures) ∙ c .before .before .before .before .before .before .if3 .left in
+    let one = le-ltb _ _ (c .before .before .before .before .before .before .before .before .before .before .if1 .left) in
+    let two = le-ltb _ _ (c .before .before .before .before .before .before .before .before .before .if2 .left) in
+    let other = c .before .before .before .before .before .before in
+    let no-help = sym (other .before .same .ensures) ∙ other .if3 .left in
     let no-version = sym (c .before .before .before .before .same2 .ensures) ∙ c .before .before .before .if4 .left in
-    simp (le-ltb _ _ (c .before .before .before .before .before .before .before .before .before .if2 .left), le-ltb _ _ (c .before .before .before .before .before .before .before .before .before .before .if1 .left), no-help, no-version, sym (c .before .same3 .ensures) ∙ c .if5 .left)
+    simp (two, one, no-help, no-version, sym (c .before .same3 .ensures) ∙ c .if5 .left)
 
 pub task-of-spec : {M : Type 1} → statement M
 task-of-spec =
