@@ -1,13 +1,14 @@
 -- Input longer than any sound file, 724 bytes, is never cut into a sound one: a front of 725 bytes or more has the whole's header and is no file
--- either, so decklist prints the same for both. Assumes nothing.
+-- either, so decklist prints the same for both. A buffer that takes more than 724 bytes can be cut from no input that matters. Assumes nothing.
 use mathlib.Core.Path.{_≡_, refl, sym, ap, _∙_}
 use mathlib.Core.Bool.{Bool, true, false, not, _&&_}
 use mathlib.Core.List.{List}
 use Prim.Native.Nat.{ℕ, zero, suc, _+_, _≤_, _<_}
+use native.Mathlib.Decide.{decLe}
 use native.Mathlib.Omega.{arith}
 use lib.Dec.{eqb}
 use lib.ListN.{length, take}
-use lib.Seq.{length-take-le, getD-take}
+use lib.Seq.{length-take-le, take-all, getD-take}
 use borrow.Author.Tests.{le-ltb, ne-eqb, not-false}
 use Rattle.rules.specs.Refusal.{badSize}
 use Rattle.rules.specs.File.{versionField, zeroField, fansField, countField, survivalField, weightsField, systemsField, headerLength, mostFans, mostSystems, survivalOffset, weightsOffset, systemsOffset, fileLength, numberAt, fansIn, countIn, badLayout, fileRefusal}
@@ -15,6 +16,7 @@ use Rattle.rules.proofs.Seven.{within-true}
 use Rattle.rules.proofs.Accepted.{first-same}
 use Rattle.deck.proofs.Sound.{sound}
 use Rattle.decklist.specs.Lines.{listText}
+use Rattle.decklist.specs.Outcome.{Printed, Front, WholePrinted}
 use Rattle.decklist.proofs.Printing.{refused-list}
 
 -- the length of the longest sound file, 724
@@ -62,8 +64,24 @@ module _ (bytes : List ℕ) (k : ℕ) (long : longest < k) (within : k ≤ lengt
       ∙ sym (long-layout bytes (omega arith) (rw (same-number 2 fansField (omega arith)) at n) (rw (same-number 2 countField (omega arith)) at m)))
       (λ layout. refl)))))
 
-  pub front-prints : listText front ≡ listText bytes
-  front-prints =
+  front-prints : (percent : Bool) → listText percent front ≡ listText percent bytes
+  front-prints percent =
       let refused = long-refused bytes (omega arith) in
-      sym (refused-list front (fileRefusal front) refl (λ z. refused (sym same-refusal ∙ z)))
-      ∙ refused-list bytes (fileRefusal front) same-refusal (λ z. refused (sym same-refusal ∙ z))
+      sym (refused-list front percent (fileRefusal front) refl (λ z. refused (sym same-refusal ∙ z)))
+      ∙ refused-list bytes percent (fileRefusal front) same-refusal (λ z. refused (sym same-refusal ∙ z))
+
+-- an input is as its front in a buffer that takes more than the longest file
+front-same : (percent : Bool) (input buffer : List ℕ) (filled : ℕ) → longest < length buffer → Front input buffer filled
+    → listText percent (take filled buffer) ≡ listText percent input
+front-same percent input buffer filled long front =
+    elim (decLe (length input) (length buffer)) [
+      | yes l ↦ rw (front .same, take-all filled input (omega (arith, front .most)))
+      | no g ↦ rw (front .same) (front-prints input filled (omega (arith, front .most)) (omega (arith, front .most)) percent)
+    ]
+
+pub whole-printed : (percent : Bool) (buffer out : List ℕ) (filled end : ℕ) → longest < length buffer → Printed percent (take filled buffer) out end
+    → WholePrinted percent buffer filled out end
+whole-printed percent buffer out filled end long front = record {
+  counts = front .counts;
+  stands = λ input is. front .stands ∙ front-same percent input buffer filled long is;
+}

@@ -1,54 +1,90 @@
 // The lines that decklist prints, put into a buffer.
 ghost use Prim.Native.Nat.{_+_, _≤_};
 ghost use lib.ListN.{length};
+ghost use Rattle.rules.specs.State.{S};
 ghost use Rattle.text.specs.Added.{Added};
 ghost use Rattle.systems.specs.Arrays.{answerAt};
-ghost use Rattle.decklist.specs.Lines.{ratingText, lineText, linesText, ratingRoom, lineRoom, linesRoom, outputRoom};
-ghost use Rattle.decklist.specs.Outcome.{Listable, Printed};
+ghost use Rattle.systems.specs.Within.{WithinUnit};
+ghost use Rattle.decklist.specs.Lines.{endText, ratingText, lineText, linesText, headText};
+ghost use Rattle.decklist.specs.Lines.{endRoom, ratingRoom, lineRoom, linesRoom, headRoom, outputRoom};
+ghost use Rattle.decklist.specs.Outcome.{Listable, Printed, WholePrinted};
 use deck::Deck;
 use rules::Rating;
 use text::lines;
 
-// ` low L high H` or ` refused R`, and the line's end.
-fn put_rating(rating: Rating, out: &mut [u8], at: usize) -> usize
-    requires { ⌜ at + ratingRoom ≤ length (now out) ⌝ }
-    ensures { λ r. ⌜ Added (ratingText rating) (now (out .entry)) at (now (out .exit)) r ⌝ }
+// The buffer for the input. No sound file has more than 724 bytes: what is cut from a longer input changes no line.
+pub const INPUT: usize = 1024;
+
+// Room for all lines.
+pub const OUTPUT: usize = 8192;
+
+// What follows low and high: the same in percent where that is asked for, and the line's end.
+fn put_end(percent: bool, low: u64, high: u64, out: &mut [u8], at: usize) -> usize
+    requires within { ⌜ (low ≤ S) × (high ≤ S) ⌝ }
+    requires room { ⌜ at + endRoom ≤ length (now out) ⌝ }
+    ensures { λ r. ⌜ Added (endText percent low high) (now (out .entry)) at (now (out .exit)) r ⌝ }
+{
+    if !percent {
+        return text::put(out, at, b"\n");
+    }
+    let end = percent::put_range(low, high, out, at);
+    text::put(out, end, b"\n")
+}
+
+// ` low L high H` or ` refused R`, and what follows.
+fn put_rating(percent: bool, rating: Rating, out: &mut [u8], at: usize) -> usize
+    requires within { ⌜ WithinUnit rating ⌝ }
+    requires room { ⌜ at + ratingRoom ≤ length (now out) ⌝ }
+    ensures { λ r. ⌜ Added (ratingText percent rating) (now (out .entry)) at (now (out .exit)) r ⌝ }
 {
     match rating {
-        Rating::Range { low, high } => lines::put_pair(b" low ", low, b" high ", high, out, at),
+        Rating::Range { low, high } => {
+            let end = lines::put_pair(b" low ", low, b" high ", high, out, at);
+            put_end(percent, low, high, out, end)
+        }
         Rating::Refused(number) => lines::put_refused(number, out, at),
     }
 }
 
 // A system's line.
-fn put_system(system: u64, rating: Rating, out: &mut [u8], at: usize) -> usize
-    requires { ⌜ at + lineRoom ≤ length (now out) ⌝ }
-    ensures { λ r. ⌜ Added (lineText system rating) (now (out .entry)) at (now (out .exit)) r ⌝ }
+fn put_system(percent: bool, system: u64, rating: Rating, out: &mut [u8], at: usize) -> usize
+    requires within { ⌜ WithinUnit rating ⌝ }
+    requires room { ⌜ at + lineRoom ≤ length (now out) ⌝ }
+    ensures { λ r. ⌜ Added (lineText percent system rating) (now (out .entry)) at (now (out .exit)) r ⌝ }
 {
     let end = text::put_named(b"system ", system, out, at);
-    put_rating(rating, out, end)
+    put_rating(percent, rating, out, end)
 }
 
 // The lines of a deck's systems.
-fn put_systems(deck: Deck, out: &mut [u8], at: usize) -> usize
+fn put_systems(percent: bool, deck: Deck, out: &mut [u8], at: usize) -> usize
     requires listable { ⌜ Listable deck ⌝ }
     requires room { ⌜ at + linesRoom ≤ length (now out) ⌝ }
-    ensures { λ r. ⌜ Added (linesText (deck .count) (answerAt deck)) (now (out .entry)) at (now (out .exit)) r ⌝ }
+    ensures { λ r. ⌜ Added (linesText percent (deck .count) (answerAt deck)) (now (out .entry)) at (now (out .exit)) r ⌝ }
 {
     let mut end = at;
     let mut s: u64 = 0;
     while s < deck.count {
         let rating = systems::rate_system(deck, s as usize);
         s += 1;
-        end = put_system(s, rating, out, end);
+        end = put_system(percent, s, rating, out, end);
     }
     end
 }
 
+// The first line.
+fn put_head(n: u64, m: u64, out: &mut [u8]) -> usize
+    requires { ⌜ headRoom ≤ length (now out) ⌝ }
+    ensures { λ r. ⌜ Added (headText n m) (now (out .entry)) 0 (now (out .exit)) r ⌝ }
+{
+    let end = lines::put_pair(b"deck ", n, b" systems ", m, out, 0);
+    text::put(out, end, b"\n")
+}
+
 // All that is printed for a file.
-pub fn list(bytes: &[u8], out: &mut [u8]) -> usize
+fn list(percent: bool, bytes: &[u8], out: &mut [u8]) -> usize
     requires { ⌜ outputRoom ≤ length (now out) ⌝ }
-    ensures { λ r. ⌜ Printed (now (bytes .entry)) (now (out .exit)) r ⌝ }
+    ensures { λ r. ⌜ Printed percent (now (bytes .entry)) (now (out .exit)) r ⌝ }
 {
     let read = deck::read_deck(bytes);
     if read.refusal != 0 {
@@ -56,6 +92,16 @@ pub fn list(bytes: &[u8], out: &mut [u8]) -> usize
         return lines::put_refused(read.refusal, out, end);
     }
     let deck = read.deck;
-    let end = lines::put_pair(b"deck ", deck.fans, b" systems ", deck.count, out, 0);
-    put_systems(deck, out, end)
+    let end = put_head(deck.fans, deck.count, out);
+    put_systems(percent, deck, out, end)
+}
+
+// All that is printed for an input, of which the buffer holds the front: all of it, or as much as the buffer takes.
+pub fn list_front(percent: bool, input: &[u8; INPUT], filled: usize, out: &mut [u8]) -> usize
+    requires within { ⌜ filled ≤ length (now input) ⌝ }
+    requires room { ⌜ outputRoom ≤ length (now out) ⌝ }
+    ensures { λ r. ⌜ WholePrinted percent (now (input .entry)) filled (now (out .exit)) r ⌝ }
+{
+    let buffer: &[u8] = input;
+    list(percent, &buffer[..filled], out)
 }

@@ -1,20 +1,45 @@
 // Prints the systems of the deck file on standard input, a line each, or the file's refusal.
 
-mod listing;
+mod listing; // listing.rt: the lines
+mod task; // task.rt: what the program's words ask for
 
-use libc::STDIN_FILENO;
-use libc::STDOUT_FILENO;
+use libc::STDERR_FILENO;
+use program::Input;
+use task::Task;
 
-// No sound file has more than 724 bytes: what is cut from a longer input changes no answer.
-const INPUT: usize = 1024;
+// Room for every word that is known, so that a longer one, which is cut to none, is not known either.
+const WORD: usize = 16;
 
-// Room for all lines.
-const OUTPUT: usize = 4096;
+fn write_text(text: &[u8]) {
+    program::write_output(b"decklist: standard output", text)
+}
+
+// Lists the file on standard input; nothing is listed where it cannot be read.
+fn list_input(percent: bool) {
+    let mut input = [0u8; listing::INPUT];
+    let Input::Filled(filled) = program::read_input(b"decklist: standard input", &mut input) else {
+        return;
+    };
+    let mut out = [0u8; listing::OUTPUT];
+    let end = listing::list_front(percent, &input, filled, &mut out);
+    write_text(&out[..end])
+}
 
 fn main() {
-    let mut input = [0u8; INPUT];
-    let n = io::read_full(STDIN_FILENO, &mut input);
-    let mut out = [0u8; OUTPUT];
-    let end = listing::list(&input[..n], &mut out);
-    io::write_all(STDOUT_FILENO, &out[..end]);
+    let mut word = [0u8; WORD];
+    let length = os::arg(1, &mut word);
+    let task = task::task_of(os::arg_count(), &word[..length]);
+    match task {
+        Task::Listing { percent } => list_input(percent),
+        Task::Help => write_text(
+            b"usage: decklist [--percent] < FILE\n       decklist --help\n       decklist --version\n",
+        ),
+        Task::Version => write_text(b"decklist 1.0.0\n"),
+        Task::Unknown => {
+            io::write_all(
+                STDERR_FILENO,
+                b"decklist: takes no word, or one of --percent, --help and --version\n",
+            );
+        }
+    }
 }

@@ -46,8 +46,3 @@ pub held-same : (p q : ℕ → Bool) (k : ℕ) → ((d : ℕ) → d < k → p d 
 unfolding held
 held-same p q zero h = refl
 held-same p q (suc k) h = rw (held-same p q k (λ d l. h d (omega arith)), h k (omega arith))
-
-pub some-same : (p q : ℕ → Bool) (k : ℕ) → ((d : ℕ) → d < k → p d ≡ q d) → some p k ≡ some q k
-unfolding some
-some-same p q zero h = refl
-some-same p q (suc k) h = rw (some-same p q k (λ d l. h d (omega arith)), h k (omega arith))

@@ -7,7 +7,7 @@ use lib.ListN.{length, take, length-append}
 use lib.Seq.{paste, length-paste, take-paste, take-all}
 use borrow.Author.Tests.{le-leb}
 use Rattle.text.specs.Decimal.{decimal}
-use Rattle.text.specs.Lines.{named, namedRoom}
+use Rattle.text.specs.Lines.{named, namedRoom, pairText, pairRoom}
 use Rattle.text.specs.Put.{Put, PutNamed}
 use Rattle.text.specs.Added.{Added}
 use Rattle.text.proofs.Digits.{decimal-short}
@@ -32,9 +32,16 @@ module _ {out after : List ℕ} {at end : ℕ} where
       let fit = le-leb (length text) (length out - at) (omega arith) in
       ap length (rw fit at (put .stands)) ∙ length-paste out at text (length text) room (omega arith)
 
-  -- how far a named number reaches
+  -- how far a named number reaches, and two of them
   pub named-reach : (name : List ℕ) (n : ℕ) → Added (named name n) out at after end → end ≤ at + namedRoom name
   named-reach name n added = omega (arith, added .ends, length-append name (decimal n), decimal-short n)
+
+  pub pair-reach : (first : List ℕ) (a : ℕ) (second : List ℕ) (b : ℕ) → Added (pairText first a second b) out at after end → end ≤ at + pairRoom first second
+  pair-reach first a second b added =
+      let lengths = length-append (named first a) (named second b) in
+      let one = length-append first (decimal a) in
+      let two = length-append second (decimal b) in
+      omega (arith, added .ends, lengths, one, two, decimal-short a, decimal-short b)
 
   pub added-more : {text more last : List ℕ} {stop : ℕ} → Added text out at after end → Added more after end last stop → Added (text ++ more) out at last stop
   added-more {text} {more} one two =

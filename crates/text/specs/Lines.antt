@@ -11,12 +11,12 @@ named name n = name ++ decimal n
 abbrev pub namedRoom : (name : List ℕ) → ℕ
 namedRoom name = length name + mostDigits
 
--- two of them, and the line's end
+-- two of them
 abbrev pub pairText : (first : List ℕ) (a : ℕ) (second : List ℕ) (b : ℕ) → List ℕ
-pairText first a second b = named first a ++ named second b ++ text "\n"
+pairText first a second b = named first a ++ named second b
 
 abbrev pub pairRoom : (first second : List ℕ) → ℕ
-pairRoom first second = namedRoom first + namedRoom second + 1
+pairRoom first second = namedRoom first + namedRoom second
 
 -- a refusal, and the line's end
 abbrev pub refusedText : ℕ → List ℕ

@@ -31,24 +31,19 @@ returns c =
     let start = c .before .before .before .before .before .before .before .before .before .before .before .before .before .before in
     let read = c .before .before .before .before .before .before .before .before .before .before .before .read-deck in
     let file = put-added (omega (arith, start .pre)) (c .before .before .before .before .before .before .put .ensures) in
+    let taken = c .before .before .before .before .before .before .before .before .before .if1 .taken in
     printed (added-more file (c .before .before .put-refused .ensures))
-    (refused-list (start .args .bytes .now) (read .result .refusal) (read .ensures .refusal) (c .before .before .before .before .before .before .before .before .before .if1 .taken))
+    (refused-list (start .args .bytes .now) (start .args .percent) (read .result .refusal) (read .ensures .refusal) taken)
 
-slice-aggregate-put-pair : tie.Need-slice-aggregate-put-pair
-slice-aggregate-put-pair c = search needs
-
-slice-aggregate-put-pair-2 : tie.Need-slice-aggregate-put-pair-2
-slice-aggregate-put-pair-2 c = search needs
-
-put-pair-requires : tie.Need-put-pair-requires
-put-pair-requires c κs = search needs
+put-head-requires : tie.Need-put-head-requires
+put-head-requires c κs = search needs
 
 put-systems-requires : tie.Need-put-systems-requires
 put-systems-requires c κs =
-    let start = c .before .before .before .before .before .before .before .before .before .before .before .before .before in
-    let read = c .before .before .before .before .before .before .before .before .before .before .read-deck in
-    let left = c .before .before .before .before .before .before .before .before .if1 .left in
-    let head = c .before .before .before .put-pair in (
+    let start = c .before .before .before .before .before .before .before .before .before .before .before in
+    let read = c .before .before .before .before .before .before .before .before .read-deck in
+    let left = c .before .before .before .before .before .before .if1 .left in
+    let head = c .before .before .before .put-head in (
       kept-listable (start .args .bytes .now) _ (read-deck _ _ (read .ensures) left) (read-none _ _ (read .ensures) left),
       omega (arith, start .pre, head .kept, head .ensures .ends, head-short (read .result .deck .fans) (read .result .deck .count)),
     )
@@ -58,11 +53,11 @@ same-length-2 c = search needs
 
 returns-2 : tie.Need-returns-2
 returns-2 c =
-    let start = c .before .before .before .before .before .before .before .before .before .before .before .before .before .before .before .before in
-    let read = c .before .before .before .before .before .before .before .before .before .before .before .before .before .read-deck in
-    let left = c .before .before .before .before .before .before .before .before .before .before .before .if1 .left in
-    printed (added-more (c .before .before .before .before .before .before .put-pair .ensures) (c .before .before .put-systems .ensures))
-    (kept-list (start .args .bytes .now) _ (read-deck _ _ (read .ensures) left) (read-none _ _ (read .ensures) left))
+    let start = c .before .before .before .before .before .before .before .before .before .before .before .before .before .before in
+    let read = c .before .before .before .before .before .before .before .before .before .before .before .read-deck in
+    let left = c .before .before .before .before .before .before .before .before .before .if1 .left in
+    printed (added-more (c .before .before .before .before .before .before .put-head .ensures) (c .before .before .put-systems .ensures))
+    (kept-list (start .args .bytes .now) _ (read-deck _ _ (read .ensures) left) (read-none _ _ (read .ensures) left) (start .args .percent))
 
 pub list-spec : {M : Type 1} → statement M
 list-spec =
@@ -74,9 +69,7 @@ list-spec =
     put-refused-requires
     same-length
     returns
-    slice-aggregate-put-pair
-    slice-aggregate-put-pair-2
-    put-pair-requires
+    put-head-requires
     put-systems-requires
     same-length-2
     returns-2)

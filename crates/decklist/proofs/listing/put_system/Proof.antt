@@ -16,8 +16,8 @@ put-rating-requires : tie.Need-put-rating-requires
 put-rating-requires c κs =
     let start = c .before .before .before .before .before .before .before in
     let named = c .before .before .before .put-named in
-    let one = named-added (omega (arith, start .pre)) (named .ensures) in
-    omega (arith, start .pre, named .kept, named-reach (text "system ") (start .args .system) one)
+    let one = named-added (omega (arith, start .pre .1)) (named .ensures) in
+    (start .pre .0, omega (arith, start .pre .1, named .kept, named-reach (text "system ") (start .args .system) one))
 
 same-length : tie.Need-same-length
 same-length c = search needs
@@ -25,7 +25,7 @@ same-length c = search needs
 returns : tie.Need-returns
 returns c =
     let start = c .before .before .before .before .before .before .before .before .before .before in
-    let one = named-added (omega (arith, start .pre)) (c .before .before .before .before .before .before .put-named .ensures) in
+    let one = named-added (omega (arith, start .pre .1)) (c .before .before .before .before .before .before .put-named .ensures) in
     added-more one (c .before .before .put-rating .ensures)
 
 pub put-system-spec : {M : Type 1} → statement M

@@ -8,17 +8,18 @@ use lib.ListN.{length}
 use Rattle.text.specs.Added.{Added}
 use Rattle.text.proofs.Adding.{none-added, added-more}
 use Rattle.systems.specs.Arrays.{answerAt}
+use Rattle.systems.proofs.Figures.{answer-within}
 use Rattle.decklist.specs.Lines.{linesText}
 use Rattle.decklist.proofs.Lengths.{lines-short}
 use Rattle.decklist.proofs.listing.put_systems.Statement.{statement}
 use Rattle.decklist.proofs.listing.put_systems.Tie as tie
 
 abbrev Inv-loop : tie.InvT-loop
-Inv-loop deck out₀ at end₀ s₀ out end s =
-    (s ≤ deck .count) × (length out ≡ length out₀) × Added (linesText s (answerAt deck)) out₀ at out end
+Inv-loop percent deck out₀ at end₀ s₀ out end s =
+    (s ≤ deck .count) × (length out ≡ length out₀) × Added (linesText percent s (answerAt deck)) out₀ at out end
 
 abbrev μ-loop : tie.MeasureT-loop
-μ-loop deck out₀ at end₀ s₀ out end s = deck .count - s
+μ-loop percent deck out₀ at end₀ s₀ out end s = deck .count - s
 
 loop-holds : tie.Need-loop-holds Inv-loop μ-loop
 unfolding linesText
@@ -34,7 +35,9 @@ put-system-requires : tie.Need-put-system-requires Inv-loop μ-loop
 put-system-requires c κs =
     let start = c .before .before .before .before .before .before in
     let l = c .before .before .before .before .loop in
-    omega (arith, start .pre .1, start .pre .0 .most, l .inv .1, l .inv .2 .ends, lines-short (l .s) (answerAt (start .args .deck)))
+    let d = start .args .deck in
+    let lines = lines-short (start .args .percent) (l .s) (answerAt d) in
+    (rw (c .before .rate-system .ensures) (answer-within d (l .s)), omega (arith, start .pre .1, start .pre .0 .most, l .inv .1, l .inv .2 .ends, lines))
 
 loop-less : tie.Need-loop-less Inv-loop μ-loop
 loop-less c = omega arith

@@ -1,6 +1,6 @@
--- `lines::put_pair` meets its contract: the two named numbers and the line's end fit. Assumes nothing.
+-- `lines::put_pair` meets its contract: the two named numbers fit. Assumes nothing.
 use native.Mathlib.Omega.{arith}
-use Rattle.text.proofs.Adding.{put-added, named-added, named-reach, added-more}
+use Rattle.text.proofs.Adding.{named-added, named-reach, added-more}
 use borrow.Author.Needs.{needs}
 use Rattle.text.proofs.lines.put_pair.Statement.{statement}
 use Rattle.text.proofs.lines.put_pair.Tie as tie
@@ -11,34 +11,16 @@ put-named-requires c κs = search needs
 put-named-requires-2 : tie.Need-put-named-requires-2
 put-named-requires-2 c κs = search needs
 
-slice-aggregate-put : tie.Need-slice-aggregate-put
-slice-aggregate-put c = search needs
-
-put-requires : tie.Need-put-requires
-put-requires c κs = search needs
-
 same-length : tie.Need-same-length
 same-length c = search needs
 
 returns : tie.Need-returns
 returns c =
-    let start = c .before .before .before .before .before .before .before .before .before .before .before .before .before .before .before .before in
-    let first = c .before .before .before .before .before .before .before .before .before .before .before .put-named in
-    let second = c .before .before .before .before .before .before .before .put-named2 in
+    let start = c .before .before .before .before .before .before .before .before .before .before .before in
+    let first = c .before .before .before .before .before .before .put-named in
     let one = named-added (omega (arith, start .pre)) (first .ensures) in
     let reach = named-reach (start .args .first .now) (start .args .a) one in
-    let two = named-added (omega (arith, start .pre, first .kept, reach)) (second .ensures) in
-    let far = named-reach (start .args .second .now) (start .args .b) two in
-    added-more (added-more one two)
-    (put-added (omega (arith, start .pre, first .kept, second .kept, reach, far)) (c .before .before .put .ensures))
+    added-more one (named-added (omega (arith, start .pre, first .kept, reach)) (c .before .before .put-named2 .ensures))
 
 pub put-pair-spec : {M : Type 1} → statement M
-put-pair-spec =
-    tie.close
-    (tie.spec
-    put-named-requires
-    put-named-requires-2
-    slice-aggregate-put
-    put-requires
-    same-length
-    returns)
+put-pair-spec = tie.close (tie.spec put-named-requires put-named-requires-2 same-length returns)

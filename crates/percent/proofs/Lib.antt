@@ -1,0 +1,3 @@
+-- The laws of figures in percent.
+pub mod Enclosing
+pub mod Digits

@@ -1,0 +1,2 @@
+-- What figures are in percent.
+pub mod Percent

@@ -1,0 +1,2 @@
+-- The laws of texts that are the same.
+mod Texts

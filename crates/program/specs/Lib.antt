@@ -1,0 +1,2 @@
+-- What the edges of a program cite.
+pub mod Edges

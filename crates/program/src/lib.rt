@@ -1,0 +1,65 @@
+// What every program does at its edges: it compares its words, reads its input, writes its output, and says on standard error what failed.
+ghost use mathlib.Core.Path.{_≡_};
+ghost use lib.ListN.{length};
+ghost use Rattle.program.specs.Edges.{sameText, FitsIn};
+use libc::STDIN_FILENO;
+use libc::STDOUT_FILENO;
+
+// What reading gave: so many bytes at the buffer's front, up to the input's end or the buffer's; or a read that failed.
+pub enum Input {
+    Filled(usize),
+    Failed,
+}
+
+// Whether two texts are the same.
+pub fn same(a: &[u8], b: &[u8]) -> bool
+    ensures { λ r. ⌜ r ≡ sameText (now (a .entry)) (now (b .entry)) ⌝ }
+{
+    if a.len() != b.len() {
+        return false;
+    }
+    let mut i = 0;
+    while i < a.len() {
+        if a[i] != b[i] {
+            return false;
+        }
+        i += 1;
+    }
+    true
+}
+
+// One read of standard input, into the buffer's front.
+fn read_some(buffer: &mut [u8]) -> Input
+    ensures { λ r. ⌜ FitsIn (length (now (buffer .exit))) r ⌝ }
+{
+    let got = libc::read(STDIN_FILENO, buffer);
+    if got < 0 {
+        return Input::Failed;
+    }
+    Input::Filled(io::count(got, buffer))
+}
+
+// Reads standard input until it ends or the buffer is full; a read that fails is told, by the name that the input is given.
+pub fn read_input(name: &[u8], buffer: &mut [u8]) -> Input
+    ensures { λ r. ⌜ FitsIn (length (now (buffer .exit))) r ⌝ }
+{
+    let mut filled = 0;
+    while filled < buffer.len() {
+        let Input::Filled(more) = read_some(&mut buffer[filled..]) else {
+            os::fail(name);
+            return Input::Failed;
+        };
+        if more == 0 {
+            return Input::Filled(filled);
+        }
+        filled += more;
+    }
+    Input::Filled(filled)
+}
+
+// Writes a text to standard output; what cannot be written is told, by the name that the output is given.
+pub fn write_output(name: &[u8], text: &[u8]) {
+    if !io::write_all(STDOUT_FILENO, text) {
+        os::fail(name);
+    }
+}
