@@ -1,24 +1,23 @@
 -- One number carries every answer of the call: figures stay within the unit and refusals within the table's numbers, so the number fits 64 bits,
 -- and it tells the answer: ranges and refusals never collide. Assumes nothing.
-use mathlib.Core.Path.{_≡_, refl, sym, ap, ap₂, _∙_}
+use mathlib.Core.Path.{_≡_, sym, ap, ap₂, _∙_}
 use mathlib.Core.Bool.{Bool, true, false, cond}
 use mathlib.Core.List.{List, [], _∷_}
-use Prim.Native.Nat.{ℕ, zero, suc, _≤_}
+use Prim.Native.Nat.{ℕ, _≤_}
 use native.Mathlib.Omega.{arith}
-use lib.ListN.{length, replicate, getD}
+use lib.ListN.{replicate}
 use Rattle.rules.specs.declared.Rule.{Rule}
 use Rattle.rules.specs.declared.System.{System}
 use Rattle.rules.specs.declared.Rating.{Rating}
 use Rattle.rules.specs.declared.Rating.the-variants.{Range, Refused}
-use Rattle.rules.specs.State.{S, numberOf}
-use Rattle.rules.specs.Memory.{machine}
+use Rattle.rules.specs.State.{S}
 use Rattle.rules.specs.Figure.{figure}
 use Rattle.rules.specs.Stretch.{stretch}
 use Rattle.rules.specs.Refusal.{cells, firstOf, stretchRefusal}
-use Rattle.rules.specs.Answer.{unless, stretchOf}
+use Rattle.rules.specs.Answer.{stretchOf}
 use Rattle.rules.specs.File.{Deck, badNumber, fileRefusal, systemOf, packed, loadingOf}
-use Rattle.rules.proofs.Enclosure.{value-le}
-use Rattle.rules.proofs.Conditions.{below-unit}
+use Rattle.rules.proofs.Unless.{unless-by}
+use Rattle.rules.proofs.Conditions.{figure-within}
 use Rattle.rules.proofs.Accepted.{stretch-ratable}
 use Rattle.loading.specs.Outcome.{Answered}
 use Rattle.loading.specs.Packing.{mostRefusal, Packable}
@@ -33,16 +32,6 @@ first-none : firstOf [] ≤ mostRefusal
 unfolding firstOf
 first-none = omega arith
 
-unless-packable : (r : ℕ) (answer : Rating) → r ≤ mostRefusal → (r ≡ 0 → Packable answer) → Packable (unless r Refused answer)
-unfolding unless
-unless-packable zero answer h l = l refl
-unless-packable (suc r) answer h l = h
-
--- a figure is a value of a memory, and stays within the unit
-figure-le : (up : Bool) (rule : Rule) (survival weights : List ℕ) → ((i : ℕ) → getD survival i 0 ≤ S) → figure up S rule survival weights ≤ S
-figure-le up rule survival weights units =
-    value-le (machine rule weights) S (numberOf survival) (omega arith) up (length survival) (λ i l. below-unit survival units i) _
-
 stretch-le : (rule : Rule) (a b : ℕ) (survival weights table : List ℕ) → stretchRefusal rule a b survival weights table ≤ mostRefusal
 unfolding stretchRefusal
 stretch-le rule a b survival weights table =
@@ -53,8 +42,8 @@ pub stretch-packable : (rule : Rule) (a b : ℕ) (survival weights table : List 
 unfolding stretchOf
 stretch-packable rule a b survival weights table =
     let within : (up : Bool) → stretchRefusal rule a b survival weights table ≡ 0 → figure up S rule (stretch a b survival) (stretch a b weights) ≤ S
-    = λ up e. figure-le up rule _ _ (stretch-ratable rule a b survival weights table e .2 .units) in
-    unless-packable _ _ (stretch-le rule a b survival weights table) (λ e. (within false e, within true e))
+    = λ up e. figure-within up rule _ _ (stretch-ratable rule a b survival weights table e .2 .units) in
+    unless-by Packable _ Refused _ (stretch-le rule a b survival weights table) (λ e. (within false e, within true e))
 
 system-packable : (d : Deck) (s : System) → Packable (systemOf d s)
 unfolding systemOf
@@ -63,7 +52,7 @@ system-packable d s = stretch-packable (s .rule) (s .a) (s .b) (d .survival) (d 
 pub loading-packable : (bytes : List ℕ) (s : ℕ) → Packable (loadingOf bytes s)
 unfolding loadingOf fileRefusal
 loading-packable bytes s =
-    unless-packable _ _
+    unless-by Packable _ Refused _
     (first-le 10 _ _ (omega arith) (first-le 11 _ _ (omega arith) (first-le 2 _ _ (omega arith) (first-le 12 _ _ (omega arith)
     (first-le 13 _ _ (omega arith) first-none)))))
     (λ e. numbered (badNumber bytes s) _ (system-packable _ _))

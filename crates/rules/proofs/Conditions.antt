@@ -2,7 +2,7 @@
 -- kind's memory ends working exactly if the verdict says that the system works. Hence the third condition, for a list and for a stretch, and the
 -- counts as a reading gives them. Assumes nothing.
 use mathlib.Core.Path.{_≡_, sym}
-use mathlib.Core.Bool.{true, false}
+use mathlib.Core.Bool.{Bool, true, false}
 use mathlib.Core.List.{List}
 use Prim.Native.Nat.{ℕ, zero, suc, _^_, _≤_, _<_}
 use native.Mathlib.Omega.{arith}
@@ -16,13 +16,13 @@ use Rattle.rules.specs.State.{S, ruleOf, numberOf}
 use Rattle.rules.specs.Verdict.{fails, works}
 use Rattle.rules.specs.Count.{countIf, countOf}
 use Rattle.rules.specs.Memory.{run, readingOf, machine}
-use Rattle.rules.specs.Figure.{low, high, exact, Third}
+use Rattle.rules.specs.Figure.{figure, low, high, exact, Third}
 use Rattle.rules.specs.Refusal.{ranged, inRange, aboveUnit}
 use Rattle.rules.proofs.Seven.{seven, within-true, range-kind}
 use Rattle.rules.proofs.Tests.{both}
 use Rattle.rules.proofs.Windows.{some-none, not-lt}
 use Rattle.rules.proofs.Split.{exact-same, count-same}
-use Rattle.rules.proofs.Enclosure.{enclosed}
+use Rattle.rules.proofs.Enclosure.{value-le, enclosed}
 use Rattle.rules.proofs.Adding.{kind1, kind2, kind3}
 use Rattle.rules.proofs.InARow.{kind4, kind5}
 use Rattle.rules.proofs.Apart.{kind6, kind7}
@@ -70,6 +70,11 @@ pub below-unit : (survival : List ℕ) → ((i : ℕ) → getD survival i 0 ≤ 
 unfolding numberOf
 below-unit survival units zero = omega arith
 below-unit survival units (suc i) = units i
+
+-- a figure is a value of a memory, and stays within the unit
+pub figure-within : (up : Bool) (rule : Rule) (survival weights : List ℕ) → ((i : ℕ) → getD survival i 0 ≤ S) → figure up S rule survival weights ≤ S
+figure-within up rule survival weights units =
+    value-le (machine rule weights) S (numberOf survival) (omega arith) up (length survival) (λ i l. below-unit survival units i) _
 
 -- the third condition, of document 01's low, high and E. Of a stretch it is this, said of the stretch's own lists.
 pub third : (rule : Rule) (survival weights : List ℕ) → 1 ≤ length survival → ((i : ℕ) → getD survival i 0 ≤ S) → inRange rule (length survival) weights ≡ true

@@ -5,7 +5,7 @@ use mathlib.Core.Bool.{Bool, cond}
 use Prim.Native.Nat.{ℕ, zero, suc, _+_, _*_, _^_, _<_}
 use native.Mathlib.Nat.{add-zero, add-suc, one-mul}
 use native.Mathlib.Omega.{arith}
-use Rattle.rules.specs.Below.{sumBelow, held, some}
+use Rattle.rules.specs.Below.{sumBelow, held}
 
 pub sum-add : (a b : ℕ) (f : ℕ → ℕ) → sumBelow (a + b) f ≡ sumBelow a f + sumBelow b (λ w. f (a + w))
 unfolding sumBelow

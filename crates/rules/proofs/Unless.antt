@@ -11,3 +11,9 @@ unless-some (suc r) refused answer h = refl
 pub unless-none : {A : Type 0} (r : ℕ) (refused : ℕ → A) (answer : A) → r ≡ 0 → unless r refused answer ≡ answer
 unfolding unless
 unless-none r refused answer e = rw e
+
+-- what holds of every refusal, and of the answer where there is none
+pub unless-by : {A : Type 0} (P : A → Type 0) (r : ℕ) (refused : ℕ → A) (answer : A) → P (refused r) → (r ≡ 0 → P answer) → P (unless r refused answer)
+unfolding unless
+unless-by P zero refused answer h l = l refl
+unless-by P (suc r) refused answer h l = h
