@@ -8,7 +8,7 @@ use native.Mathlib.Numerals.{add-one}
 use native.Mathlib.Omega.{arith}
 use lib.Dec.{leb}
 use lib.ListN.{length, getD}
-use borrow.Author.Tests.{ne-eqb}
+use borrow.Author.Tests.{le-leb, ne-eqb}
 use Rattle.rules.specs.State.{S}
 use Rattle.rules.specs.Figure.{rounded, mixed, value}
 use Rattle.rules.proofs.Rounding.{nothing}
@@ -40,7 +40,7 @@ module _ (r : ℕ) (survival : List ℕ) (up : Bool) where
         owed-works r (suc i) m alive,
         owed-fails r (suc i) m alive,
         ne-eqb (m .owed) 0 (λ e. omega arith),
-        worth-dead (owing r) survival (owed-dead r) i (owed (m .clean) r) (omega arith) up,
+        worth-dead (owing r) survival (owed-dead r) i (owed (m .clean) r) (le-leb r r (omega arith)) up,
       )
 
   -- and one that owes no less than are left

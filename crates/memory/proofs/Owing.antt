@@ -1,49 +1,47 @@
 -- Rows 6 and 7: what the program's memory owes reads as document 01's pair (x, g), and as the line's number g past as many clean ones as can count;
 -- one that owes r is dead. Assumes nothing.
 use mathlib.Core.Path.{_≡_}
-use Prim.Native.Nat.{ℕ, zero, suc, _-_, _≤_, _<_}
+use mathlib.Core.Bool.{true}
+use Prim.Native.Nat.{ℕ, zero, suc, _-_, _<_}
 use native.Mathlib.Omega.{arith}
 use borrow.Author.Tests.{le-leb, lt-leb, ne-eqb}
 use Rattle.rules.specs.Memory.{Memory, live, dead, moved, ended, machineOf, row6, row7, Ring, pair, working7, failing7, end7}
 use Rattle.rules.proofs.Apart.{line-gap}
 use Rattle.rules.proofs.Simulation.{Alike, Same, alike-same, same-third}
 use Rattle.rules.proofs.Dead.{Dead}
+use Rattle.memory.proofs.Living.{living-works, living-fails, living-ends, living-dead}
 use Rattle.memory.specs.declared.owed.Owed.{Owed}
-use Rattle.memory.specs.Owed.{owed, owedWorks, owedWorked, owedFailed, owing}
+use Rattle.memory.specs.Owed.{owed, owedWorks, owedWorked, owedFailed, owing, owedDead, owedMoves}
 
 -- the moves of a living memory
 module _ (r i : ℕ) (m : Owed) (alive : m .owed < r) where
   pub owed-works : owing r .worked i m ≡ owedWorked m
   unfolding owing
-  owed-works = rw (lt-leb r (m .owed) alive)
+  owed-works = living-works (owedDead r) (owedMoves r) m (lt-leb r _ alive) i
 
   pub owed-fails : owing r .failed i m ≡ owedFailed r m
   unfolding owing
-  owed-fails = rw (lt-leb r (m .owed) alive)
+  owed-fails = living-fails (owedDead r) (owedMoves r) m (lt-leb r _ alive) i
 
   pub owed-ends : owing r .ends m ≡ owedWorks m
   unfolding owing
-  owed-ends = rw (lt-leb r (m .owed) alive)
+  owed-ends = living-ends (owedDead r) (owedMoves r) m (lt-leb r _ alive)
 
 -- and of a dead one
-pub owed-dead : (r : ℕ) → Dead (owing r) (λ m. r ≤ m .owed)
+pub owed-dead : (r : ℕ) → Dead (owing r) (λ m. owedDead r m ≡ true)
 unfolding owing
-owed-dead r = record {
-  works = λ i {m} d. rw (le-leb r (m .owed) d) d;
-  fails = λ i {m} d. rw (le-leb r (m .owed) d) d;
-  last = λ {m} d. rw (le-leb r (m .owed) d);
-}
+owed-dead r = living-dead (owedDead r) (owedMoves r)
 
 data Owes (r : ℕ) : Owed → Memory Ring → Type 0 where
   still : {x g : ℕ} → g < r → Owes r (owed x g) (live (pair x g))
-  gone : {m : Owed} → r ≤ m .owed → Owes r m dead
+  gone : {m : Owed} → owedDead r m ≡ true → Owes r m dead
 
 module _ (r : ℕ) (pos : 0 < r) where
   -- a failed component after one that is owed, and after none
   fails : (x g : ℕ) → g < r → Owes r (owedFailed r (owed x g)) (failing7 r (pair x g))
   unfolding failing7
   fails x zero h = still {x = x} {g = r - 1} (omega arith)
-  fails x (suc g) h = rw (ne-eqb (suc g) 0 (λ e. omega arith)) (gone {m = owed x r} (omega arith))
+  fails x (suc g) h = rw (ne-eqb (suc g) 0 (λ e. omega arith)) (gone {m = owed x r} (le-leb r r (omega arith)))
 
   owes : Alike (owing r) (machineOf (row7 r)) (λ i. Owes r)
   unfolding moved ended working7 end7

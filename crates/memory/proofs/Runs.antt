@@ -2,7 +2,7 @@
 -- becomes, and what a memory with no run is worth where a run comes to k. Assumes nothing.
 use mathlib.Core.Path.{_≡_, refl}
 use mathlib.Core.Bool.{Bool, true, false, cond}
-use Prim.Native.Nat.{ℕ, suc, _≤_, _<_}
+use Prim.Native.Nat.{ℕ, suc, _<_}
 use native.Mathlib.Numerals.{add-one}
 use lib.Dec.{ltb}
 use borrow.Author.Tests.{ltb-true, ltb-false, le-leb, lt-leb}
@@ -10,39 +10,36 @@ use Rattle.rules.specs.Memory.{Memory, live, dead, moved, ended, machineOf, row
 use Rattle.rules.proofs.InARow.{line-row}
 use Rattle.rules.proofs.Simulation.{Alike, Same, alike-same, same-third}
 use Rattle.rules.proofs.Dead.{Dead}
+use Rattle.memory.proofs.Living.{living-works, living-fails, living-ends, living-dead}
 use Rattle.memory.specs.declared.run.Run.{Run}
-use Rattle.memory.specs.Run.{run, runWorks, runFailed, running}
+use Rattle.memory.specs.Run.{run, runWorks, runFailed, running, runDead, runMoves}
 
 -- the moves of a living memory
 module _ (k i : ℕ) (m : Run) (alive : m .run < k) where
   pub run-works : running k .worked i m ≡ run (m .lead) 0
   unfolding running
-  run-works = rw (lt-leb k (m .run) alive)
+  run-works = living-works (runDead k) (runMoves k) m (lt-leb k _ alive) i
 
   pub run-fails : running k .failed i m ≡ runFailed m
   unfolding running
-  run-fails = rw (lt-leb k (m .run) alive)
+  run-fails = living-fails (runDead k) (runMoves k) m (lt-leb k _ alive) i
 
   pub run-ends : running k .ends m ≡ runWorks k m
   unfolding running
-  run-ends = rw (lt-leb k (m .run) alive)
+  run-ends = living-ends (runDead k) (runMoves k) m (lt-leb k _ alive)
 
 -- and of a dead one
-pub run-dead : (k : ℕ) → Dead (running k) (λ m. k ≤ m .run)
+pub run-dead : (k : ℕ) → Dead (running k) (λ m. runDead k m ≡ true)
 unfolding running
-run-dead k = record {
-  works = λ i {m} d. rw (le-leb k (m .run) d) d;
-  fails = λ i {m} d. rw (le-leb k (m .run) d) d;
-  last = λ {m} d. rw (le-leb k (m .run) d);
-}
+run-dead k = living-dead (runDead k) (runMoves k)
 
 data Runs (k : ℕ) : Run → Memory Ring → Type 0 where
   still : {t s : ℕ} → s < k → Runs k (run t s) (live (pair t s))
-  gone : {m : Run} → k ≤ m .run → Runs k m dead
+  gone : {m : Run} → runDead k m ≡ true → Runs k m dead
 
 longer : (k t s : ℕ) (b : Bool) → ltb s k ≡ b → Runs k (run t s) (cond b (live (pair t s)) dead)
 longer k t s true e = still (ltb-true _ _ e)
-longer k t s false e = gone (ltb-false _ _ e)
+longer k t s false e = gone {m = run t s} (le-leb k s (ltb-false s k e))
 
 module _ (k : ℕ) (pos : 0 < k) where
   runs : Alike (running k) (machineOf (row5 k)) (λ i. Runs k)

@@ -32,7 +32,11 @@ abbrev pub cleanFailed : (r : ℕ) → Clean → Owed
 cleanFailed r m = owed (m .clean) (r - 1)
 
 -- as a machine
+abbrev pub owedMoves : (r : ℕ) → Machine Owed
+owedMoves r = record { start = owed (r - 1) 0; worked = λ i. owedWorked; failed = λ i. owedFailed r; ends = owedWorks }
+
+abbrev pub owedDead : (r : ℕ) → Owed → Bool
+owedDead r m = leb r (m .owed)
+
 unfoldable pub owing : (r : ℕ) → Machine Owed
-owing r =
-    living (λ m. leb r (m .owed))
-    (record { start = owed (r - 1) 0; worked = λ i. owedWorked; failed = λ i. owedFailed r; ends = owedWorks })
+owing r = living (owedDead r) (owedMoves r)

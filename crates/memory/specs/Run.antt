@@ -28,8 +28,15 @@ leadWorked m = run (m .lead) 0
 abbrev pub leadFailed : Lead → Lead
 leadFailed m = lead (m .lead + 1)
 
+abbrev pub leadWorks : (k : ℕ) → Lead → Bool
+leadWorks k m = ltb (m .lead) k
+
 -- as a machine
+abbrev pub runMoves : (k : ℕ) → Machine Run
+runMoves k = record { start = run 0 0; worked = λ i. runWorked; failed = λ i. runFailed; ends = runWorks k }
+
+abbrev pub runDead : (k : ℕ) → Run → Bool
+runDead k m = leb k (m .run)
+
 unfoldable pub running : (k : ℕ) → Machine Run
-running k =
-    living (λ m. leb k (m .run))
-    (record { start = run 0 0; worked = λ i. runWorked; failed = λ i. runFailed; ends = runWorks k })
+running k = living (runDead k) (runMoves k)

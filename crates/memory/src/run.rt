@@ -1,7 +1,7 @@
 // Rows 4 and 5: components in a row that have failed. The line of row 4 is the ring past a lead of none.
 ghost use mathlib.Core.Path.{_≡_};
 ghost use Prim.Native.Nat.{_+_, _-_, _^_, _<_};
-ghost use Rattle.memory.specs.Run.{run, lead, runWorked, runFailed, runWorks, leadWorked, leadFailed};
+ghost use Rattle.memory.specs.Run.{run, lead, runWorked, runFailed, runWorks, leadWorked, leadFailed, leadWorks};
 
 // "(t, s)": t failed ones before the first that worked, s failed ones since the last that worked.
 pub struct Run {
@@ -82,6 +82,13 @@ impl Lead {
         Lead {
             lead: self.lead + 1,
         }
+    }
+
+    // A reading whose components have all failed: "works exactly if t + s < k", with no s.
+    pub fn works(self, k: usize) -> bool
+        ensures { λ r. ⌜ r ≡ leadWorks k self ⌝ }
+    {
+        self.lead < k
     }
 
     // The memory that a failed component took to this one.

@@ -8,7 +8,7 @@ use Rattle.rules.specs.declared.System.{System}
 use Rattle.rules.specs.declared.Rating.{Rating}
 use Rattle.rules.specs.declared.Rating.the-variants.{Range, Refused}
 use Rattle.rules.specs.Below.{within, listBelow}
-use Rattle.rules.specs.Refusal.{cells, firstOf, badSize}
+use Rattle.rules.specs.Refusal.{most, cells, firstOf, badSize}
 use Rattle.rules.specs.Answer.{unless, stretchOf}
 
 -- a deck: its fans' survival numbers and weights, and its systems
@@ -78,7 +78,7 @@ abbrev pub version : ℕ
 version = 1
 
 abbrev pub mostFans : ℕ
-mostFans = 64
+mostFans = most
 
 abbrev pub mostSystems : ℕ
 mostSystems = 32

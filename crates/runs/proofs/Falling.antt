@@ -9,7 +9,7 @@ use native.Mathlib.Nat.{zero-add}
 use native.Mathlib.Numerals.{add-one}
 use native.Mathlib.Omega.{arith}
 use lib.ListN.{getD}
-use borrow.Author.Tests.{lt-ltb, le-ltb}
+use borrow.Author.Tests.{lt-ltb, le-ltb, le-leb}
 use Rattle.rules.specs.State.{S}
 use Rattle.rules.specs.Figure.{rounded, mixed, value}
 use Rattle.rules.proofs.Rounding.{unchanged}
@@ -49,7 +49,7 @@ module _ (k : ℕ) (survival : List ℕ) (t : ℕ) (up : Bool) where
             let a : upto - k ≡ 0 = omega arith in
             let b : upto - 0 ≡ upto = omega arith in
             rw (a, b, run-ends k 0 (run t upto) l, le-ltb (t + upto) k (omega arith))
-        | no h ↦ worth-dead (running k) survival (run-dead k) (upto - k) (run t (upto - (upto - k))) (omega arith) up
+        | no h ↦ worth-dead (running k) survival (run-dead k) (upto - k) (run t (upto - (upto - k))) (le-leb k _ (omega arith)) up
       ]
 
 -- a memory with no run, by its lead
