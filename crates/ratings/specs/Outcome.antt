@@ -7,9 +7,6 @@ use Rattle.rules.specs.Refusal.{figuresRefusal}
 use Rattle.rules.specs.Answer.{figuresOf, tableAfter}
 use Rattle.rules.specs.File.{packed}
 
-abbrev pub ruleOf : (kind first second : ℕ) → Rule
-ruleOf kind first second = record { kind = kind; first = first; second = second }
-
 pub record Timed (rule : Rule) (survival weights t₀ t : List ℕ) (r : ℕ) : Type 0 where
   pub answer : r ≡ packed (figuresOf rule survival weights t₀)
   pub table : t ≡ tableAfter (figuresRefusal rule survival weights t₀) t₀

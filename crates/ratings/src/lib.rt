@@ -1,5 +1,6 @@
 // The figures of a list for C, in a working table that C lends: what the benchmark times.
-ghost use Rattle.ratings.specs.Outcome.{Timed, ruleOf};
+ghost use Rattle.ratings.specs.Outcome.{Timed};
+ghost use Rattle.rules.specs.State.{ruleOf};
 use rules::Rule;
 
 // In C: `uint64_t foambeetle_figures(uint64_t kind, uint64_t first, uint64_t second, const uint32_t *survival, size_t n,
