@@ -47,6 +47,24 @@ def decks():
     return sorted((root / "samples").glob("*.deck"))
 
 
+def reported(wrong, said):
+    """What is wrong, a line each, and what was looked at; the exit status."""
+    for line in wrong:
+        print(line)
+    print(said)
+    return 1 if wrong else 0
+
+
+def held(*checks):
+    """Whether each check, named as its function is, holds."""
+    good = True
+    for check in checks:
+        holds = check()
+        print(f"{check.__name__.replace('_', ' ')}: {'yes' if holds else 'NO'}")
+        good &= holds
+    return good
+
+
 def compare(what, got, wanted):
     """Counts what agrees, and shows the first that does not."""
     for place, (one, other) in enumerate(zip(got, wanted, strict=True)):

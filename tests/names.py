@@ -3,7 +3,7 @@
 import re
 import sys
 
-from common import root
+from common import reported, root
 
 PROOFS = root / "docs/PROOFS.md"
 # words in code that are no names of crates/: commands, paths outside, parts of a log
@@ -37,10 +37,7 @@ def unnamed(names):
 def main():
     names = quoted()
     wrong = [*missing(names, sources()), *unnamed(names)]
-    for line in wrong:
-        print(line)
-    print(f"{len(names)} names in docs/PROOFS.md, {len(wrong)} wrong")
-    return 1 if wrong else 0
+    return reported(wrong, f"{len(names)} names in docs/PROOFS.md, {len(wrong)} wrong")
 
 
 if __name__ == "__main__":

@@ -5,7 +5,7 @@ import re
 import subprocess
 import sys
 
-from common import compare, decks, make, root
+from common import compare, decks, held, make, root
 
 from files import random_files
 from foambeetle import UNIT, Deck, Rule, System, deck_bytes, decklist_output
@@ -82,10 +82,7 @@ def main():
     plain = [decklist_output(data) for data in inputs]
     good = compare("inputs through decklist", [listed(data) for data in inputs], plain)
     good &= compare("inputs through decklist --percent", [listed(data, "--percent") for data in inputs], [with_percents(text) for text in plain])
-    for check in (words_answered, failures_told):
-        held = check()
-        print(f"{check.__name__.replace('_', ' ')}: {'yes' if held else 'NO'}")
-        good &= held
+    good &= held(words_answered, failures_told)
     return 0 if good else 1
 
 

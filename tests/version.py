@@ -3,7 +3,7 @@
 import re
 import sys
 
-from common import make, root, run
+from common import make, reported, root, run
 
 from foambeetle import decklist_output
 
@@ -25,10 +25,7 @@ def named():
 def main():
     version = (root / "VERSION").read_text().strip()
     wrong = [f"{where} names {found}, VERSION is {version}" for where, found in named() if found != [version]]
-    for line in wrong:
-        print(line)
-    print(f"version {version}")
-    return 1 if wrong else 0
+    return reported(wrong, f"version {version}")
 
 
 if __name__ == "__main__":

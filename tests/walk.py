@@ -5,7 +5,7 @@ import importlib.util
 import re
 import sys
 
-from common import decks, make, room, root, run, static
+from common import decks, held, make, room, root, run, static
 
 from foambeetle import deck_bytes
 
@@ -46,12 +46,7 @@ def called_as_said():
 
 
 def main():
-    good = True
-    for check in (made_as_said, printed_as_said, called_as_said):
-        held = check()
-        print(f"{check.__name__.replace('_', ' ')}: {'yes' if held else 'NO'}")
-        good &= held
-    return 0 if good else 1
+    return 0 if held(made_as_said, printed_as_said, called_as_said) else 1
 
 
 if __name__ == "__main__":

@@ -4,14 +4,18 @@ mod listing; // listing.rt: the lines
 mod task; // task.rt: what the program's words ask for
 
 use libc::STDERR_FILENO;
+use libc::STDOUT_FILENO;
 use program::Input;
 use task::Task;
 
 // Room for every word that is known, so that a longer one, which is cut to none, is not known either.
 const WORD: usize = 16;
 
+// Writes a text to standard output; what cannot be written is told.
 fn write_text(text: &[u8]) {
-    program::write_output(b"decklist: standard output", text)
+    if !io::write_all(STDOUT_FILENO, text) {
+        os::fail(b"decklist: standard output");
+    }
 }
 
 // Lists the file on standard input; nothing is listed where it cannot be read.
