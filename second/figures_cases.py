@@ -1,14 +1,13 @@
-"""Cases for the figures, whole list or stretch.
+"""Cases for the figures of a stretch; a whole list is its stretch 1 to n.
 
-Words of a case: call, kind, first, second, a, b, room, seed, N, the survival numbers, W, the weights.
+Words of a case: kind, first, second, a, b, room, seed, N, the survival numbers, W, the weights.
 """
 
 import random
 from typing import NamedTuple
 
 import published
-from foambeetle import KINDS, MOST_WEIGHT, TABLE_CELLS, UNIT, Refusal, Rule, figures, stretch
-from foambeetle import working_table_after
+from foambeetle import KINDS, MOST_WEIGHT, TABLE_CELLS, UNIT, Refusal, Rule, figures, working_table_after
 from samples import (
     EDGE_SURVIVALS, HUGE, OVER_UNIT, all_rules, edge_rules, random_rule, random_stretch,
     random_survivals, random_weights, rules_in_range, unread_weights, weights_for, weights_of_total,
@@ -18,11 +17,9 @@ from words import checksum, rubbish
 
 ANSWERS_WANTED = {"low"} | {f"refused {number}" for number in range(1, 8)}
 SEEDS = (0, 1, 3, 2 ** 32, 2 ** 63, 2 ** 64 - 1, 2685821657736338717)
-WHOLE, STRETCH = 0, 1
 
 
 class Case(NamedTuple):
-    call: int
     rule: Rule
     a: int
     b: int
@@ -32,13 +29,11 @@ class Case(NamedTuple):
     weights: list
 
     def words(self):
-        return [self.call, *self.rule, self.a, self.b, self.room, self.seed,
+        return [*self.rule, self.a, self.b, self.room, self.seed,
                 len(self.survivals), *self.survivals, len(self.weights), *self.weights]
 
     def answer(self):
-        if self.call == WHOLE:
-            return figures(self.rule, self.survivals, self.weights, self.room)
-        return stretch(self.rule, self.a, self.b, self.survivals, self.weights, self.room)
+        return figures(self.rule, self.a, self.b, self.survivals, self.weights, self.room)
 
     def line(self):
         answer = self.answer()
@@ -51,17 +46,17 @@ class Case(NamedTuple):
 
 def published_cases():
     """What the documents print, each on a table full of rubbish."""
-    return [Case(WHOLE, one.rule, 0, 0, TABLE_CELLS, SEEDS[1], one.survivals, one.weights) for one in published.FIGURES]
+    return [Case(one.rule, 1, len(one.survivals), TABLE_CELLS, SEEDS[1], one.survivals, one.weights) for one in published.FIGURES]
 
 
 def whole(rng, rule, survivals, weights):
-    """A whole-list call with a working table that is long enough."""
+    """A whole list, with a working table that is long enough."""
     room = rng.choice((TABLE_CELLS, TABLE_CELLS, 8000))
-    return Case(WHOLE, rule, 0, 0, room, rng.choice(SEEDS), survivals, weights)
+    return Case(rule, 1, len(survivals), room, rng.choice(SEEDS), survivals, weights)
 
 
 def part(rng, rule, a, b, survivals, weights):
-    return whole(rng, rule, survivals, weights)._replace(call=STRETCH, a=a, b=b)
+    return whole(rng, rule, survivals, weights)._replace(a=a, b=b)
 
 
 def small_cases(rng):
@@ -154,6 +149,13 @@ def rule_cases(rng):
                 yield part(rng, rule, 2, n + 1, random_survivals(rng, n + 3), [1] + weights + [1, 1])
 
 
+def between_others(case):
+    """The same fans with one more on either side, which is not read."""
+    beside, heavy = OVER_UNIT[0], MOST_WEIGHT + 1
+    weights = [heavy, *case.weights, heavy] if case.rule.kind == 2 else case.weights
+    return case._replace(a=case.a + 1, b=case.b + 1, survivals=[beside, *case.survivals, beside], weights=weights)
+
+
 def room_cases(rng):
     """Working tables of no cells, one too few, just enough and more."""
     # document 01, 'Refusal numbers', row 7
@@ -162,7 +164,7 @@ def room_cases(rng):
         for room in (0, TABLE_CELLS - 1, TABLE_CELLS, 8000):
             case = whole(rng, random_rule(rng, kind, 4, 6), random_survivals(rng, 4), weights)
             yield case._replace(room=room)
-            yield case._replace(room=room, call=STRETCH, a=1, b=4)
+            yield between_others(case)._replace(room=room)
 
 
 def wrong_stretch_cases(rng):
@@ -206,7 +208,7 @@ def spoil(rng, case, damage):
     if damage == 2:
         return case._replace(survivals=[])
     if damage == 3:
-        return case._replace(a=rng.choice((0, case.b + 1)) if case.call == STRETCH else 0)
+        return case._replace(a=rng.choice((0, case.b + 1)))
     if damage == 4:
         over = list(case.survivals)
         over[rng.randrange(n)] = rng.choice(OVER_UNIT)
@@ -224,15 +226,17 @@ def refused_cases(rng):
     """One, two or three things wrong at once, so that the lowest number must win."""
     for _ in range(520):
         n = rng.choice((1, 2, 3, 5, 7, 10))
-        a, b = random_stretch(rng, n) if rng.random() < 0.6 else (0, 0)
-        length = b - a + 1 if a else n
+        inside = rng.random() < 0.6
+        a, b = random_stretch(rng, n) if inside else (1, n)
         kind = rng.choice(KINDS)
         weights = random_weights(rng, n) if kind == 2 else unread_weights(rng)
-        rule = random_rule(rng, kind, length, sum(weights[a - 1:b] if a else weights)) or Rule(1, 1, 0)
-        case = whole(rng, rule, random_survivals(rng, n), weights)._replace(call=int(a > 0), a=a, b=b)
+        rule = random_rule(rng, kind, b - a + 1, sum(weights[a - 1:b])) or Rule(1, 1, 0)
+        case = part(rng, rule, a, b, random_survivals(rng, n), weights)
         for damage in sorted(rng.sample(range(1, 8), rng.choice((1, 1, 2, 3))), reverse=True):
-            case = spoil(rng, case, damage)
-        yield case
+            # a whole list stays one
+            if inside or damage != 3:
+                case = spoil(rng, case, damage)
+        yield case if inside else case._replace(b=len(case.survivals))
 
 
 def make_cases():

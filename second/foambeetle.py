@@ -1,4 +1,4 @@
-"""The rules of document 01 written down in plain Python.
+"""The rules of documents 01 and 02 written down in plain Python.
 
 Slow and plain on purpose: every function restates one sentence or row of the
 document, so that the two can be read side by side. Nothing is shared with the
@@ -404,18 +404,8 @@ def rated_refusal(rule, a, b, survivals, weights, unit):
     return 6 if bad_rule(rule, b - a + 1, weights[a - 1:b]) else None
 
 
-def figures_refusal(rule, survivals, weights, room, unit):
-    # document 01, 'Refusal numbers': "the figures 1, 2, 3 (stretch calls), 4, 5, 6, 7", 3 left out
-    n = len(survivals)
-    if bad_kind(rule):
-        return 1
-    if bad_length(n):
-        return 2
-    return rated_refusal(rule, 1, n, survivals, weights, unit) or (7 if room < TABLE_CELLS else None)
-
-
-def stretch_refusal(rule, a, b, survivals, weights, room, unit):
-    # document 01, 'Refusal numbers': "the figures 1, 2, 3 (stretch calls), 4, 5, 6, 7"
+def figures_refusal(rule, a, b, survivals, weights, room, unit):
+    # document 01, 'Refusal numbers': the figures' order; document 02, request 02: "3 now belongs to every figure"
     n = len(survivals)
     if bad_kind(rule):
         return 1
@@ -445,15 +435,9 @@ def count_table(rule, n, weights, room=TABLE_CELLS, slots=MOST_FANS + 1):
     return counts_by_words(rule, n, weights) if n <= 10 else counts_by_choice(rule, n, weights)
 
 
-def figures(rule, survivals, weights, room=TABLE_CELLS, unit=UNIT):
-    # document 01, 'What is rated': "the low and high figures for a whole list"
-    number = figures_refusal(rule, survivals, weights, room, unit)
-    return Refusal(number) if number else low_and_high(rule, survivals, weights, unit)
-
-
-def stretch(rule, a, b, survivals, weights, room=TABLE_CELLS, unit=UNIT):
+def figures(rule, a, b, survivals, weights, room=TABLE_CELLS, unit=UNIT):
     # document 01, 'Stretches': "answers as a list of those components alone would, weights too"
-    number = stretch_refusal(rule, a, b, survivals, weights, room, unit)
+    number = figures_refusal(rule, a, b, survivals, weights, room, unit)
     if number:
         return Refusal(number)
     return low_and_high(rule, survivals[a - 1:b], weights[a - 1:b], unit)
@@ -535,7 +519,7 @@ def deck_bytes(deck):
 
 def rate_system(deck, system):
     # document 01, 'Refusal numbers': "only then the system's own 1 and 3 to 6"; 7 doesn't arise
-    return stretch(system.rule, system.a, system.b, deck.survivals, deck.weights)
+    return figures(system.rule, system.a, system.b, deck.survivals, deck.weights)
 
 
 def decklist_output(data):

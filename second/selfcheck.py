@@ -16,7 +16,7 @@ from foambeetle import (
     DEAD, FAILS, KINDS, ROWS, TABLE_CELLS, UNIT, WORKS, Deck, Refusal, Rule, System, bad_rule,
     count_slots_after, count_table, counts_by_choice, counts_by_reading, counts_by_words, deck_bytes,
     decklist_output, exact_sum, exact_sum_by_words, fails, figures, file_refusal, low_and_high,
-    low_and_high_by_words, pascal_row, rate, read_deck, stretch, verdict, working_table_after,
+    low_and_high_by_words, pascal_row, rate, read_deck, verdict, working_table_after,
 )
 from published import DECK_FILE, DECK_LINES
 from samples import all_rules, random_rule, random_survivals, random_weights, rules_in_range
@@ -51,7 +51,7 @@ def published_figures():
             yield counts_by_choice(one.rule, one.n, one.weights), answer
             yield counts_by_reading(one.rule, one.n, one.weights), answer
     for one in published.FIGURES:
-        yield published.agrees(figures(one.rule, one.survivals, one.weights), one.printed), True
+        yield published.agrees(figures(one.rule, 1, len(one.survivals), one.survivals, one.weights), one.printed), True
     for one in published.VERDICTS:
         yield published.agrees(verdict(one.rule, one.n, one.state, one.weights), one.printed), True
 
@@ -243,7 +243,7 @@ def refusals_of_calls():
         (Rule(1, 1, 0), three, [], 7799, 7), (Rule(6, 3, 3), three, [], 7800, 6),
     )
     for rule, survivals, weights, room, number in whole:
-        yield figures(rule, survivals, weights, room), Refusal(number)
+        yield figures(rule, 1, len(survivals), survivals, weights, room), Refusal(number)
     parts = (
         (Rule(9, 0, 0), 0, 0, [], [], 0, 1), (Rule(2, 0, 0), 0, 0, [], [], 0, 2),
         (Rule(2, 0, 0), 0, 2, over, [], 0, 3), (Rule(1, 1, 0), 3, 2, over, [], 0, 3),
@@ -255,7 +255,7 @@ def refusals_of_calls():
         (Rule(1, 1, 0), 3, 3, over, [], 7799, 7),
     )
     for rule, a, b, survivals, weights, room, number in parts:
-        yield stretch(rule, a, b, survivals, weights, room), Refusal(number)
+        yield figures(rule, a, b, survivals, weights, room), Refusal(number)
 
 
 def refusals_of_states_and_counts():
@@ -289,7 +289,7 @@ def stretches_read_inside_only():
         longer = [2 ** 32 - 1] * before + survivals + [2 ** 32 - 1] * after
         heavier = [65535] * before + weights + [65535] * after
         a, b = before + 1, before + len(survivals)
-        yield stretch(rule, a, b, longer, heavier), low_and_high_by_words(rule, survivals, weights)
+        yield figures(rule, a, b, longer, heavier), low_and_high_by_words(rule, survivals, weights)
 
 
 def deck_files():

@@ -1,7 +1,7 @@
--- The refusal of a stretch, as the code works it out: 1 to 4, then 5 and 6 over the weights that are rated, then 7; and where there is none, the part can
+-- The refusal of the figures, as the code works it out: 1 to 4, then 5 and 6 over the weights that are rated, then 7; and where there is none, the part can
 -- be rated. Weights that kind 2 does not read change nothing. Assumes nothing.
 use Prim.Native.Nat.{ℕ, suc, _-_, _≤_}
-use mathlib.Core.Path.{_≡_, refl, sym, ap, _∙_}
+use mathlib.Core.Path.{_≡_, refl, sym, ap, ap₂, _∙_}
 use mathlib.Core.Bool.{Bool, true, false, cond, not}
 use mathlib.Core.Logic.{_⊎_, inl, inr, ⊎-elim}
 use mathlib.Core.List.{List, [], _∷_}
@@ -10,15 +10,19 @@ use lib.Dec.{eqb}
 use lib.ListN.{length, take, drop, length-take, length-drop}
 use borrow.Author.Tests.{eqb-true, eqb-false, eq-eqb, ne-eqb}
 use Rattle.rules.specs.declared.Rule.{Rule}
+use Rattle.rules.specs.declared.Rating.the-variants.{Range}
 use Rattle.rules.specs.Below.{total}
+use Rattle.rules.specs.State.{S}
+use Rattle.rules.specs.Figure.{figure}
 use Rattle.rules.specs.Stretch.{stretch}
-use Rattle.rules.specs.Refusal.{firstOf, badKind, badSize, badStretch, aboveUnit, weightsOut, badWeights, ranged, inRange, shortTable, stretchRefusal}
+use Rattle.rules.specs.Asked.{Asked, lengthOf, sizeOf, partOf, weightsOf, lowOf, highOf}
+use Rattle.rules.specs.Refusal.{firstOf, badKind, badSize, badStretch, aboveUnit, weightsOut, badWeights, ranged, inRange, shortTable, figuresRefusal}
 use Rattle.rules.specs.Accepted.{Ratable}
-use Rattle.rules.specs.Answer.{range}
 use Rattle.rules.proofs.Tests.{by-test}
-use Rattle.rules.proofs.Accepted.{first-same, first-after, in-stretch, stretch-length, stretch-ratable, weights-accepted, accepted-unread, unread-range, unread-answer}
+use Rattle.rules.proofs.Accepted.{first-same, first-after, in-stretch, figures-ratable, weights-accepted}
+use Rattle.rules.proofs.Unread.{accepted-unread, unread-range, unread-figure}
 use Rattle.refusals.specs.Shared.{ratedRefusal, after}
-use Rattle.figures.specs.Outcome.{ratedOf}
+use Rattle.figures.specs.Outcome.{ratedOf, range}
 
 -- the part as the code takes it
 pub part-is : (a b n : ℕ) (xs : List ℕ) → badStretch a b n ≡ false → take (b - (a - 1)) (drop (a - 1) xs) ≡ stretch a b xs
@@ -69,48 +73,46 @@ seven-after true c d = refl
 seven-after false true d = refl
 seven-after false false d = refl
 
-module _ (rule : Rule) (a b : ℕ) (survival weights table : List ℕ) where
+-- the weights that the code hands on
+abbrev handed : Asked → List ℕ
+handed q = ratedOf (q .rule) (lengthOf q) (q .weights) (q .a) (q .b)
+
+module _ (q : Asked) (table : List ℕ) where
   -- 5, 6 and 7 once 1 to 4 are past
-  pub rest-is : badKind rule ≡ false → badSize (length survival) ≡ false → badStretch a b (length survival) ≡ false → aboveUnit (stretch a b survival) ≡ false
-      → {own : ℕ} {rated : List ℕ} → own ≡ ratedRefusal rule (length survival) (length weights) (b - (a - 1)) (total rated) → rated ≡ ratedOf rule (length survival) weights a b
-      → stretchRefusal rule a b survival weights table ≡ after own (cond (shortTable table) 7 0)
-  unfolding stretchRefusal
+  pub rest-is : badKind (q .rule) ≡ false → badSize (lengthOf q) ≡ false → badStretch (q .a) (q .b) (lengthOf q) ≡ false → aboveUnit (partOf q) ≡ false
+      → {own : ℕ} {rated : List ℕ} → own ≡ ratedRefusal (q .rule) (lengthOf q) (length (q .weights)) (q .b - (q .a - 1)) (total rated) → rated ≡ handed q
+      → figuresRefusal q table ≡ after own (cond (shortTable table) 7 0)
+  unfolding figuresRefusal
   rest-is one two three four e d =
-      let h = in-stretch a b (length survival) three in
-      let m : length (stretch a b survival) ≡ b - (a - 1) = stretch-length a b survival three ∙ omega arith in
+      let h = in-stretch (q .a) (q .b) (lengthOf q) three in
+      let m : sizeOf q ≡ q .b - (q .a - 1) = omega arith in
       first-after 1 _ _ one ∙ first-after 2 _ _ two ∙ first-after 3 _ _ three ∙ first-after 4 _ _ four
       ∙ seven-after _ _ _
       ∙ ap (λ r. after r (cond (shortTable table) 7 0))
-      (sym (e ∙ ap (λ xs. ratedRefusal rule (length survival) (length weights) (b - (a - 1)) (total xs)) d ∙ own-is rule (length survival) weights a b (b - (a - 1))
-      ∙ ap (λ x. firstOf ((5, badWeights rule (length survival) weights (stretch a b weights)) ∷ (6, not (inRange rule x (stretch a b weights))) ∷ [])) (sym m)))
+      (sym (e ∙ ap (λ xs. ratedRefusal (q .rule) (lengthOf q) (length (q .weights)) (q .b - (q .a - 1)) (total xs)) d ∙ own-is (q .rule) (lengthOf q) (q .weights) (q .a) (q .b) (q .b - (q .a - 1))
+      ∙ ap (λ x. firstOf ((5, badWeights (q .rule) (lengthOf q) (q .weights) (weightsOf q)) ∷ (6, not (inRange (q .rule) x (weightsOf q))) ∷ [])) (sym m)))
 
-  -- no refusal: the part can be rated, and its answer is the stretch's
-  module _ (none : stretchRefusal rule a b survival weights table ≡ 0) where
-    abbrev n : ℕ
-    n = length survival
+-- no refusal: the part can be rated, and its answer is the one asked for
+module _ (q : Asked) (table : List ℕ) (none : figuresRefusal q table ≡ 0) where
+  ratable : (badStretch (q .a) (q .b) (lengthOf q) ≡ false) × (q .rule .kind ≡ 2 → length (q .weights) ≡ lengthOf q) × Ratable (q .rule) (partOf q) (weightsOf q) table
+  ratable = figures-ratable q table none
 
-    abbrev rated : List ℕ
-    rated = ratedOf rule n weights a b
+  pub inside : badStretch (q .a) (q .b) (lengthOf q) ≡ false
+  inside = ratable .0
 
-    abbrev part : List ℕ
-    part = stretch a b survival
+  pub fits : (1 ≤ q .a) × (q .a ≤ q .b) × (q .b ≤ lengthOf q)
+  fits = in-stretch (q .a) (q .b) (lengthOf q) inside
 
-    ratable : (badStretch a b n ≡ false) × (rule .kind ≡ 2 → length weights ≡ n) × Ratable rule part (stretch a b weights) table
-    ratable = stretch-ratable rule a b survival weights table none
+  same : (handed q ≡ weightsOf q) ⊎ (q .rule .kind ≡ 2 → ⊥)
+  same = rated-same (q .rule) (lengthOf q) (q .weights) (q .a) (q .b) (ratable .1)
 
-    pub inside : badStretch a b n ≡ false
-    inside = ratable .0
+  pub part-ratable : Ratable (q .rule) (partOf q) (handed q) table
+  part-ratable =
+      let y = ratable .2 in
+      record { accepted = ⊎-elim (λ s. rw s (y .accepted)) (accepted-unread (y .accepted)) same; units = y .units; room = y .room }
 
-    pub fits : (1 ≤ a) × (a ≤ b) × (b ≤ n)
-    fits = in-stretch a b n inside
+  figure-same : (up : Bool) → figure up S (q .rule) (partOf q) (handed q) ≡ figure up S (q .rule) (partOf q) (weightsOf q)
+  figure-same up = ⊎-elim (λ s. rw s) (λ k. unread-figure up (q .rule) (partOf q) (handed q) (weightsOf q) k) same
 
-    same : (rated ≡ stretch a b weights) ⊎ (rule .kind ≡ 2 → ⊥)
-    same = rated-same rule n weights a b (ratable .1)
-
-    pub part-ratable : Ratable rule part rated table
-    part-ratable =
-        let y = ratable .2 in
-        record { accepted = ⊎-elim (λ s. rw s (y .accepted)) (accepted-unread (y .accepted)) same; units = y .units; room = y .room }
-
-    pub part-answer : range rule part rated ≡ range rule part (stretch a b weights)
-    part-answer = ⊎-elim (λ s. rw s) (λ k. unread-answer rule part rated (stretch a b weights) k) same
+  pub part-answer : range (q .rule) (partOf q) (handed q) ≡ Range (lowOf q) (highOf q)
+  part-answer = ap₂ Range (figure-same false) (figure-same true)

@@ -1,2 +1,2 @@
--- What the two calls answer and leave.
+-- What the call answers and leaves.
 pub mod Outcome

@@ -1,10 +1,11 @@
-// Low and high: the figures of a whole list and of a stretch of it.
+// Low and high: the figures of a stretch of a list.
 ghost use mathlib.Core.Path.{_≡_};
 ghost use mathlib.Core.Bool.{false};
-ghost use Rattle.rules.specs.Refusal.{badStretch, aboveUnit, stretchRefusal};
+ghost use Rattle.rules.specs.Asked.{askedOf};
+ghost use Rattle.rules.specs.Refusal.{badStretch, aboveUnit, figuresRefusal};
 ghost use Rattle.rules.specs.Accepted.{Ratable};
-ghost use Rattle.rules.specs.Answer.{cleared, range};
-ghost use Rattle.figures.specs.Outcome.{ratedOf, Stretched, Listed};
+ghost use Rattle.rules.specs.Answer.{cleared};
+ghost use Rattle.figures.specs.Outcome.{ratedOf, range, Rated};
 use cells::CELLS;
 use rules::Rating;
 use rules::Rule;
@@ -68,7 +69,7 @@ fn rated_weights(rule: Rule, n: usize, weights: &[u16], a: u64, b: u64) -> &[u16
 
 // Refusals 1 to 7, the lowest that applies; 0 for none.
 fn refusal(rule: Rule, a: u64, b: u64, survival: &[u32], weights: &[u16], table: &[u64]) -> u64
-    ensures { λ r. ⌜ r ≡ stretchRefusal rule a b (now (survival .entry)) (now (weights .entry)) (now (table .entry)) ⌝ }
+    ensures { λ r. ⌜ r ≡ figuresRefusal (askedOf rule a b (now (survival .entry)) (now (weights .entry))) (now (table .entry)) ⌝ }
 {
     if refusals::kind_out(rule) {
         return 1;
@@ -102,9 +103,9 @@ fn refusal(rule: Rule, a: u64, b: u64, survival: &[u32], weights: &[u16], table:
     0
 }
 
-// The figures of a stretch, from component a to component b, worked on that part of the lent lists where it stands.
-// Condition three of every range it answers: `stretch-third` of rules/proofs/Accepted.
-pub fn stretch(
+// The figures of the stretch from component a to component b, worked on that part of the lent lists where it stands; of a whole list, from 1 to n.
+// Condition three of every range it answers: `figures-third` of rules/proofs/Accepted.
+pub fn figures(
     rule: Rule,
     a: u64,
     b: u64,
@@ -112,7 +113,7 @@ pub fn stretch(
     weights: &[u16],
     table: &mut [u64],
 ) -> Rating
-    ensures { λ r. ⌜ Stretched rule a b (now (survival .entry)) (now (weights .entry)) (now (table .entry)) (now (table .exit)) r ⌝ }
+    ensures { λ r. ⌜ Rated (askedOf rule a b (now (survival .entry)) (now (weights .entry))) (now (table .entry)) (now (table .exit)) r ⌝ }
 {
     let refused = refusal(rule, a, b, survival, weights, table);
     if refused != 0 {
@@ -122,12 +123,4 @@ pub fn stretch(
     let end = b as usize;
     let rated = rated_weights(rule, survival.len(), weights, a, b);
     answer(rule, &survival[start..end], rated, table)
-}
-
-// The figures of a whole list: its stretch from 1 to n. Condition three: `figures-third` of rules/proofs/Accepted.
-pub fn figures(rule: Rule, survival: &[u32], weights: &[u16], table: &mut [u64]) -> Rating
-    ensures { λ r. ⌜ Listed rule (now (survival .entry)) (now (weights .entry)) (now (table .entry)) (now (table .exit)) r ⌝ }
-{
-    let n = survival.len() as u64;
-    stretch(rule, 1, n, survival, weights, table)
 }

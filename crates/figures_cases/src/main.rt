@@ -1,6 +1,6 @@
 // Runs the cases of standard input and writes a rating and the checksum of the lent table a line. All of the input is words of 64 bits, lowest
-// byte first: the number of cases, then each case: call (0 whole list, 1 stretch), kind, first, second, a, b, room, seed, the number of survival
-// numbers, the survival numbers, the number of weights, the weights. A case that is cut short ends the run.
+// byte first: the number of cases, then each case: kind, first, second, a, b, room, seed, the number of survival numbers, the
+// survival numbers, the number of weights, the weights. A case that is cut short ends the run.
 mod size; // size.rt: how long a case is
 
 ghost use Prim.Native.Nat.{_+_, _≤_};
@@ -16,22 +16,22 @@ use libc::STDOUT_FILENO;
 use rules::Rating;
 
 // Where a case has its rule, a, b, the cells of the table, the seed and the number of survival numbers.
-const RULE: usize = 1;
+const RULE: usize = 0;
 
-const A: usize = 4;
+const A: usize = 3;
 
-const B: usize = 5;
+const B: usize = 4;
 
-const CELLS: usize = 6;
+const CELLS: usize = 5;
 
-const SEED: usize = 7;
+const SEED: usize = 6;
 
-const FANS: usize = 8;
+const FANS: usize = 7;
 
 // The words before the survival numbers, and those of a case beside its lists.
-const HEAD: usize = 9;
+const HEAD: usize = 8;
 
-const OTHERS: usize = 10;
+const OTHERS: usize = 9;
 
 // The cells of a table, at most.
 const MOST_CELLS: usize = 8000;
@@ -49,12 +49,9 @@ fn asked(bytes: &[u8], at: usize, survival: &[u32], weights: &[u16], table: &mut
     requires { ⌜ at + headWords ≤ length (now bytes) ⌝ }
 {
     let rule = cases::rule_at(bytes, at + RULE);
-    if words::word(bytes, at) == 0 {
-        return figures::figures(rule, survival, weights, table);
-    }
     let a = words::word(bytes, at + A);
     let b = words::word(bytes, at + B);
-    figures::stretch(rule, a, b, survival, weights, table)
+    figures::figures(rule, a, b, survival, weights, table)
 }
 
 // The same, with the lists read from the case.

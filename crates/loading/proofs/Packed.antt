@@ -6,19 +6,18 @@ use mathlib.Core.List.{List, [], _∷_}
 use Prim.Native.Nat.{ℕ, _≤_}
 use native.Mathlib.Omega.{arith}
 use lib.ListN.{replicate}
-use Rattle.rules.specs.declared.Rule.{Rule}
 use Rattle.rules.specs.declared.System.{System}
 use Rattle.rules.specs.declared.Rating.{Rating}
 use Rattle.rules.specs.declared.Rating.the-variants.{Range, Refused}
 use Rattle.rules.specs.State.{S}
 use Rattle.rules.specs.Figure.{figure}
-use Rattle.rules.specs.Stretch.{stretch}
-use Rattle.rules.specs.Refusal.{cells, firstOf, stretchRefusal}
-use Rattle.rules.specs.Answer.{stretchOf}
-use Rattle.rules.specs.File.{Deck, badNumber, fileRefusal, systemOf, packed, loadingOf}
+use Rattle.rules.specs.Asked.{Asked, partOf, weightsOf}
+use Rattle.rules.specs.Refusal.{cells, firstOf, figuresRefusal}
+use Rattle.rules.specs.Answer.{figuresOf}
+use Rattle.rules.specs.File.{Deck, askedBy, badNumber, fileRefusal, systemOf, packed, loadingOf}
 use Rattle.rules.proofs.Unless.{unless-by}
 use Rattle.rules.proofs.Conditions.{figure-within}
-use Rattle.rules.proofs.Accepted.{stretch-ratable}
+use Rattle.rules.proofs.Accepted.{figures-ratable}
 use Rattle.loading.specs.Outcome.{Answered}
 use Rattle.loading.specs.Packing.{mostRefusal, Packable}
 
@@ -32,22 +31,22 @@ first-none : firstOf [] ≤ mostRefusal
 unfolding firstOf
 first-none = omega arith
 
-stretch-le : (rule : Rule) (a b : ℕ) (survival weights table : List ℕ) → stretchRefusal rule a b survival weights table ≤ mostRefusal
-unfolding stretchRefusal
-stretch-le rule a b survival weights table =
+figures-le : (q : Asked) (table : List ℕ) → figuresRefusal q table ≤ mostRefusal
+unfolding figuresRefusal
+figures-le q table =
     first-le 1 _ _ (omega arith) (first-le 2 _ _ (omega arith) (first-le 3 _ _ (omega arith) (first-le 4 _ _ (omega arith)
     (first-le 5 _ _ (omega arith) (first-le 6 _ _ (omega arith) (first-le 7 _ _ (omega arith) first-none))))))
 
-pub stretch-packable : (rule : Rule) (a b : ℕ) (survival weights table : List ℕ) → Packable (stretchOf rule a b survival weights table)
-unfolding stretchOf
-stretch-packable rule a b survival weights table =
-    let within : (up : Bool) → stretchRefusal rule a b survival weights table ≡ 0 → figure up S rule (stretch a b survival) (stretch a b weights) ≤ S
-    = λ up e. figure-within up rule _ _ (stretch-ratable rule a b survival weights table e .2 .units) in
-    unless-by Packable _ Refused _ (stretch-le rule a b survival weights table) (λ e. (within false e, within true e))
+pub figures-packable : (q : Asked) (table : List ℕ) → Packable (figuresOf q table)
+unfolding figuresOf
+figures-packable q table =
+    let within : (up : Bool) → figuresRefusal q table ≡ 0 → figure up S (q .rule) (partOf q) (weightsOf q) ≤ S
+    = λ up e. figure-within up (q .rule) _ _ (figures-ratable q table e .2 .units) in
+    unless-by Packable _ Refused _ (figures-le q table) (λ e. (within false e, within true e))
 
 system-packable : (d : Deck) (s : System) → Packable (systemOf d s)
 unfolding systemOf
-system-packable d s = stretch-packable (s .rule) (s .a) (s .b) (d .survival) (d .weights) (replicate cells 0)
+system-packable d s = figures-packable (askedBy d s) (replicate cells 0)
 
 pub loading-packable : (bytes : List ℕ) (s : ℕ) → Packable (loadingOf bytes s)
 unfolding loadingOf fileRefusal

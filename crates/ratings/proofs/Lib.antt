@@ -1,2 +1,2 @@
--- The law of the rating for C: one number carries every answer.
-pub mod Packed
+-- The law of the rating for C: two outcomes are one.
+pub mod Outcome

@@ -1,25 +1,28 @@
-// The figures of a list for C, in a working table that C lends: what the benchmark times.
+// The figures for C, in a working table that C lends: what the benchmark times.
 ghost use Rattle.ratings.specs.Outcome.{Timed};
+ghost use Rattle.rules.specs.Asked.{askedOf};
 ghost use Rattle.rules.specs.State.{ruleOf};
 use rules::Rule;
 
-// In C: `uint64_t foambeetle_figures(uint64_t kind, uint64_t first, uint64_t second, const uint32_t *survival, size_t n,
-// const uint16_t *weights, size_t weighed, uint64_t *table, size_t cells)`.
+// In C: `uint64_t foambeetle_figures(uint64_t kind, uint64_t first, uint64_t second, uint64_t a, uint64_t b,
+// const uint32_t *survival, size_t n, const uint16_t *weights, size_t weighed, uint64_t *table, size_t cells)`.
 #[no_mangle]
 pub extern "C" fn foambeetle_figures(
     kind: u64,
     first: u64,
     second: u64,
+    a: u64,
+    b: u64,
     survival: &[u32],
     weights: &[u16],
     table: &mut [u64],
 ) -> u64
-    ensures { λ r. ⌜ Timed (ruleOf kind first second) (now (survival .entry)) (now (weights .entry)) (now (table .entry)) (now (table .exit)) r ⌝ }
+    ensures { λ r. ⌜ Timed (askedOf (ruleOf kind first second) a b (now (survival .entry)) (now (weights .entry))) (now (table .entry)) (now (table .exit)) r ⌝ }
 {
     let rule = Rule {
         kind,
         first,
         second,
     };
-    loading::pack(figures::figures(rule, survival, weights, table))
+    loading::pack(figures::figures(rule, a, b, survival, weights, table))
 }

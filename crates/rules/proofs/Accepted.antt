@@ -1,8 +1,7 @@
 -- What an answer that is no refusal tells: every condition of the call's list failed, so the rule is accepted, and the figures are those of the
--- definitions, so the third condition holds of them. And a whole list answers as its stretch from 1 to n. Assumes nothing.
-use mathlib.Core.Path.{_≡_, refl, sym, ap, _∙_}
-use mathlib.Core.Logic.{_⊎_, inl, inr, ⊎-elim}
-use mathlib.Core.Bool.{Bool, true, false, not, _||_, _&&_}
+-- definitions, so the third condition holds of them. Assumes nothing.
+use mathlib.Core.Path.{_≡_, refl}
+use mathlib.Core.Bool.{Bool, true, false, not}
 use mathlib.Core.List.{List, _∷_}
 use Prim.Native.Nat.{ℕ, zero, suc, _-_, _≤_}
 use native.Mathlib.Omega.{arith}
@@ -14,13 +13,11 @@ use Rattle.rules.specs.declared.Rule.{Rule}
 use Rattle.rules.specs.declared.Rating.{Rating}
 use Rattle.rules.specs.declared.Rating.the-variants.{Range, Refused}
 use Rattle.rules.specs.Below.{total, within}
-use Rattle.rules.specs.State.{S, ruleOf}
-use Rattle.rules.specs.Memory.{readingOf}
-use Rattle.rules.specs.Figure.{figureOf, low, high, exact, Third}
 use Rattle.rules.specs.Stretch.{stretch}
-use Rattle.rules.specs.Refusal.{badKind, badSize, badStretch, aboveUnit, heaviest, weightsOut, badWeights, rangeOne, rangeTwo, ranged, inRange, firstOf, figuresRefusal, stretchRefusal}
+use Rattle.rules.specs.Asked.{Asked, lengthOf, sizeOf, partOf, weightsOf, lowOf, highOf, ThirdOf}
+use Rattle.rules.specs.Refusal.{badKind, badSize, badStretch, heaviest, weightsOut, badWeights, rangeOne, rangeTwo, ranged, inRange, firstOf, figuresRefusal}
 use Rattle.rules.specs.Accepted.{Accepted, One, Two, Ratable}
-use Rattle.rules.specs.Answer.{unless, range, figuresOf, stretchOf}
+use Rattle.rules.specs.Answer.{unless, figuresOf}
 use Rattle.rules.proofs.Tests.{both, neither}
 use Rattle.rules.proofs.Seven.{within-true}
 use Rattle.rules.proofs.Conditions.{units-in, third}
@@ -49,11 +46,6 @@ pub first-same : (n : ℕ) (b c : Bool) (cs ds : List (ℕ × Bool)) → b ≡ c
 unfolding firstOf
 first-same n true c cs ds e h = rw (← e)
 first-same n false c cs ds e h = rw (← e) (h refl)
-
-pub unless-same : {A : Type 0} (r q : ℕ) (refused : ℕ → A) (x y : A) → r ≡ q → (r ≡ 0 → x ≡ y) → unless r refused x ≡ unless q refused y
-unfolding unless
-unless-same zero q refused x y e h = rw (← e) (h refl)
-unless-same (suc r) q refused x y e h = rw (← e)
 
 -- refusal 5 not given: the weights are as many as the components, and light enough
 pub weights-accepted : (rule : Rule) (n listed t : ℕ) → weightsOut rule n listed t ≡ false → rule .kind ≡ 2 → (listed ≡ n) × (t ≤ heaviest)
@@ -116,32 +108,6 @@ module _ {rule : Rule} {n : ℕ} {weights : List ℕ} (ok : Accepted rule n weig
   unfolding ranged
   range7 e = two-true _ _ _ (rw e at (ok .in-range))
 
--- no refusal, so the list can be rated
-module _ (rule : Rule) (survival weights table : List ℕ) where
-  pub figures-ratable : figuresRefusal rule survival weights table ≡ 0 → Ratable rule survival weights table
-  unfolding figuresRefusal
-  figures-ratable e =
-      let a = none-first 0 _ _ e in
-      let b = none-first 1 _ _ (a .1) in
-      let c = none-first 3 _ _ (b .1) in
-      let d = none-first 4 _ _ (c .1) in
-      let f = none-first 5 _ _ (d .1) in
-      record {
-        accepted = rule-accepted rule (length survival) (length survival) weights weights (a .0) (b .0) (d .0) (λ l. l) (f .0);
-        units = units-in survival (c .0);
-        room = ltb-false _ _ (none-first 6 _ _ (f .1) .0);
-      }
-
-  -- the third condition of every range that the figures answer
-  pub figures-third : (l h : ℕ) → figuresOf rule survival weights table ≡ Range l h → Third S (length survival) l h (exact S rule survival weights)
-  unfolding figuresOf
-  figures-third l h e =
-      let a = answered _ l h _ e in
-      let s = figures-ratable (a .0) in
-      let low-is : low S rule survival weights ≡ l = cc (a .1) in
-      let high-is : high S rule survival weights ≡ h = cc (a .1) in
-      rw (← low-is, ← high-is) (third rule survival weights (s .accepted .size-low) (s .units) (s .accepted .in-range))
-
 -- what it says that a stretch is not refused
 pub in-stretch : (a b n : ℕ) → badStretch a b n ≡ false → (1 ≤ a) × (a ≤ b) × (b ≤ n)
 in-stretch a b n e =
@@ -153,7 +119,7 @@ in-stretch a b n e =
     one-le zero h = absurd (h refl)
     one-le (suc a) h = omega arith
 
-whole-stretch : (n : ℕ) → 1 ≤ n → badStretch 1 n n ≡ false
+pub whole-stretch : (n : ℕ) → 1 ≤ n → badStretch 1 n n ≡ false
 whole-stretch n l = rw (le-ltb n 1 l, le-ltb n n (omega arith))
 
 -- the length of a stretch that lies in the list
@@ -163,132 +129,45 @@ stretch-length a b xs e =
     let h = in-stretch a b (length xs) e in
     simp (length-take, length-drop) (omega arith)
 
-module _ (rule : Rule) (a b : ℕ) (survival weights table : List ℕ) where
-  pub stretch-ratable : stretchRefusal rule a b survival weights table ≡ 0
-      → (badStretch a b (length survival) ≡ false) × (rule .kind ≡ 2 → length weights ≡ length survival) × Ratable rule (stretch a b survival) (stretch a b weights) table
-  unfolding stretchRefusal
-  stretch-ratable e =
+-- no refusal, so the stretch can be rated
+module _ (q : Asked) (table : List ℕ) where
+  pub figures-ratable : figuresRefusal q table ≡ 0
+      → (badStretch (q .a) (q .b) (lengthOf q) ≡ false) × (q .rule .kind ≡ 2 → length (q .weights) ≡ lengthOf q) × Ratable (q .rule) (partOf q) (weightsOf q) table
+  unfolding figuresRefusal
+  figures-ratable e =
       let v = none-first 0 _ _ e in
       let w = none-first 1 _ _ (v .1) in
       let t = none-first 2 _ _ (w .1) in
       let c = none-first 3 _ _ (t .1) in
       let d = none-first 4 _ _ (c .1) in
       let f = none-first 5 _ _ (d .1) in
-      let n = within-true 1 (length survival) 64 (not-false _ (w .0)) in
-      let inside = in-stretch a b (length survival) (t .0) in
-      let size = stretch-length a b survival (t .0) in
-      let in-size : badSize (length (stretch a b survival)) ≡ false = rw (le-leb 1 (length (stretch a b survival)) (omega (arith, size)), le-leb (length (stretch a b survival)) 64 (omega (arith, size))) in
-      let as-many : length weights ≡ length survival → length (stretch a b weights) ≡ length (stretch a b survival)
-      = λ l. stretch-length a b weights (rw l (t .0)) ∙ sym size in (
+      let n = lengthOf q in
+      let small = within-true 1 n 64 (not-false _ (w .0)) in
+      let inside = in-stretch (q .a) (q .b) n (t .0) in
+      let size = stretch-length (q .a) (q .b) (q .survival) (t .0) in
+      let in-size : badSize (sizeOf q) ≡ false = rw (le-leb 1 (sizeOf q) (omega arith), le-leb (sizeOf q) 64 (omega arith)) in
+      let as-many : length (q .weights) ≡ n → length (weightsOf q) ≡ sizeOf q = λ l. stretch-length (q .a) (q .b) (q .weights) (rw l (t .0)) in (
         t .0,
-        λ two. weights-accepted rule (length survival) (length weights) _ (d .0) two .0,
+        λ two. weights-accepted (q .rule) n (length (q .weights)) _ (d .0) two .0,
         record {
-          accepted = rule-accepted rule _ (length survival) weights _ (v .0) in-size (d .0) as-many (f .0);
-          units = units-in (stretch a b survival) (c .0);
+          accepted = rw size (rule-accepted (q .rule) (sizeOf q) n (q .weights) _ (v .0) in-size (d .0) as-many (f .0));
+          units = units-in (partOf q) (c .0);
           room = ltb-false _ _ (none-first 6 _ _ (f .1) .0);
         },
       )
 
-  -- the third condition of every range that a stretch answers, with its own length
-  pub stretch-third : (l h : ℕ) → stretchOf rule a b survival weights table ≡ Range l h
-      → Third S (suc b - a) l h (exact S rule (stretch a b survival) (stretch a b weights))
-  unfolding stretchOf
-  stretch-third l h e =
+  -- the third condition of every range that the figures answer, n the stretch's length
+  pub figures-third : (l h : ℕ) → figuresOf q table ≡ Range l h → ThirdOf q l h
+  unfolding figuresOf
+  figures-third l h e =
       let v = answered _ l h _ e in
-      let s = stretch-ratable (v .0) in
-      let size = stretch-length a b survival (s .0) in
-      let low-is : low S rule (stretch a b survival) (stretch a b weights) ≡ l = cc (v .1) in
-      let high-is : high S rule (stretch a b survival) (stretch a b weights) ≡ h = cc (v .1) in
-      rw (← low-is, ← high-is, ← size)
-      (third rule (stretch a b survival) (stretch a b weights) (s .2 .accepted .size-low) (s .2 .units) (s .2 .accepted .in-range))
+      let s = figures-ratable (v .0) in
+      let size = stretch-length (q .a) (q .b) (q .survival) (s .0) in
+      let low-is : lowOf q ≡ l = cc (v .1) in
+      let high-is : highOf q ≡ h = cc (v .1) in
+      rw (← low-is, ← high-is, ← size) (third (q .rule) (partOf q) (weightsOf q) (s .2 .accepted .size-low) (s .2 .units) (s .2 .accepted .in-range))
 
 -- a stretch from 1 to the end is the list
 pub stretch-all : (xs : List ℕ) (n : ℕ) → length xs ≡ n → stretch 1 n xs ≡ xs
 unfolding stretch
 stretch-all xs n e = let h : suc n - 1 ≡ n = omega arith in rw h (take-all n xs (omega arith))
-
--- weights are read by kind 2 alone
-other-range : (kind first second n t v : ℕ) → (kind ≡ 2 → ⊥) → ranged (ruleOf kind first second) n t ≡ ranged (ruleOf kind first second) n v
-unfolding ranged
-other-range zero first second n t v h = refl
-other-range (suc zero) first second n t v h = refl
-other-range (suc (suc zero)) first second n t v h = absurd (h refl)
-other-range (suc (suc (suc kind))) first second n t v h = refl
-
-other-reading : (kind first second : ℕ) (ws vs : List ℕ) → (kind ≡ 2 → ⊥) → readingOf (ruleOf kind first second) ws ≡ readingOf (ruleOf kind first second) vs
-unfolding readingOf
-other-reading zero first second ws vs h = refl
-other-reading (suc zero) first second ws vs h = refl
-other-reading (suc (suc zero)) first second ws vs h = absurd (h refl)
-other-reading (suc (suc (suc kind))) first second ws vs h = refl
-
-pub unread-range : (rule : Rule) (n t v : ℕ) → (rule .kind ≡ 2 → ⊥) → ranged rule n t ≡ ranged rule n v
-unread-range rule = other-range (rule .kind) (rule .first) (rule .second)
-
-pub accepted-unread : {rule : Rule} {n : ℕ} {ws vs : List ℕ} → Accepted rule n ws → (rule .kind ≡ 2 → ⊥) → Accepted rule n vs
-accepted-unread {rule} {n} {ws} {vs} y other = record {
-  kind-low = y .kind-low;
-  kind-high = y .kind-high;
-  size-low = y .size-low;
-  size-high = y .size-high;
-  weights-length = λ two. absurd (other two);
-  weights-total = λ two. absurd (other two);
-  in-range = unread-range rule n (total vs) (total ws) other ∙ y .in-range;
-}
-
-pub unread-answer : (rule : Rule) (survival ws vs : List ℕ) → (rule .kind ≡ 2 → ⊥) → range rule survival ws ≡ range rule survival vs
-unread-answer rule survival ws vs k =
-    ap (λ R. Range (figureOf (R .row) false S survival) (figureOf (R .row) true S survival)) (other-reading (rule .kind) (rule .first) (rule .second) ws vs k)
-
--- so two lists of weights that differ only where kind 2 would refuse give the same range
-module _ (rule : Rule) (n : ℕ) (ws vs : List ℕ) (same : length ws ≡ n → vs ≡ ws) where
-  weights-same : badWeights rule n ws ws ≡ badWeights rule n ws vs
-  unfolding weightsOut
-  weights-same = go (eqb (length ws) n) refl
-    where
-      go : (t : Bool) → eqb (length ws) n ≡ t
-          → (eqb (rule .kind) 2 && (not (eqb (length ws) n) || ltb heaviest (total ws))) ≡ (eqb (rule .kind) 2 && (not (eqb (length ws) n) || ltb heaviest (total vs)))
-      go true e = rw (same (eqb-true _ _ e))
-      go false e = rw e
-
-  -- either the lists are one, or the kind does not read them
-  read-same : (rule .kind ≡ 2 → length ws ≡ n) → (vs ≡ ws) ⊎ (rule .kind ≡ 2 → ⊥)
-  read-same listed = go (eqb (rule .kind) 2) refl
-    where
-      go : (k : Bool) → eqb (rule .kind) 2 ≡ k → (vs ≡ ws) ⊎ (rule .kind ≡ 2 → ⊥)
-      go true e = inl (same (listed (eqb-true _ _ e)))
-      go false e = inr (eqb-false _ _ e)
-
-  range-same : (m : ℕ) → (rule .kind ≡ 2 → length ws ≡ n) → inRange rule m ws ≡ inRange rule m vs
-  range-same m listed = ⊎-elim (λ s. rw s) (λ k. unread-range rule m (total ws) (total vs) k) (read-same listed)
-
-  answer-same : (survival : List ℕ) → (rule .kind ≡ 2 → length ws ≡ n) → range rule survival ws ≡ range rule survival vs
-  answer-same survival listed = ⊎-elim (λ s. rw s) (λ k. unread-answer rule survival ws vs k) (read-same listed)
-
--- a whole list and its stretch from 1 to n have the same refusal and the same answer
-module _ (rule : Rule) (survival weights table : List ℕ) where
-  abbrev n : ℕ
-  n = length survival
-
-  abbrev same : length weights ≡ n → stretch 1 n weights ≡ weights
-  same = stretch-all weights n
-
-  pub whole-refusal : figuresRefusal rule survival weights table ≡ stretchRefusal rule 1 n survival weights table
-  unfolding figuresRefusal stretchRefusal
-  whole-refusal =
-      first-same 1 _ _ _ _ refl (λ k. first-same 2 _ _ _ _ refl (λ size.
-      let within-size = within-true 1 n 64 (not-false _ size) in
-      sym (first-after 3 _ _ (whole-stretch n (within-size .0))
-      ∙ first-same 4 _ _ _ _ (ap aboveUnit (stretch-all survival n refl)) (λ units.
-      first-same 5 _ _ _ _ (sym (weights-same rule n weights (stretch 1 n weights) same)) (λ ws.
-      first-same 6 _ _ _ _
-      (ap (λ xs. not (inRange rule (length xs) (stretch 1 n weights))) (stretch-all survival n refl)
-      ∙ ap not (sym (range-same rule n weights (stretch 1 n weights) same n (λ two. weights-accepted rule n (length weights) _ ws two .0))))
-      (λ r. refl))))))
-
-  pub whole-is-stretch : figuresOf rule survival weights table ≡ stretchOf rule 1 n survival weights table
-  unfolding figuresOf stretchOf
-  whole-is-stretch =
-      unless-same _ _ Refused _ _ whole-refusal
-      (λ e. answer-same rule n weights (stretch 1 n weights) same survival (figures-ratable rule survival weights table e .accepted .weights-length)
-      ∙ ap (λ xs. range rule xs (stretch 1 n weights)) (sym (stretch-all survival n refl)))

@@ -53,6 +53,11 @@ rates r refusal low high = (to r, λ e. rw e (from refusal))
     from zero = (refl, refl, refl)
     from (suc q) = (refl, omega arith)
 
+-- the same refusal, and where there is none the same figures: the same answer
+pub rates-same : (r : Rating) {q q' l l' h h' : ℕ} → q ≡ q' → (q ≡ 0 → (l ≡ l') × (h ≡ h')) → Rates r q l h → Rates r q' l' h'
+rates-same (rating.Range l h) e same v = (sym e ∙ v .0, v .1 ∙ same (v .0) .0, v .2 ∙ same (v .0) .1)
+rates-same (rating.Refused number) e same v = (v .0 ∙ e, rw (← e) (v .1))
+
 abbrev countingBy : (refusal : ℕ) → Counting
 countingBy refusal = unless refusal counting.Refused counting.Counted
 

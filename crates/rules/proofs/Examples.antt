@@ -14,9 +14,11 @@ use Rattle.rules.specs.Verdict.{weightDown, someWindow, fails}
 use Rattle.rules.specs.Count.{countIf, countsOf}
 use Rattle.rules.specs.Memory.{moved, ended, readingOf}
 use Rattle.rules.specs.Figure.{rounded, value}
+use Rattle.rules.specs.Stretch.{stretch}
+use Rattle.rules.specs.Asked.{askedOf}
 use Rattle.rules.specs.Refusal.{cells, aboveUnit, weightsOut, ranged, firstOf, verdictRefusal, figuresRefusal}
 use Rattle.rules.specs.Answer.{unless, verdictOf, figuresOf}
-use lib.ListN.{replicate}
+use lib.ListN.{length, replicate}
 
 -- a count table, the verdict on a word, or the figures of a list
 pub data Example : Type 0 where
@@ -27,7 +29,7 @@ pub data Example : Type 0 where
 unfoldable pub Holds : Example → Type 0
 Holds (counts rule n weights printed) = countsOf rule n weights ≡ printed
 Holds (verdict rule n w printed) = verdictOf rule n [] w ≡ printed
-Holds (figures rule survival printed) = figuresOf rule survival [] (replicate cells 0) ≡ printed
+Holds (figures rule survival printed) = figuresOf (askedOf rule 1 (length survival) survival []) (replicate cells 0) ≡ printed
 
 unfoldable pub All : List Example → Type 0
 unfolding Holds
@@ -52,5 +54,5 @@ table =
     ∷ []
 
 pub examples : All table
-unfolding All Holds table sumBelow held some listBelow total numberOf someWindow fails weightDown ones countIf countsOf moved ended readingOf rounded value aboveUnit weightsOut ranged firstOf verdictRefusal figuresRefusal unless verdictOf figuresOf
+unfolding All Holds table sumBelow held some listBelow total numberOf someWindow fails weightDown ones countIf countsOf moved ended readingOf rounded value stretch aboveUnit weightsOut ranged firstOf verdictRefusal figuresRefusal unless verdictOf figuresOf
 examples = (refl, (refl, (refl, (refl, (refl, (refl, (refl, (refl, (refl, (refl, (refl, (refl, (refl, tt)))))))))))))

@@ -21,3 +21,4 @@ pub mod Adding
 pub mod Seven
 pub mod Conditions
 pub mod Accepted
+pub mod Unread

@@ -12,12 +12,10 @@ use Rattle.rules.specs.declared.Rating.{Rating}
 use Rattle.rules.specs.declared.Rating.the-variants as rating
 use Rattle.rules.specs.declared.Counting.{Counting}
 use Rattle.rules.specs.declared.Counting.the-variants as counting
-use Rattle.rules.specs.State.{S}
 use Rattle.rules.specs.Verdict.{fails}
 use Rattle.rules.specs.Count.{countsOf}
-use Rattle.rules.specs.Figure.{low, high}
-use Rattle.rules.specs.Stretch.{stretch}
-use Rattle.rules.specs.Refusal.{cells, verdictRefusal, countRefusal, figuresRefusal, stretchRefusal}
+use Rattle.rules.specs.Asked.{Asked, lowOf, highOf}
+use Rattle.rules.specs.Refusal.{cells, verdictRefusal, countRefusal, figuresRefusal}
 
 -- the refusal where there is one, else the answer
 unfoldable pub unless : {A : Type 0} → (refusal : ℕ) (refused : ℕ → A) (answer : A) → A
@@ -55,20 +53,9 @@ unfoldable pub verdictOf : Rule → (n : ℕ) (weights : List ℕ) (w : ℕ) →
 verdictOf rule n weights w =
     unless (verdictRefusal rule n weights w) verdict.Refused (cond (fails rule n weights w) verdict.Fails verdict.Works)
 
--- the figures of a sound list
-abbrev pub range : Rule → (survival weights : List ℕ) → Rating
-range rule survival weights = rating.Range (low S rule survival weights) (high S rule survival weights)
-
--- the figures of a whole list
-unfoldable pub figuresOf : Rule → (survival weights table : List ℕ) → Rating
-figuresOf rule survival weights table =
-    unless (figuresRefusal rule survival weights table) rating.Refused (range rule survival weights)
-
--- the figures of a stretch: "answers as a list of those components alone would, weights too"
-unfoldable pub stretchOf : Rule → (a b : ℕ) (survival weights table : List ℕ) → Rating
-stretchOf rule a b survival weights table =
-    unless (stretchRefusal rule a b survival weights table) rating.Refused
-    (range rule (stretch a b survival) (stretch a b weights))
+-- the figures: of the stretch that is asked, "as a list of those components alone would"
+unfoldable pub figuresOf : Asked → (table : List ℕ) → Rating
+figuresOf q table = unless (figuresRefusal q table) rating.Refused (rating.Range (lowOf q) (highOf q))
 
 -- the count table's call, and the room for the counts after it: "the count table's first n + 1 cells are written and the rest untouched"
 unfoldable pub countingOf : Rule → (n : ℕ) (weights table room : List ℕ) → Counting

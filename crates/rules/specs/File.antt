@@ -8,8 +8,9 @@ use Rattle.rules.specs.declared.System.{System}
 use Rattle.rules.specs.declared.Rating.{Rating}
 use Rattle.rules.specs.declared.Rating.the-variants.{Range, Refused}
 use Rattle.rules.specs.Below.{within, listBelow}
+use Rattle.rules.specs.Asked.{Asked, askedOf}
 use Rattle.rules.specs.Refusal.{most, cells, firstOf, badSize}
-use Rattle.rules.specs.Answer.{unless, stretchOf}
+use Rattle.rules.specs.Answer.{unless, figuresOf}
 
 -- a deck: its fans' survival numbers and weights, and its systems
 pub record Deck : Type 0 where
@@ -178,9 +179,13 @@ fileRefusal bytes =
     ∷ (13, badLayout bytes)
     ∷ [])
 
+-- what a system asks of its deck
+abbrev pub askedBy : Deck → System → Asked
+askedBy d s = askedOf (s .rule) (s .a) (s .b) (d .survival) (d .weights)
+
 -- a system's own answer, over a working table that the caller brings
 unfoldable pub systemOf : Deck → System → Rating
-systemOf d s = stretchOf (s .rule) (s .a) (s .b) (d .survival) (d .weights) (replicate cells 0)
+systemOf d s = figuresOf (askedBy d s) (replicate cells 0)
 
 -- the answer of a file's system, counted from 0
 abbrev pub answerIn : List ℕ → ℕ → Rating

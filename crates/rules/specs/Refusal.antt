@@ -7,7 +7,7 @@ use lib.ListN.{length, getD}
 use Rattle.rules.specs.declared.Rule.{Rule}
 use Rattle.rules.specs.Below.{some, total, within, rowOf}
 use Rattle.rules.specs.State.{S}
-use Rattle.rules.specs.Stretch.{stretch}
+use Rattle.rules.specs.Asked.{Asked, lengthOf, sizeOf, partOf, weightsOf}
 
 -- 1: kind not 1..7
 abbrev pub badKind : Rule → Bool
@@ -105,29 +105,15 @@ countRefusal rule n weights table room =
     ∷ (8, shortRoom n room)
     ∷ [])
 
--- "the figures 1, 2, 3 (stretch calls), 4, 5, 6, 7"
-unfoldable pub figuresRefusal : Rule → (survival weights table : List ℕ) → ℕ
-figuresRefusal rule survival weights table =
+-- "the figures 1, 2, 3, 4, 5, 6, 7": since request 02 "3 now belongs to every figure"
+unfoldable pub figuresRefusal : Asked → (table : List ℕ) → ℕ
+figuresRefusal q table =
     firstOf
-    ((1, badKind rule)
-    ∷ (2, badSize (length survival))
-    ∷ (4, aboveUnit survival)
-    ∷ (5, badWeights rule (length survival) weights weights)
-    ∷ (6, not (inRange rule (length survival) weights))
-    ∷ (7, shortTable table)
-    ∷ [])
-
-unfoldable pub stretchRefusal : Rule → (a b : ℕ) (survival weights table : List ℕ) → ℕ
-stretchRefusal rule a b survival weights table =
-    let n = length survival in
-    let part = stretch a b survival in
-    let rated = stretch a b weights in
-    firstOf
-    ((1, badKind rule)
-    ∷ (2, badSize n)
-    ∷ (3, badStretch a b n)
-    ∷ (4, aboveUnit part)
-    ∷ (5, badWeights rule n weights rated)
-    ∷ (6, not (inRange rule (length part) rated))
+    ((1, badKind (q .rule))
+    ∷ (2, badSize (lengthOf q))
+    ∷ (3, badStretch (q .a) (q .b) (lengthOf q))
+    ∷ (4, aboveUnit (partOf q))
+    ∷ (5, badWeights (q .rule) (lengthOf q) (q .weights) (weightsOf q))
+    ∷ (6, not (inRange (q .rule) (sizeOf q) (weightsOf q)))
     ∷ (7, shortTable table)
     ∷ [])

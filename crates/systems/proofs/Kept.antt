@@ -4,8 +4,9 @@ use mathlib.Core.List.{List}
 use Prim.Native.Nat.{ℕ, _<_}
 use native.Mathlib.Omega.{arith}
 use lib.ListN.{getD, replicate, length-append}
+use Rattle.rules.specs.Asked.{askedOf}
 use Rattle.rules.specs.Refusal.{cells}
-use Rattle.rules.specs.Answer.{stretchOf}
+use Rattle.rules.specs.Answer.{figuresOf}
 use Rattle.rules.specs.File.{countIn, deckIn, fileRefusal, systemOf, answerIn}
 use Rattle.rules.proofs.Lists.{below-length}
 use Rattle.deck.specs.Read.{padded, noSystem, keptDeck}
@@ -18,7 +19,7 @@ module _ (bytes : List ℕ) (s : ℕ) where
   unfolding answerAt systemOf keptDeck
   kept-answer h =
       let y = getD (keptDeck bytes .systems) s noSystem in
-      ap₂ (λ xs ws. stretchOf (y .rule) (y .a) (y .b) xs ws (replicate cells 0)) (kept-survival bytes) (kept-weights bytes)
+      ap₂ (λ xs ws. figuresOf (askedOf (y .rule) (y .a) (y .b) xs ws) (replicate cells 0)) (kept-survival bytes) (kept-weights bytes)
       ∙ ap (systemOf (deckIn bytes)) (kept-system bytes noSystem s h)
 
   pub kept-held : fileRefusal bytes ≡ 0 → s < countIn bytes → Held (keptDeck bytes) s

@@ -1,8 +1,9 @@
 // The figures of a system of a deck.
 ghost use mathlib.Core.Path.{_≡_};
 ghost use lib.ListN.{replicate};
+ghost use Rattle.rules.specs.Asked.{askedOf};
 ghost use Rattle.rules.specs.Refusal.{cells};
-ghost use Rattle.rules.specs.Answer.{stretchOf};
+ghost use Rattle.rules.specs.Answer.{figuresOf};
 ghost use Rattle.systems.specs.Arrays.{answerAt, Held};
 use cells::CELLS;
 use deck::Deck;
@@ -11,11 +12,11 @@ use rules::System;
 
 // A system's figures over a deck's lists, in a working table of the call's own.
 fn rate_lists(system: System, survival: &[u32], weights: &[u16]) -> Rating
-    ensures { λ r. ⌜ r ≡ stretchOf (system .rule) (system .a) (system .b) (now (survival .entry)) (now (weights .entry)) (replicate cells 0) ⌝ }
+    ensures { λ r. ⌜ r ≡ figuresOf (askedOf (system .rule) (system .a) (system .b) (now (survival .entry)) (now (weights .entry))) (replicate cells 0) ⌝ }
 {
     let mut table = [0u64; CELLS];
     let rule = system.rule;
-    figures::stretch(rule, system.a, system.b, survival, weights, &mut table)
+    figures::figures(rule, system.a, system.b, survival, weights, &mut table)
 }
 
 // The figures of the system at a place of a deck, counted from 0.

@@ -1,11 +1,12 @@
--- `refusal` tries the conditions of `stretchRefusal` in their order. Assumes nothing.
+-- `refusal` tries the conditions of `figuresRefusal` in their order. Assumes nothing.
 use borrow.Author.Needs.{needs}
 use mathlib.Core.Path.{sym, ap, _∙_}
 use mathlib.Core.Bool.{cond}
 use native.Mathlib.Omega.{arith}
 use lib.ListN.{length}
 use borrow.Author.Tests.{lt-ltb, le-ltb, not-false}
-use Rattle.rules.specs.Refusal.{aboveUnit, stretchRefusal}
+use Rattle.rules.specs.Asked.{askedOf}
+use Rattle.rules.specs.Refusal.{aboveUnit, figuresRefusal}
 use Rattle.rules.proofs.Seven.{within-true}
 use Rattle.rules.proofs.Accepted.{in-stretch, first-of, first-after}
 use Rattle.refusals.proofs.Laws.{after-none, after-some}
@@ -17,7 +18,7 @@ kind-out-requires : tie.Need-kind-out-requires
 kind-out-requires c κs = search needs
 
 returns : tie.Need-returns
-unfolding stretchRefusal
+unfolding figuresRefusal
 returns c =
     let one = sym (c .before .kind-out .ensures) ∙ c .if1 .taken in
     sym (first-of 1 _ _ one)
@@ -26,7 +27,7 @@ size-out-requires : tie.Need-size-out-requires
 size-out-requires c κs = search needs
 
 returns-2 : tie.Need-returns-2
-unfolding stretchRefusal
+unfolding figuresRefusal
 returns-2 c =
     let one = sym (c .before .before .before .kind-out .ensures) ∙ c .before .before .if1 .left in
     let two = sym (c .before .size-out .ensures) ∙ c .if2 .taken in
@@ -36,7 +37,7 @@ stretch-out-requires : tie.Need-stretch-out-requires
 stretch-out-requires c κs = search needs
 
 returns-3 : tie.Need-returns-3
-unfolding stretchRefusal
+unfolding figuresRefusal
 returns-3 c =
     let one = sym (c .before .before .before .before .before .kind-out .ensures) ∙ c .before .before .before .before .if1 .left in
     let two = sym (c .before .before .before .size-out .ensures) ∙ c .before .before .if2 .left in
@@ -77,7 +78,7 @@ above-unit-requires : tie.Need-above-unit-requires
 above-unit-requires c κs = search needs
 
 returns-4 : tie.Need-returns-4
-unfolding stretchRefusal
+unfolding figuresRefusal
 returns-4 c =
     let x = c .before .before .before .before .before .before .before .before .before .before .before .before .args in
     let one = sym (c .before .before .before .before .before .before .before .before .kind-out .ensures) ∙ c .before .before .before .before .before .before .before .if1 .left in
@@ -111,7 +112,7 @@ returns-5 c =
     let four = sym (c .before .before .before .before .above-unit .ensures ∙ ap aboveUnit (part-is (x .a) (x .b) _ _ three)) ∙ c .before .before .before .if4 .left in
     let own = c .before .rated-refusal .ensures in
     let rated = c .before .before .rated-weights .ensures in
-    let rest = rest-is (x .rule) (x .a) (x .b) (x .survival .now) (x .weights .now) (x .table .now) one two three four own rated in
+    let rest = rest-is (askedOf (x .rule) (x .a) (x .b) (x .survival .now) (x .weights .now)) (x .table .now) one two three four own rated in
     sym (rest ∙ after-some _ _ (c .if5 .taken))
 
 returns-6 : tie.Need-returns-6
@@ -123,7 +124,7 @@ returns-6 c =
     let four = sym (c .before .before .before .before .before .above-unit .ensures ∙ ap aboveUnit (part-is (x .a) (x .b) _ _ three)) ∙ c .before .before .before .before .if4 .left in
     let own = c .before .before .rated-refusal .ensures in
     let rated = c .before .before .before .rated-weights .ensures in
-    let rest = rest-is (x .rule) (x .a) (x .b) (x .survival .now) (x .weights .now) (x .table .now) one two three four own rated in
+    let rest = rest-is (askedOf (x .rule) (x .a) (x .b) (x .survival .now) (x .weights .now)) (x .table .now) one two three four own rated in
     sym (rest ∙ after-none _ _ (c .before .if5 .left) ∙ ap (λ t. cond t 7 0) (lt-ltb _ _ (c .if6 .taken)))
 
 returns-7 : tie.Need-returns-7
@@ -135,7 +136,7 @@ returns-7 c =
     let four = sym (c .before .before .before .before .before .above-unit .ensures ∙ ap aboveUnit (part-is (x .a) (x .b) _ _ three)) ∙ c .before .before .before .before .if4 .left in
     let own = c .before .before .rated-refusal .ensures in
     let rated = c .before .before .before .rated-weights .ensures in
-    let rest = rest-is (x .rule) (x .a) (x .b) (x .survival .now) (x .weights .now) (x .table .now) one two three four own rated in
+    let rest = rest-is (askedOf (x .rule) (x .a) (x .b) (x .survival .now) (x .weights .now)) (x .table .now) one two three four own rated in
     sym (rest ∙ after-none _ _ (c .before .if5 .left) ∙ ap (λ t. cond t 7 0) (le-ltb _ _ (c .if6 .left)))
 
 pub refusal-spec : {M : Type 1} → statement M

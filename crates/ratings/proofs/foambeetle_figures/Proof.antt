@@ -3,7 +3,7 @@ use mathlib.Core.Path.{ap, _∙_}
 use borrow.Author.Needs.{needs}
 use Rattle.rules.specs.File.{packed}
 use Rattle.figures.proofs.Outcome.{figures-are}
-use Rattle.ratings.proofs.Packed.{figures-packable}
+use Rattle.loading.proofs.Packed.{figures-packable}
 use Rattle.ratings.proofs.foambeetle_figures.Statement.{statement}
 use Rattle.ratings.proofs.foambeetle_figures.Tie as tie
 
@@ -11,7 +11,7 @@ figures-requires : tie.Need-figures-requires
 figures-requires c κs = search needs
 
 pack-requires : tie.Need-pack-requires
-pack-requires c κs = rw (figures-are (c .before .before .figures .ensures)) (figures-packable _ _ _ _)
+pack-requires c κs = rw (figures-are (c .before .before .figures .ensures)) (figures-packable _ _)
 
 same-length : tie.Need-same-length
 same-length c = search needs

@@ -8,7 +8,7 @@ use borrow.Author.Needs.{needs}
 use borrow.Author.Tests.{eq-eqb, ne-eqb, le-ltb, lt-ltb, not-true, not-false}
 use Rattle.rules.specs.declared.Rule.{Rule}
 use Rattle.rules.specs.Refusal.{heaviest, weightsOut, ranged, firstOf}
-use Rattle.rules.proofs.Accepted.{unread-range}
+use Rattle.rules.proofs.Unread.{unread-range}
 use Rattle.refusals.specs.Shared.{ratedRefusal}
 use Rattle.refusals.proofs.rated_refusal.Statement.{statement}
 use Rattle.refusals.proofs.rated_refusal.Tie as tie

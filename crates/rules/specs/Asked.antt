@@ -1,0 +1,46 @@
+-- Document 02, request 02, "One rating call": what is asked of a rating, the part of the lists that is rated, and the part's low, high and E.
+-- "The whole deck is stretch 1 to n", and n of the third condition is the stretch's length.
+use mathlib.Core.List.{List}
+use Prim.Native.Nat.{ℕ, suc, _-_}
+use lib.ListN.{length}
+use Rattle.rules.specs.declared.Rule.{Rule}
+use Rattle.rules.specs.State.{S}
+use Rattle.rules.specs.Figure.{low, high, exact, Third}
+use Rattle.rules.specs.Stretch.{stretch}
+
+pub record Asked : Type 0 where
+  pub rule : Rule
+  pub a : ℕ
+  pub b : ℕ
+  pub survival : List ℕ
+  pub weights : List ℕ
+
+abbrev pub askedOf : Rule → (a b : ℕ) (survival weights : List ℕ) → Asked
+askedOf rule a b survival weights = record { rule = rule; a = a; b = b; survival = survival; weights = weights }
+
+-- n, the list's length
+abbrev pub lengthOf : Asked → ℕ
+lengthOf q = length (q .survival)
+
+-- the stretch's length, its survival numbers and its weights: "answers as a list of those components alone would, weights too"
+abbrev pub sizeOf : Asked → ℕ
+sizeOf q = suc (q .b) - q .a
+
+abbrev pub partOf : Asked → List ℕ
+partOf q = stretch (q .a) (q .b) (q .survival)
+
+abbrev pub weightsOf : Asked → List ℕ
+weightsOf q = stretch (q .a) (q .b) (q .weights)
+
+abbrev pub lowOf : Asked → ℕ
+lowOf q = low S (q .rule) (partOf q) (weightsOf q)
+
+abbrev pub highOf : Asked → ℕ
+highOf q = high S (q .rule) (partOf q) (weightsOf q)
+
+abbrev pub exactOf : Asked → ℕ
+exactOf q = exact S (q .rule) (partOf q) (weightsOf q)
+
+-- the third condition of two figures
+abbrev pub ThirdOf : Asked → (low high : ℕ) → Type 0
+ThirdOf q low high = Third S (sizeOf q) low high (exactOf q)
