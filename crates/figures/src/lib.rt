@@ -37,18 +37,19 @@ fn stretch_out(a: u64, b: u64, n: u64) -> bool
     n < b
 }
 
-// Refusal 4.
+// Refusal 4. Every number is looked at, so that the compiler can look at several at once.
 fn above_unit(survival: &[u32]) -> bool
     ensures { λ r. ⌜ r ≡ aboveUnit (now (survival .entry)) ⌝ }
 {
+    let mut above = false;
     let mut i: usize = 0;
     while i < survival.len() {
         if UNIT < survival[i] as u64 {
-            return true;
+            above = true;
         }
         i += 1;
     }
-    false
+    above
 }
 
 // The weights of the components rated, which only kind 2 has.

@@ -1,8 +1,9 @@
--- `above_unit` has found none among the numbers it passed. Assumes nothing.
+-- `above_unit` says whether one of the numbers it passed is above the unit. Assumes nothing.
 use borrow.Author.Needs.{needs}
 use Prim.Native.Nat.{_≤_, _-_}
-use mathlib.Core.Path.{_≡_, refl, sym}
-use mathlib.Core.Bool.{false}
+use mathlib.Core.Path.{_≡_, refl, sym, _∙_}
+use mathlib.Core.Logic.{⊎-elim}
+use mathlib.Core.Bool.{or-true, or-false}
 use native.Mathlib.Omega.{arith}
 use native.Mathlib.Numerals.{add-one}
 use lib.Dec.{ltb}
@@ -11,15 +12,14 @@ use borrow.Author.Tests.{lt-ltb, le-ltb}
 use Rattle.rules.specs.State.{S}
 use Rattle.rules.specs.Below.{some}
 use Rattle.rules.specs.Refusal.{aboveUnit}
-use Rattle.rules.proofs.Windows.{some-found}
 use Rattle.figures.proofs.above_unit.Statement.{statement}
 use Rattle.figures.proofs.above_unit.Tie as tie
 
 abbrev Inv-loop : tie.InvT-loop
-Inv-loop survival i₀ i = (i ≤ length survival) × (some (λ k. ltb S (getD survival k 0)) i ≡ false)
+Inv-loop survival above₀ i₀ above i = (i ≤ length survival) × (above ≡ some (λ k. ltb S (getD survival k 0)) i)
 
 abbrev μ-loop : tie.MeasureT-loop
-μ-loop survival i₀ i = length survival - i
+μ-loop survival above₀ i₀ above i = length survival - i
 
 loop-holds : tie.Need-loop-holds Inv-loop μ-loop
 unfolding some
@@ -34,10 +34,6 @@ shared-slice-read-if1 c = search needs
 cast-if1 : tie.Need-cast-if1 Inv-loop μ-loop
 cast-if1 c = omega (arith, c .shared-slice-known .given (c .before .before .loop .i))
 
-returns : tie.Need-returns Inv-loop μ-loop
-unfolding aboveUnit
-returns c = sym (some-found _ _ (c .before .before .before .loop .i) (c .before .before .loop-test .taken) (lt-ltb _ _ (c .if1 .taken)))
-
 add-i : tie.Need-add-i Inv-loop μ-loop
 add-i c = search needs
 
@@ -46,13 +42,22 @@ loop-less c = search needs
 
 loop-again : tie.Need-loop-again Inv-loop μ-loop
 unfolding some
-loop-again c = (omega arith, rw (add-one, c .before .before .before .loop .inv .1) (le-ltb _ _ (c .if1 .left)))
+loop-again c =
+    let l = c .before .before .before .loop in
+    let passed = some (λ k. ltb S (getD (c .before .before .before .before .args .survival .now) k 0)) (l .i) in (
+      omega arith,
+      rw add-one
+          (⊎-elim
+          (λ above. above .1 ∙ rw (lt-ltb _ _ (above .0 .taken)) (sym (or-true passed)))
+          (λ below. below .1 ∙ l .inv .1 ∙ rw (le-ltb _ _ (below .0 .left)) (sym (or-false passed)))
+          (c .if1 .came)),
+    )
 
-returns-2 : tie.Need-returns-2 Inv-loop μ-loop
+returns : tie.Need-returns Inv-loop μ-loop
 unfolding aboveUnit
-returns-2 c =
+returns c =
     let e : c .before .loop .i ≡ length (c .before .before .args .survival .now) = omega arith in
-    sym (rw e at (c .before .loop .inv .1))
+    rw e at (c .before .loop .inv .1)
 
 pub above-unit-spec : {M : Type 1} → statement M
 above-unit-spec =
@@ -64,8 +69,7 @@ above-unit-spec =
     mul-if1
     shared-slice-read-if1
     cast-if1
-    returns
     add-i
     loop-less
     loop-again
-    returns-2)
+    returns)
