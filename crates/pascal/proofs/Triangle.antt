@@ -1,6 +1,6 @@
--- Pascal's rule for the counts of all words: the ends are 1, each other count is the sum of the two above. Hence every count up to n = 64 fits
--- 64 bits. Assumes nothing.
-use mathlib.Core.Path.{_≡_, _∙_}
+-- Pascal's rule for the counts of all words: the ends are 1, each other count is the sum of the two above. Hence a row reads the same from both
+-- ends, and every count up to n = 64 fits 64 bits. Assumes nothing.
+use mathlib.Core.Path.{_≡_, sym, _∙_}
 use mathlib.Core.Bool.{Bool, true}
 use Prim.Native.Nat.{ℕ, zero, suc, _+_, _^_, _≤_, _<_}
 use native.Mathlib.Omega.{arith}
@@ -20,6 +20,18 @@ ways-first (suc n) = count-zero (λ w. true) n ∙ ways-first n
 pub ways-last : (n : ℕ) → waysOf n n ≡ 1
 ways-last zero = ways-first 0
 ways-last (suc n) = omega (arith, ways-sum n n, ways-last n, count-above (λ w. true) n (suc n) (omega arith))
+
+-- as many states have i failed as have all but i failed
+pub ways-mirror : (n i j : ℕ) → i + j ≡ n → waysOf n i ≡ waysOf n j
+ways-mirror n zero j e =
+    let all : j ≡ n = omega arith in
+    rw all (ways-first n ∙ sym (ways-last n))
+ways-mirror n (suc i) zero e =
+    let all : suc i ≡ n = omega arith in
+    rw all (ways-last n ∙ sym (ways-first n))
+ways-mirror zero (suc i) (suc j) e = absurd (omega arith)
+ways-mirror (suc n) (suc i) (suc j) e =
+    omega (arith, ways-sum n i, ways-sum n j, ways-mirror n i (suc j) (omega arith), ways-mirror n (suc i) j (omega arith))
 
 -- of the states of one component or more, at most half have j failed
 pub ways-half : (n j : ℕ) → waysOf (suc n) j ≤ 2 ^ n
