@@ -1,4 +1,5 @@
--- `by_number` writes the entries 0 to n, and nothing else: each turn makes the row longer by one. Assumes nothing.
+-- `by_number` writes the entries 0 to n, and nothing else: each turn makes the row longer by one, from the one table lent to all of them.
+-- Assumes nothing.
 use mathlib.Core.Path.{_≡_}
 use Prim.Native.Nat.{suc, _+_, _-_, _≤_, _<_}
 use native.Mathlib.Omega.{arith}
@@ -11,10 +12,13 @@ use Rattle.counts.proofs.number.by_number.Statement.{statement}
 use Rattle.counts.proofs.number.by_number.Tie as tie
 
 abbrev Inv-loop : tie.InvT-loop
-Inv-loop rule n room₀ j₀ room j = (j ≤ n + 1) × (n < length room) × Stored (entryOf rule n) 0 0 j room₀ room
+Inv-loop rule n room₀ triangle j₀ room j = (j ≤ n + 1) × (n < length room) × Stored (entryOf rule n) 0 0 j room₀ room
 
 abbrev μ-loop : tie.MeasureT-loop
-μ-loop rule n room₀ j₀ room j = n + 1 - j
+μ-loop rule n room₀ triangle j₀ room j = n + 1 - j
+
+table-requires : tie.Need-table-requires Inv-loop μ-loop
+table-requires c κs = search needs
 
 loop-holds : tie.Need-loop-holds Inv-loop μ-loop
 loop-holds c = (search needs, search needs, stored-none (omega arith))
@@ -36,7 +40,7 @@ loop-less c = search needs
 
 loop-again : tie.Need-loop-again Inv-loop μ-loop
 loop-again c =
-    let v = c .before .before .loop .inv in
+    let v = c .before .before .before .loop .inv in
     (search needs, simp length-set (v .1), stored-up _ _ (omega arith) (omega arith) (omega arith) (c .entry .ensures) (v .2))
 
 same-length : tie.Need-same-length Inv-loop μ-loop
@@ -44,7 +48,7 @@ same-length c = search needs
 
 returns : tie.Need-returns Inv-loop μ-loop
 returns c =
-    let e : c .before .loop .j ≡ suc (c .before .before .before .args .n) = omega arith in
+    let e : c .before .loop .j ≡ suc (c .before .before .before .before .args .n) = omega arith in
     rw e at (c .before .loop .inv .2)
 
 pub by-number-spec : {M : Type 1} → statement M
@@ -53,6 +57,7 @@ by-number-spec =
     (tie.spec
     Inv-loop
     μ-loop
+    table-requires
     loop-holds
     entry-requires
     mul-room
