@@ -10,11 +10,11 @@ use borrow.Author.Tests.{ltb-false}
 use Rattle.rules.specs.declared.Rule.{Rule}
 use Rattle.rules.specs.declared.Counting.the-variants as counting
 use Rattle.rules.specs.Count.{countsOf}
-use Rattle.rules.specs.Refusal.{cells, shortTable, shortRoom, firstOf, countRefusal}
+use Rattle.rules.specs.Refusal.{after, cells, shortTable, shortRoom, firstOf, countRefusal}
 use Rattle.rules.specs.Answer.{unless, roomAfter}
 use Rattle.rules.proofs.Seven.{seven}
 use Rattle.rules.proofs.Accepted.{none-first}
-use Rattle.refusals.specs.Shared.{after, ruleRefusal}
+use Rattle.refusals.specs.Shared.{ruleRefusal}
 use Rattle.rules.proofs.Unless.{unless-none, unless-some}
 use Rattle.rules.proofs.Answer.{counts}
 use Rattle.refusals.proofs.Laws.{count-after, accepted}

@@ -8,9 +8,9 @@ use lib.Dec.{ltb}
 use lib.ListN.{length, getD}
 use Rattle.rules.specs.declared.Rule.{Rule}
 use Rattle.rules.specs.Count.{countOf}
-use Rattle.rules.specs.Refusal.{most, heaviest, cells}
+use Rattle.rules.specs.Refusal.{after, most, heaviest, cells}
 use Rattle.rules.specs.Accepted.{Accepted}
-use Rattle.refusals.specs.Shared.{after, ruleRefusal}
+use Rattle.refusals.specs.Shared.{ruleRefusal}
 use Rattle.counts.specs.Cells.{Cells, Outside, Stored}
 use Rattle.counts.specs.Ring.{openOf}
 

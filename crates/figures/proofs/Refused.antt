@@ -16,12 +16,12 @@ use Rattle.rules.specs.State.{S}
 use Rattle.rules.specs.Figure.{figure}
 use Rattle.rules.specs.Stretch.{stretch}
 use Rattle.rules.specs.Asked.{Asked, lengthOf, sizeOf, partOf, weightsOf, lowOf, highOf}
-use Rattle.rules.specs.Refusal.{firstOf, badKind, badSize, badStretch, aboveUnit, weightsOut, badWeights, ranged, inRange, shortTable, figuresRefusal}
+use Rattle.rules.specs.Refusal.{after, firstOf, badKind, badSize, badStretch, aboveUnit, weightsOut, badWeights, ranged, inRange, shortTable, figuresRefusal}
 use Rattle.rules.specs.Accepted.{Ratable}
 use Rattle.rules.proofs.Tests.{by-test}
 use Rattle.rules.proofs.Accepted.{first-same, first-after, in-stretch, figures-ratable, weights-accepted}
 use Rattle.rules.proofs.Unread.{accepted-unread, unread-range, unread-figure}
-use Rattle.refusals.specs.Shared.{ratedRefusal, after}
+use Rattle.refusals.specs.Shared.{ratedRefusal}
 use Rattle.figures.specs.Outcome.{ratedOf, range}
 
 -- the part as the code takes it

@@ -13,12 +13,12 @@ use Rattle.rules.specs.Figure.{rounded, mixed}
 use Rattle.memory.specs.declared.owed.Owed.{Owed}
 use Rattle.memory.specs.Owed.{owed, owedFailed, owedWorks, owing}
 use Rattle.places.specs.declared.Ends.{Ends}
-use Rattle.places.specs.Cells.{Both, Put, Kept, Place, cellAt, half, one, worthOf}
+use Rattle.places.specs.Cells.{Both, Put, Kept, Place, cellAt, half, one, valueOf}
 use Rattle.places.proofs.Cells.{both-at, both-as, row-none, row-other, row-more, workable-kept, kept-none, kept-trans}
-use Rattle.places.proofs.Values.{worth-within}
+use Rattle.places.proofs.Values.{valued-within}
 use Rattle.gaps.specs.declared.Known.{Known}
 use Rattle.gaps.specs.Gaps.{Asked, Owing, Settled, Holds, Passable, Begun, Bringable, Reachable, Reached, Stepping}
-use Rattle.gaps.proofs.Paying.{end-worth, free-before, cut}
+use Rattle.gaps.proofs.Paying.{end-valued, free-before, cut}
 
 -- a place of the first half written
 module _ {r : ℕ} {survival t t' : List ℕ} {at : ℕ} {e : Ends} (p : Put at e t t') (low : at < half) where
@@ -32,7 +32,7 @@ module _ {r x left : ℕ} {survival t : List ℕ} (y : Holds r x left survival t
   pub holds-place : (i : ℕ) → i ≤ length survival → Place i t
   holds-place i l = record { low = omega (arith, y .asked .list .size); room = y .asked .list .room }
 
-  pub holds-at : (i : ℕ) → i ≤ left → {e : Ends} → Both (λ up. cellAt t up i) e → Both (λ up. worthOf (owing r) survival (owed x 0) up i) e
+  pub holds-at : (i : ℕ) → i ≤ left → {e : Ends} → Both (λ up. cellAt t up i) e → Both (λ up. valueOf (owing r) survival (owed x 0) up i) e
   holds-at i l = both-as (λ up. rw (zero-add i) at (y .row .is up i (omega arith)))
 
   pub holds-less : {less : ℕ} → less ≤ left → Holds r x less survival t
@@ -43,7 +43,7 @@ module _ {r x left : ℕ} {survival t : List ℕ} (y : Holds r x left survival t
   cut-place i l = record { low = omega (arith, y .asked .list .size); room = y .asked .list .room }
 
   pub cut-is : (m : Owed) (i : ℕ) → m ≡ owed x (r - 1) → i < length survival → i < r - 1 → {e : Ends}
-      → Both (λ up. cond (owedWorks (owed (m .clean) (m .owed - i))) (cellAt t up (half + i)) 0) e → Both (λ up. worthOf (owing r) survival (owed x (r - 1)) up i) e
+      → Both (λ up. cond (owedWorks (owed (m .clean) (m .owed - i))) (cellAt t up (half + i)) 0) e → Both (λ up. valueOf (owing r) survival (owed x (r - 1)) up i) e
   cut-is m i is size short =
       both-as (λ up.
       rw is
@@ -70,11 +70,11 @@ module _ {r : ℕ} {m : Owed} {i : ℕ} {survival t : List ℕ} (y : Passable r 
       value = rw nothing-owed (holds-at (y .holds) (i - m .owed) (omega arith) b);
     }
 
-    pub paid-is : {v : Ends} → Both (λ up. worthOf (owing r) survival (owed (free .clean) (free .owed + (i - (i - m .owed)))) up i) v → Both (λ up. worthOf (owing r) survival m up i) v
-    paid-is = both-as (λ up. rw nothing-owed (ap (λ g. worthOf (owing r) survival (owed (m .clean) g) up i) (omega arith)))
+    pub paid-is : {v : Ends} → Both (λ up. valueOf (owing r) survival (owed (free .clean) (free .owed + (i - (i - m .owed)))) up i) v → Both (λ up. valueOf (owing r) survival m up i) v
+    paid-is = both-as (λ up. rw nothing-owed (ap (λ g. valueOf (owing r) survival (owed (m .clean) g) up i) (omega arith)))
 
 pub past-is : {r : ℕ} {m : Owed} {i : ℕ} {survival t : List ℕ} → Passable r m i survival t → i < m .owed → {e : Ends}
-    → Both (λ up. cond (owedWorks (owed (m .clean) (m .owed - i))) (cellAt t up (half + i)) 0) e → Both (λ up. worthOf (owing r) survival m up i) e
+    → Both (λ up. cond (owedWorks (owed (m .clean) (m .owed - i))) (cellAt t up (half + i)) 0) e → Both (λ up. valueOf (owing r) survival m up i) e
 past-is {m = m} {i = i} y l b =
     let is = ap (owed (m .clean)) (y .due) in
     rw (← is) at (cut-is (y .holds) m i is (y .size) (omega (arith, y .due)) b)
@@ -91,7 +91,7 @@ begun {r} {m} {survival} y end b p =
         asked = asked-put p (omega arith) (y .asked);
         settled = settled-put p (omega arith) (omega arith) (y .settled);
         most = omega arith;
-        row = row-more p refl (omega arith) (end-worth r survival (owed (m .clean) 0) (omega (arith, y .asked .two)) (rw (y .none) at end) b) row-none;
+        row = row-more p refl (omega arith) (end-valued r survival (owed (m .clean) 0) (omega (arith, y .asked .two)) (rw (y .none) at end) b) row-none;
       };
       kept = p .kept;
     }
@@ -100,10 +100,10 @@ begun {r} {m} {survival} y end b p =
 pub failed-is : (r : ℕ) (free : Owed) {m : Owed} → free .owed ≡ 0 → m ≡ owedFailed r free → m ≡ owed (free .clean) (r - 1)
 failed-is r free none is = is ∙ rw none
 
--- the memory at hand: what it is worth, and where the table holds it
+-- the memory at hand: its value, and where the table holds it
 pub record Stands (r x left : ℕ) (survival : List ℕ) (works : Ends) (t₀ t : List ℕ) : Type 0 where
   pub holds : Holds r x left survival t
-  pub value : Both (λ up. worthOf (owing r) survival (owed x 0) up left) works
+  pub value : Both (λ up. valueOf (owing r) survival (owed x 0) up left) works
   pub kept : Kept t₀ t
 
 pub stands-first : {r x left : ℕ} {survival t : List ℕ} → Holds r x left survival t → {works : Ends} → Both (λ up. cellAt t up left) works → Stands r x left survival works t t
@@ -111,13 +111,13 @@ stands-first y b = record { holds = y; value = holds-at y _ (omega arith) b; kep
 
 -- a component more
 module _ {r x left : ℕ} {survival : List ℕ} {works fails : Ends} {t₀ t : List ℕ} (y : Stands r x left survival works t₀ t) (l : left < length survival)
-    (f : Both (λ up. worthOf (owing r) survival (owed x (r - 1)) up left) fails) where
+    (f : Both (λ up. valueOf (owing r) survival (owed x (r - 1)) up left) fails) where
   pub stands-stepping : Stepping left survival works fails t
   stands-stepping = record {
     size = l;
     list = y .holds .asked .list;
-    works-small = worth-within (owing r) survival (y .holds .asked .list .units) left (owed x 0) (y .value);
-    fails-small = worth-within (owing r) survival (y .holds .asked .list .units) left (owed x (r - 1)) f;
+    works-small = valued-within (owing r) survival (y .holds .asked .list .units) left (owed x 0) (y .value);
+    fails-small = valued-within (owing r) survival (y .holds .asked .list .units) left (owed x (r - 1)) f;
   }
 
   pub stands-more : {t' : List ℕ} {e : Ends} → Both (λ up. rounded up S (mixed S (getD survival left 0) (one up works) (one up fails))) e → Put (left + 1) e t t'
@@ -137,7 +137,7 @@ module _ {r x left : ℕ} {survival : List ℕ} {works fails : Ends} {t₀ t : L
         kept = kept-trans (y .kept) (p .kept);
       }
     where
-      stepped : Both (λ up. worthOf (owing r) survival (owed x 0) up (left + 1)) e
+      stepped : Both (λ up. valueOf (owing r) survival (owed x 0) up (left + 1)) e
       stepped = both-as (λ up. rw (both-at (y .value) up, both-at f up) (sym (free-before r survival up x left (omega (arith, y .holds .asked .two))))) b
 
 -- what was reached is gone on from

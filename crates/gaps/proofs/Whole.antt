@@ -17,9 +17,9 @@ use Rattle.memory.specs.Open.{cleanOpen}
 use Rattle.memory.proofs.Owing.{owed-row6, owed-row7}
 use Rattle.memory.proofs.Opening.{clean-start, clean-works, clean-fails}
 use Rattle.places.specs.declared.Ends.{Ends}
-use Rattle.places.specs.Cells.{Both, Kept, Steady, cellAt, one, worthOf}
+use Rattle.places.specs.Cells.{Both, Kept, Steady, cellAt, one, valueOf}
 use Rattle.places.proofs.Cells.{both-as, workable-kept, kept-none, kept-trans}
-use Rattle.places.proofs.Values.{Chance, worth-suc, step-steady, step-mixed}
+use Rattle.places.proofs.Values.{Chance, valued-suc, step-steady, step-mixed}
 use Rattle.gaps.specs.declared.Known.{Known}
 use Rattle.gaps.specs.Gaps.{Asked, Settled, Begun, Reached, Passable, Bringable}
 use Rattle.gaps.proofs.Reaching.{holds-at}
@@ -40,9 +40,9 @@ module _ (r : ℕ) (survival : List ℕ) where
   abbrev n : ℕ
   n = length survival
 
-  -- what the open clean ones are worth with i components left
+  -- the value of the open clean ones with i components left
   abbrev opened : (up : Bool) (i : ℕ) → ℕ
-  opened up i = worthOf (machineOf (row7 r)) survival (cleanOpen r n i) up i
+  opened up i = valueOf (machineOf (row7 r)) survival (cleanOpen r n i) up i
 
   -- the debt that a failed component closes them with
   abbrev closed : (i : ℕ) → Owed
@@ -52,10 +52,10 @@ module _ (r : ℕ) (survival : List ℕ) where
   unfolding value ended end7 cleanOpen
   open-first up = refl
 
-  open-more : 2 ≤ r → (up : Bool) (i : ℕ) → i < n → rounded up S (mixed S (getD survival i 0) (opened up i) (worthOf (owing r) survival (closed i) up i)) ≡ opened up (i + 1)
+  open-more : 2 ≤ r → (up : Bool) (i : ℕ) → i < n → rounded up S (mixed S (getD survival i 0) (opened up i) (valueOf (owing r) survival (closed i) up i)) ≡ opened up (i + 1)
   open-more two up i left =
       rw (add-one i)
-      (sym (worth-suc (machineOf (row7 r)) survival i (cleanOpen r n (suc i)) up
+      (sym (valued-suc (machineOf (row7 r)) survival i (cleanOpen r n (suc i)) up
       ∙ rw (
         clean-works r n i left,
         clean-fails r n i left,
@@ -66,7 +66,7 @@ module _ (r : ℕ) (survival : List ℕ) where
   pub closed-is : (i : ℕ) {c : Clean} {m : Owed} → c ≡ cleanAfter r (n - i - 1) → m ≡ cleanFailed r c → m ≡ closed i
   closed-is i after failed = let e : n - i - 1 ≡ n - suc i = omega arith in failed ∙ rw (after, e)
 
--- the ring on the way: the clean ones that are known, and what the open ones are worth
+-- the ring on the way: the clean ones that are known, and the value of the open ones
 pub record Closing (r : ℕ) (survival t₀ : List ℕ) (i : ℕ) (s : Known) (ends : Ends) (t : List ℕ) : Type 0 where
   pub asked : Asked r survival t₀
   pub most : i ≤ length survival
@@ -91,7 +91,7 @@ closing-first {r} {survival} z is b = record {
 pub closing-last : {r : ℕ} {survival t₀ t : List ℕ} {i : ℕ} {s : Known} {e : Ends} → length survival ≤ i → Closing r survival t₀ i s e t → Both (λ up. figureOf (row7 r) up S survival) e
 closing-last {r} {survival} {i = i} l v =
     let e : i ≡ length survival = omega (arith, v .most) in
-    both-as (λ up. ap (λ m. worthOf (machineOf (row7 r)) survival m up (length survival)) (clean-start r (length survival))) (rw e at (v .value))
+    both-as (λ up. ap (λ m. valueOf (machineOf (row7 r)) survival m up (length survival)) (clean-start r (length survival))) (rw e at (v .value))
 
 module _ {r : ℕ} {survival t₀ t : List ℕ} {i : ℕ} {s : Known} {ends : Ends} (v : Closing r survival t₀ i s ends t) (l : i < length survival) {m : Owed} (is : m ≡ closed r survival i) where
   pub closing-bringable : Bringable r s m i survival t
@@ -107,7 +107,7 @@ module _ {r : ℕ} {survival t₀ t : List ℕ} {i : ℕ} {s : Known} {ends : En
     pub closing-passable : Passable r m i survival t'
     closing-passable = record { due = ap (λ f. f .owed) is; size = l; holds = z .holds }
 
-    module _ (p q : ℕ) (chance : Chance survival i p q) {fails : Ends} (f : Both (λ up. worthOf (owing r) survival m up i) fails) where
+    module _ (p q : ℕ) (chance : Chance survival i p q) {fails : Ends} (f : Both (λ up. valueOf (owing r) survival m up i) fails) where
       pub closing-steady : Steady p q ends fails
       closing-steady = step-steady (machineOf (row7 r)) (owing r) survival (v .asked .list .units) i p q chance _ _ (v .value) f
 

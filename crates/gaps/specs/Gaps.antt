@@ -7,7 +7,7 @@ use Rattle.rules.specs.State.{S}
 use Rattle.memory.specs.declared.owed.Owed.{Owed}
 use Rattle.memory.specs.Owed.{owed, owedWorked, owing}
 use Rattle.places.specs.declared.Ends.{Ends}
-use Rattle.places.specs.Cells.{Both, Shelf, Kept, Within, Workable, half, worthOf}
+use Rattle.places.specs.Cells.{Both, Shelf, Kept, Within, Workable, half, valueOf}
 use Rattle.gaps.specs.declared.Known.{Known}
 
 -- a rule in range
@@ -15,13 +15,13 @@ pub record Asked (r : ℕ) (survival t : List ℕ) : Type 0 where
   pub two : 2 ≤ r
   pub list : Workable survival t
 
--- a memory that owes, and what it is worth after the next component works
+-- a memory that owes, and its value after the next component works
 pub record Due (r : ℕ) (m : Owed) (i : ℕ) (survival : List ℕ) (after : Ends) : Type 0 where
   pub some : 1 ≤ m .owed
   pub alive : m .owed < r
   pub size : i < length survival
   pub units : (k : ℕ) → getD survival k 0 ≤ S
-  pub value : Both (λ up. worthOf (owing r) survival (owedWorked m) up i) after
+  pub value : Both (λ up. valueOf (owing r) survival (owedWorked m) up i) after
 
 -- components that must all work, before the memory m
 pub record Owing (r : ℕ) (m : Owed) (from upto : ℕ) (survival : List ℕ) (end : Ends) : Type 0 where
@@ -29,18 +29,18 @@ pub record Owing (r : ℕ) (m : Owed) (from upto : ℕ) (survival : List ℕ) (e
   pub size : upto ≤ length survival
   pub alive : m .owed + (upto - from) < r
   pub units : (k : ℕ) → getD survival k 0 ≤ S
-  pub value : Both (λ up. worthOf (owing r) survival m up from) end
+  pub value : Both (λ up. valueOf (owing r) survival m up from) end
 
 -- memories that owe as many as are left, as far as a debt can be cut short
 pub record Settled (r : ℕ) (survival t : List ℕ) : Type 0 where
-  pub row : Shelf (λ up i. worthOf (owing r) survival (owed 0 i) up i) t half (min (length survival) (r - 1))
+  pub row : Shelf (λ up i. valueOf (owing r) survival (owed 0 i) up i) t half (min (length survival) (r - 1))
 
 -- the memory that owes nothing past x clean ones, known with up to `left` components left
 pub record Holds (r x left : ℕ) (survival t : List ℕ) : Type 0 where
   pub asked : Asked r survival t
   pub settled : Settled r survival t
   pub most : left ≤ length survival
-  pub row : Shelf (worthOf (owing r) survival (owed x 0)) t 0 (suc left)
+  pub row : Shelf (valueOf (owing r) survival (owed x 0)) t 0 (suc left)
 
 -- one that has just met a failed component with i left, and what it comes to known
 pub record Passable (r : ℕ) (m : Owed) (i : ℕ) (survival t : List ℕ) : Type 0 where

@@ -15,7 +15,7 @@ pub fn begin(r: usize, free: Owed, survival: &[u32], table: &mut [u64]) -> Known
     requires { ⌜ Begun r free (now survival) (now table) ⌝ }
     ensures { λ s. ⌜ Reached r (free .clean) 0 (now (survival .entry)) (now (table .entry)) (now (table .exit)) s ⌝ }
 {
-    places::write(table, 0, places::worth(free.works()));
+    places::write(table, 0, places::end_value(free.works()));
     Known { free, left: 0 }
 }
 

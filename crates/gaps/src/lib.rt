@@ -1,7 +1,7 @@
 // Kinds 6 and 7: low and high where any r components in a row may hold one failed one at most.
 //
 // A failed component owes r - 1 working ones, and paid off the memory owes nothing again. So past one number of clean ones only the memory that owes
-// nothing is kept: what it is worth with i components left stands at place i. Where the components end before a debt is paid, what stands in the
+// nothing is kept: its value with i components left stands at place i. Where the components end before a debt is paid, what stands in the
 // second half of the places serves every number of clean ones. The table is all that a ring uses: one number of clean ones at a time.
 mod free; // free.rt: the memory that owes nothing, known for more and more components left
 mod owed; // owed.rt: memories that owe
@@ -43,7 +43,7 @@ pub fn ring(r: usize, survival: &[u32], table: &mut [u64]) -> Ends
     let n = survival.len();
     owed::settle(r, survival, table);
     let mut known = free::begin(r, Owed::start(r), survival, table);
-    let mut ends = places::worth(Clean::after(n, r).works());
+    let mut ends = places::end_value(Clean::after(n, r).works());
     let mut i: usize = 0;
     while i < n {
         let m = Clean::after(n - i - 1, r).failed(r);

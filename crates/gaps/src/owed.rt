@@ -2,25 +2,25 @@
 ghost use mathlib.Core.Bool.{cond};
 ghost use Prim.Native.Nat.{_+_, _-_, _≤_};
 ghost use Rattle.memory.specs.Owed.{owed, owing, owedWorks};
-ghost use Rattle.places.specs.Cells.{Both, Kept, Place, cellAt, half, worthOf};
+ghost use Rattle.places.specs.Cells.{Both, Kept, Place, cellAt, half, valueOf};
 ghost use Rattle.gaps.specs.Gaps.{Asked, Due, Owing, Settled, Passable};
 use memory::owed::Owed;
 use places::Ends;
 use places::HALF;
 
-// What a memory that owes is worth with one component more, out of what it is worth after the component works: where it fails, it is dead.
+// The value of a memory that owes with one component more, out of its value after the component works: where it fails, it is dead.
 fn must_work(r: usize, m: Owed, i: usize, survival: &[u32], after: Ends) -> Ends
     requires { ⌜ Due r m i (now survival) after ⌝ }
-    ensures { λ e. ⌜ Both (λ up. worthOf (owing r) (now (survival .entry)) m up (i + 1)) e ⌝ }
+    ensures { λ e. ⌜ Both (λ up. valueOf (owing r) (now (survival .entry)) m up (i + 1)) e ⌝ }
 {
     let p = places::chance(survival, i);
-    places::step(p, p.failure(), after, places::worth(false))
+    places::step(p, p.failure(), after, places::end_value(false))
 }
 
 // Back over components that must all work, from the memory m with `from` left.
 fn back(r: usize, m: Owed, from: usize, upto: usize, survival: &[u32], end: Ends) -> Ends
     requires { ⌜ Owing r m from upto (now survival) end ⌝ }
-    ensures { λ e. ⌜ Both (λ up. worthOf (owing r) (now (survival .entry)) (owed (m .clean) (m .owed + (upto - from))) up upto) e ⌝ }
+    ensures { λ e. ⌜ Both (λ up. valueOf (owing r) (now (survival .entry)) (owed (m .clean) (m .owed + (upto - from))) up upto) e ⌝ }
 {
     let mut due = m;
     let mut ends = end;
@@ -33,7 +33,7 @@ fn back(r: usize, m: Owed, from: usize, upto: usize, survival: &[u32], end: Ends
     ends
 }
 
-// What a memory is worth that owes as many as are left, from place HALF on.
+// The value of a memory that owes as many as are left, from place HALF on.
 pub fn settle(r: usize, survival: &[u32], table: &mut [u64])
     requires { ⌜ Asked r (now survival) (now table) ⌝ }
     ensures settled { λ e. ⌜ Settled r (now (survival .entry)) (now (table .exit)) ⌝ }
@@ -41,7 +41,7 @@ pub fn settle(r: usize, survival: &[u32], table: &mut [u64])
 {
     let last = places::lesser(survival.len(), r - 1);
     let mut due = Owed { clean: 0, owed: 0 };
-    let mut ends = places::worth(due.works());
+    let mut ends = places::end_value(due.works());
     let mut i: usize = 0;
     while i < last {
         places::write(table, HALF + i, ends);
@@ -60,23 +60,23 @@ pub fn cut_short(m: Owed, i: usize, table: &[u64]) -> Ends
     if last.works() {
         return places::read(table, HALF + i);
     }
-    places::worth(false)
+    places::end_value(false)
 }
 
 // A debt that is paid with i components left.
 pub fn paid(r: usize, m: Owed, i: usize, survival: &[u32], table: &[u64]) -> Ends
     requires { ⌜ Passable r m i (now survival) (now table) × (m .owed ≤ i) ⌝ }
-    ensures { λ e. ⌜ Both (λ up. worthOf (owing r) (now (survival .entry)) m up i) e ⌝ }
+    ensures { λ e. ⌜ Both (λ up. valueOf (owing r) (now (survival .entry)) m up i) e ⌝ }
 {
     let from = i - m.owed;
     let free = m.worked_many(m.owed);
     back(r, free, from, i, survival, places::read(table, from))
 }
 
-// What a memory is worth with i components left that has just met a failed one.
+// The value with i components left of a memory that has just met a failed one.
 pub fn past(r: usize, m: Owed, i: usize, survival: &[u32], table: &[u64]) -> Ends
     requires { ⌜ Passable r m i (now survival) (now table) ⌝ }
-    ensures { λ e. ⌜ Both (λ up. worthOf (owing r) (now (survival .entry)) m up i) e ⌝ }
+    ensures { λ e. ⌜ Both (λ up. valueOf (owing r) (now (survival .entry)) m up i) e ⌝ }
 {
     if i < m.owed {
         return cut_short(m, i, table);

@@ -1,5 +1,5 @@
 -- Rows 4 and 5: the program's run reads as document 01's pair (t, s), and as the line's number s past a lead of none; a run of k is dead. What a run
--- becomes, and what a memory with no run is worth where a run comes to k. Assumes nothing.
+-- becomes, and the value of a memory with no run where a run comes to k. Assumes nothing.
 use mathlib.Core.Path.{_≡_, refl}
 use mathlib.Core.Bool.{Bool, true, false, cond}
 use Prim.Native.Nat.{ℕ, suc, _<_}

@@ -1,4 +1,4 @@
--- What memories are worth, as places hold it: within the unit, 0 where dead, and a component more by one rounded step of both ends. Assumes nothing.
+-- The values of memories, as places hold them: within the unit, 0 where dead, and a component more by one rounded step of both ends. Assumes nothing.
 use mathlib.Core.Path.{_≡_, refl}
 use mathlib.Core.Bool.{Bool, true, false}
 use mathlib.Core.List.{List}
@@ -12,19 +12,19 @@ use Rattle.rules.proofs.Conditions.{below-unit}
 use Rattle.rules.proofs.Dead.{Dead, dead-value}
 use Rattle.rules.proofs.Enclosure.{value-le}
 use Rattle.places.specs.declared.Ends.{Ends}
-use Rattle.places.specs.Cells.{one, Both, Within, Steady, worthOf}
+use Rattle.places.specs.Cells.{one, Both, Within, Steady, valueOf}
 use Rattle.places.proofs.Cells.{both-at, both-as}
 
 module _ {M : Type 0} (K : Machine M) (survival : List ℕ) where
-  pub worth-dead : {D : M → Type 0} → Dead K D → (i : ℕ) (m : M) → D m → (up : Bool) → worthOf K survival m up i ≡ 0
-  worth-dead gone i m d up = dead-value gone up S (numberOf survival) (omega arith) i m d
+  pub valued-dead : {D : M → Type 0} → Dead K D → (i : ℕ) (m : M) → D m → (up : Bool) → valueOf K survival m up i ≡ 0
+  valued-dead gone i m d up = dead-value gone up S (numberOf survival) (omega arith) i m d
 
   module _ (units : (i : ℕ) → getD survival i 0 ≤ S) where
-    pub worth-le : (i : ℕ) (m : M) (up : Bool) → worthOf K survival m up i ≤ S
-    worth-le i m up = value-le K S (numberOf survival) (omega arith) up i (λ k l. below-unit survival units k) m
+    pub valued-le : (i : ℕ) (m : M) (up : Bool) → valueOf K survival m up i ≤ S
+    valued-le i m up = value-le K S (numberOf survival) (omega arith) up i (λ k l. below-unit survival units k) m
 
-    pub worth-within : (i : ℕ) (m : M) {e : Ends} → Both (λ up. worthOf K survival m up i) e → Within e
-    worth-within i m b = record { low = rw (b .low) (worth-le i m false); high = rw (b .high) (worth-le i m true) }
+    pub valued-within : (i : ℕ) (m : M) {e : Ends} → Both (λ up. valueOf K survival m up i) e → Within e
+    valued-within i m b = record { low = rw (b .low) (valued-le i m false); high = rw (b .high) (valued-le i m true) }
 
 -- a survival number as it was read, with its failure number
 pub record Chance (survival : List ℕ) (i p q : ℕ) : Type 0 where
@@ -33,22 +33,22 @@ pub record Chance (survival : List ℕ) (i p q : ℕ) : Type 0 where
 
 -- one component more: what follows where it works, and where it fails
 module _ {M N : Type 0} (K : Machine M) (L : Machine N) (survival : List ℕ) (units : (i : ℕ) → getD survival i 0 ≤ S) where
-  module _ (i p q : ℕ) (is : Chance survival i p q) (m : M) (m' : N) {a b : Ends} (works : Both (λ up. worthOf K survival m up i) a) (fails : Both (λ up. worthOf L survival m' up i) b) where
+  module _ (i p q : ℕ) (is : Chance survival i p q) (m : M) (m' : N) {a b : Ends} (works : Both (λ up. valueOf K survival m up i) a) (fails : Both (λ up. valueOf L survival m' up i) b) where
     pub step-steady : Steady p q a b
     step-steady = record {
       survival = rw (is .read) (units i);
       rest = is .rest;
-      left = worth-within K survival units i m works;
-      right = worth-within L survival units i m' fails;
+      left = valued-within K survival units i m works;
+      right = valued-within L survival units i m' fails;
     }
 
     pub step-mixed : {r : Ends} → Both (λ up. rounded up S (mixed S p (one up a) (one up b))) r
-        → Both (λ up. rounded up S (mixed S (getD survival i 0) (worthOf K survival m up i) (worthOf L survival m' up i))) r
+        → Both (λ up. rounded up S (mixed S (getD survival i 0) (valueOf K survival m up i) (valueOf L survival m' up i))) r
     step-mixed = both-as (λ up. rw (is .read, both-at works up, both-at fails up))
 
 -- the definition's own step, of a memory whose next ones are known
 module _ {M : Type 0} (K : Machine M) (survival : List ℕ) (i : ℕ) (m : M) where
-  pub worth-suc : (up : Bool) → worthOf K survival m up (suc i)
-      ≡ rounded up S (mixed S (getD survival i 0) (worthOf K survival (K .worked (suc i) m) up i) (worthOf K survival (K .failed (suc i) m) up i))
+  pub valued-suc : (up : Bool) → valueOf K survival m up (suc i)
+      ≡ rounded up S (mixed S (getD survival i 0) (valueOf K survival (K .worked (suc i) m) up i) (valueOf K survival (K .failed (suc i) m) up i))
   unfolding value numberOf
-  worth-suc up = refl
+  valued-suc up = refl

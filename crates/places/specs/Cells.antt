@@ -61,9 +61,9 @@ pub record Written (f : Bool → ℕ → ℕ) (n off : ℕ) (t₀ t : List ℕ) 
   pub other : (up : Bool) (k : ℕ) → k < far → (k < off) ⊎ (off + n ≤ k) → cellAt t up k ≡ cellAt t₀ up k
   pub kept : Kept t₀ t
 
--- what a memory is worth with i components left
-abbrev pub worthOf : {M : Type 0} → Machine M → (survival : List ℕ) → M → Bool → ℕ → ℕ
-worthOf K survival m up i = value K up S (numberOf survival) i m
+-- the value of a memory with i components left
+abbrev pub valueOf : {M : Type 0} → Machine M → (survival : List ℕ) → M → Bool → ℕ → ℕ
+valueOf K survival m up i = value K up S (numberOf survival) i m
 
 -- both ends of a value within the unit
 pub record Within (e : Ends) : Type 0 where

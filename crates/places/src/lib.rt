@@ -79,8 +79,8 @@ pub fn chance(survival: &[u32], i: usize) -> Survival
     Survival(wide(survival[i]))
 }
 
-// What a memory is worth with no components left; a dead one at any time.
-pub fn worth(works: bool) -> Ends
+// The value of a memory with no components left; of a dead one at any time.
+pub fn end_value(works: bool) -> Ends
     ensures { λ r. ⌜ Both (λ up. cond works S 0) r ⌝ }
 {
     if works {

@@ -11,22 +11,13 @@ use lib.ListN.{length}
 use Rattle.rules.specs.declared.Rule.{Rule}
 use Rattle.rules.specs.Below.{total}
 use Rattle.rules.specs.State.{ruleOf}
-use Rattle.rules.specs.Refusal.{rangeOne, rangeTwo, badKind, badSize, badWeights, ranged, inRange, firstOf, highOne, shortTable, shortRoom, verdictRefusal, countRefusal}
+use Rattle.rules.specs.Refusal.{after, rangeOne, rangeTwo, badKind, badSize, badWeights, ranged, inRange, firstOf, highOne, shortTable, shortRoom, verdictRefusal, countRefusal}
 use Rattle.rules.specs.Accepted.{Accepted}
 use Rattle.rules.proofs.Seven.{range-kind}
 use Rattle.rules.proofs.Accepted.{none-first, rule-accepted}
-use Rattle.refusals.specs.Shared.{ratedRefusal, ruleRefusal, after}
+use Rattle.refusals.specs.Shared.{ratedRefusal, ruleRefusal}
 
 -- ---- one refusal after another
-
-pub after-none : (r next : ℕ) → r ≡ 0 → after r next ≡ next
-unfolding after
-after-none r next e = rw e
-
-pub after-some : (r next : ℕ) → (r ≡ 0 → ⊥) → after r next ≡ r
-unfolding after
-after-some zero next h = absurd (h refl)
-after-some (suc r) next h = refl
 
 rule-first : (a b c d : Bool) (rest : List (ℕ × Bool))
     → firstOf ((1, a) ∷ (2, b) ∷ (5, c) ∷ (6, d) ∷ rest)

@@ -1,7 +1,7 @@
 -- Refusals 5 and 6 over the total weight as a number, and the refusals 1, 2, 5 and 6 that the verdict and the count table begin with.
 use mathlib.Core.Bool.{not}
 use mathlib.Core.List.{List, [], _∷_}
-use Prim.Native.Nat.{ℕ, zero, suc, _^_, _-_}
+use Prim.Native.Nat.{ℕ, _^_, _-_}
 use Rattle.rules.specs.declared.Rule.{Rule}
 use Rattle.rules.specs.Refusal.{badKind, badSize, weightsOut, badWeights, ranged, inRange, firstOf}
 
@@ -23,8 +23,3 @@ ruleRefusal rule n weights =
     ∷ (5, badWeights rule n weights weights)
     ∷ (6, not (inRange rule n weights))
     ∷ [])
-
--- a refusal where there is one, else the next
-unfoldable pub after : (refusal next : ℕ) → ℕ
-after zero next = next
-after (suc r) next = suc r

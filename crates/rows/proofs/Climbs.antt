@@ -16,9 +16,9 @@ use Rattle.memory.specs.Sum.{sum}
 use Rattle.places.specs.declared.Ends.{Ends}
 use Rattle.places.specs.Cells.{half, one, Both, cellAt, Place, Shelf, Written, Steady}
 use Rattle.places.proofs.Cells.{both-as, room-kept}
-use Rattle.places.proofs.Values.{Chance, worth-le, step-steady, step-mixed, worth-suc}
+use Rattle.places.proofs.Values.{Chance, valued-le, step-steady, step-mixed, valued-suc}
 use Rattle.rows.specs.Kinds.{carryOf, summed}
-use Rattle.rows.specs.Level.{Side, sumsWorth}
+use Rattle.rows.specs.Level.{Side, sumsValue}
 
 pub side-near : {from : ℕ} → Side from → from ≤ half
 side-near (inl e) = omega arith
@@ -36,12 +36,12 @@ pub record Climb (rule : Rule) (survival weights : List ℕ) (left from : ℕ) (
   pub chance : Chance survival left p q
   pub is : carry ≡ carryOf rule weights (suc left)
   pub narrow : width + carry ≤ half
-  pub row : Shelf (sumsWorth rule survival weights left) t from (width + carry)
+  pub row : Shelf (sumsValue rule survival weights left) t from (width + carry)
 
 module _ {rule : Rule} {survival weights t₀ t : List ℕ} {left from p q carry width m : ℕ}
     (y : Climb rule survival weights left from t₀ p q carry width) (l : m < width)
-    (w : Written (sumsWorth rule survival weights (suc left)) m (half - from) t₀ t) where
-  stands : (k : ℕ) → k < width + carry → (up : Bool) → cellAt t up (from + k) ≡ sumsWorth rule survival weights left up k
+    (w : Written (sumsValue rule survival weights (suc left)) m (half - from) t₀ t) where
+  stands : (k : ℕ) → k < width + carry → (up : Bool) → cellAt t up (from + k) ≡ sumsValue rule survival weights left up k
   stands k h up =
       let near = side-near (y .side) in
       let narrow = y .narrow in
@@ -50,7 +50,7 @@ module _ {rule : Rule} {survival weights t₀ t : List ℕ} {left from p q carry
   pub read-place : (k : ℕ) → k < width + carry → Place (from + k) t × ((up : Bool) → cellAt t up (from + k) ≤ S)
   read-place k h = (
     record { low = omega (arith, side-near (y .side), y .narrow); room = room-kept (w .kept) (y .list .room) },
-    λ up. rw (stands k h up) (worth-le (summed rule weights) survival (y .list .units) left (sum k) up),
+    λ up. rw (stands k h up) (valued-le (summed rule weights) survival (y .list .units) left (sum k) up),
   )
 
   pub write-place : Place (half - from + m) t
@@ -60,16 +60,16 @@ module _ {rule : Rule} {survival weights t₀ t : List ℕ} {left from p q carry
     abbrev K : Machine Sum
     K = summed rule weights
 
-    works-is : Both (λ up. sumsWorth rule survival weights left up m) a
+    works-is : Both (λ up. sumsValue rule survival weights left up m) a
     works-is = both-as (stands m (omega arith)) works
 
-    fails-is : Both (λ up. sumsWorth rule survival weights left up (m + carry)) b
+    fails-is : Both (λ up. sumsValue rule survival weights left up (m + carry)) b
     fails-is = both-as (stands (m + carry) (omega arith)) fails
 
     pub climb-steady : Steady p q a b
     climb-steady = step-steady K K survival (y .list .units) left p q (y .chance) (sum m) (sum (m + carry)) works-is fails-is
 
-    pub climb-made : {r : Ends} → Both (λ up. rounded up S (mixed S p (one up a) (one up b))) r → Both (λ up. sumsWorth rule survival weights (suc left) up m) r
+    pub climb-made : {r : Ends} → Both (λ up. rounded up S (mixed S p (one up a) (one up b))) r → Both (λ up. sumsValue rule survival weights (suc left) up m) r
     climb-made b =
-        both-as (λ up. rw (y .is) (sym (worth-suc K survival left (sum m) up)))
+        both-as (λ up. rw (y .is) (sym (valued-suc K survival left (sum m) up)))
         (step-mixed K K survival (y .list .units) left p q (y .chance) (sum m) (sum (m + carry)) works-is fails-is b)

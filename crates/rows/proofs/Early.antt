@@ -22,9 +22,9 @@ use Rattle.rules.proofs.Tests.{by-test, by-both}
 use Rattle.memory.proofs.Sums.{sum-row1, sum-row3, sum-dead}
 use Rattle.memory.specs.Sum.{sum}
 use Rattle.places.specs.Cells.{half}
-use Rattle.places.proofs.Values.{worth-dead}
+use Rattle.places.proofs.Values.{valued-dead}
 use Rattle.rows.specs.Kinds.{carryOf, loadOf, limitOf, gapOf, endOf}
-use Rattle.rows.specs.Level.{sumsWorth}
+use Rattle.rows.specs.Level.{sumsValue}
 
 -- weights
 number-le : (ws : List ℕ) (i : ℕ) → numberOf ws i ≤ total ws
@@ -64,8 +64,8 @@ load-upto rule weights i n l =
 pub record Early (rule : Rule) (survival weights : List ℕ) : Type 0 where
   pub some : 0 < limitOf rule
   pub most : limitOf rule + gapOf rule ≤ half
-  pub gone : (up : Bool) (i k : ℕ) → limitOf rule ≤ k → k ≤ loadOf rule weights (length survival) → sumsWorth rule survival weights i up k ≡ 0
-  pub whole : (up : Bool) → sumsWorth rule survival weights (length survival) up 0 ≡ figure up S rule survival weights
+  pub gone : (up : Bool) (i k : ℕ) → limitOf rule ≤ k → k ≤ loadOf rule weights (length survival) → sumsValue rule survival weights i up k ≡ 0
+  pub whole : (up : Bool) → sumsValue rule survival weights (length survival) up 0 ≡ figure up S rule survival weights
 
 module _ (survival weights : List ℕ) (first second : ℕ) where
   abbrev n : ℕ
@@ -84,13 +84,13 @@ module _ (survival weights : List ℕ) (first second : ℕ) where
       (λ early ok. let r = range1 ok refl in record {
         some = r .low;
         most = omega (arith, r .high, ok .size-high);
-        gone = λ up i k l h. worth-dead _ survival (sum-dead first (λ i. 1)) i (sum k) l up;
+        gone = λ up i k l h. valued-dead _ survival (sum-dead first (λ i. 1)) i (sum k) l up;
         whole = λ up. sum-row1 first (λ i. 1) n (r .low) .values up S (numberOf survival);
       })
       (λ early ok. let r = range2 ok refl in record {
         some = r .low;
         most = omega (arith, r .high, ok .weights-total refl);
-        gone = λ up i k l h. worth-dead _ survival (sum-dead first (numberOf weights)) i (sum k) l up;
+        gone = λ up i k l h. valued-dead _ survival (sum-dead first (numberOf weights)) i (sum k) l up;
         whole = λ up. sum-row1 first (numberOf weights) n (r .low) .values up S (numberOf survival);
       })
       (λ early ok. record {

@@ -19,10 +19,10 @@ use Rattle.memory.specs.Sum.{sum}
 use Rattle.places.specs.declared.Ends.{Ends}
 use Rattle.places.specs.Cells.{half, Both, cellAt, Kept, Shelf, Written}
 use Rattle.places.proofs.Cells.{both-as, room-kept, row-same, row-as}
-use Rattle.places.proofs.Values.{Chance, worth-suc}
+use Rattle.places.proofs.Values.{Chance, valued-suc}
 use Rattle.rows.specs.declared.Level.{Level}
 use Rattle.rows.specs.Kinds.{carryOf, loadOf, limitOf, gapOf, summed}
-use Rattle.rows.specs.Level.{sumsWorth, endsWorth, Side, Levelled}
+use Rattle.rows.specs.Level.{sumsValue, endsValue, Side, Levelled}
 use Rattle.rows.proofs.Early.{carry-le, load-more, load-upto, Early, early-is}
 use Rattle.rows.proofs.Climbs.{side-near, Climb}
 
@@ -45,7 +45,7 @@ module _ {rule : Rule} {survival weights : List ℕ} {s : Level} {t : List ℕ} 
   early = early-is (y .list) (y .early)
 
   -- every place that can be read holds the value of its sum
-  known : (up : Bool) (k : ℕ) → k < s .reach → k < limitOf rule + gapOf rule → cellAt t up (s .from + k) ≡ sumsWorth rule survival weights (s .left) up k
+  known : (up : Bool) (k : ℕ) → k < s .reach → k < limitOf rule + gapOf rule → cellAt t up (s .from + k) ≡ sumsValue rule survival weights (s .left) up k
   known up k near l =
       elim (decLt k (limitOf rule)) [
         | yes a ↦ y .row .is up k (omega arith)
@@ -63,7 +63,7 @@ module _ {rule : Rule} {survival weights : List ℕ} {s : Level} {t : List ℕ} 
           let d : s .from ≡ s .from + 0 = omega arith in
           ap (λ x. cellAt t up x) d
           ∙ known up 0 (omega (arith, y .reach, ap (λ i. loadOf rule weights i) all)) (omega (arith, early .some))
-          ∙ ap (λ i. sumsWorth rule survival weights i up 0) all
+          ∙ ap (λ i. sumsValue rule survival weights i up 0) all
           ∙ early .whole up
 
   module _ (more : s .left < length survival) where
@@ -89,7 +89,7 @@ module _ {rule : Rule} {survival weights : List ℕ} {s : Level} {t : List ℕ} 
           row = record { is = λ up k l. known up k (omega (arith, spare)) (omega arith) };
         }
 
-    pub level-up : {t' : List ℕ} → Written (sumsWorth rule survival weights (suc (s .left))) width (half - s .from) t t'
+    pub level-up : {t' : List ℕ} → Written (sumsValue rule survival weights (suc (s .left))) width (half - s .from) t t'
         → Levelled rule survival weights (record { reach = s .reach - heavy; left = suc (s .left); from = half - s .from }) t'
     level-up w =
         let most = early .most in
@@ -116,13 +116,13 @@ module _ {rule : Rule} {survival weights : List ℕ} {s : Level} {t : List ℕ} 
       behind = y .behind;
     }
       where
-        light : (up : Bool) (k : ℕ) → sumsWorth rule survival weights (suc (s .left)) up k ≡ sumsWorth rule survival weights (s .left) up k
+        light : (up : Bool) (k : ℕ) → sumsValue rule survival weights (suc (s .left)) up k ≡ sumsValue rule survival weights (s .left) up k
         light up k =
-            worth-suc (summed rule weights) survival (s .left) (sum k) up ∙ rw (none, add-zero) (unchanged up S _ _ (omega arith) (y .list .units (s .left)))
+            valued-suc (summed rule weights) survival (s .left) (sum k) up ∙ rw (none, add-zero) (unchanged up S _ _ (omega arith) (y .list .units (s .left)))
 
 -- with no components left
 module _ {rule : Rule} {survival weights t₀ t₁ t₂ t₃ : List ℕ} (y : Ratable rule survival weights t₀) (small : rule .kind ≤ 3)
-    (a : Written (endsWorth rule) (limitOf rule) 0 t₀ t₁) (b : Written (λ up k. 0) (gapOf rule) (limitOf rule) t₁ t₂)
+    (a : Written (endsValue rule) (limitOf rule) 0 t₀ t₁) (b : Written (λ up k. 0) (gapOf rule) (limitOf rule) t₁ t₂)
     (c : Written (λ up k. 0) (gapOf rule) (half + limitOf rule) t₂ t₃) where
   abbrev most : limitOf rule + gapOf rule ≤ half
   most = early-is y small .most

@@ -10,17 +10,17 @@ use Rattle.rules.specs.State.{S}
 use Rattle.rules.specs.Accepted.{Ratable}
 use Rattle.rules.specs.Refusal.{cells}
 use Rattle.memory.specs.Sum.{sum}
-use Rattle.places.specs.Cells.{far, half, Kept, Shelf, worthOf}
+use Rattle.places.specs.Cells.{far, half, Kept, Shelf, valueOf}
 use Rattle.rows.specs.declared.Level.{Level}
 use Rattle.rows.specs.Kinds.{limitOf, gapOf, loadOf, endOf, summed}
 
 -- the value of each sum with i components left
-abbrev pub sumsWorth : Rule → (survival weights : List ℕ) (i : ℕ) (up : Bool) (k : ℕ) → ℕ
-sumsWorth rule survival weights i up k = worthOf (summed rule weights) survival (sum k) up i
+abbrev pub sumsValue : Rule → (survival weights : List ℕ) (i : ℕ) (up : Bool) (k : ℕ) → ℕ
+sumsValue rule survival weights i up k = valueOf (summed rule weights) survival (sum k) up i
 
 -- and with none left
-abbrev pub endsWorth : Rule → (up : Bool) (k : ℕ) → ℕ
-endsWorth rule up k = cond (endOf rule (sum k)) S 0
+abbrev pub endsValue : Rule → (up : Bool) (k : ℕ) → ℕ
+endsValue rule up k = cond (endOf rule (sum k)) S 0
 
 -- so many places from off, of a table long enough
 pub record Span (off count : ℕ) (t : List ℕ) : Type 0 where
@@ -38,7 +38,7 @@ pub record Levelled (rule : Rule) (survival weights : List ℕ) (s : Level) (t :
   pub side : Side (s .from)
   pub some : s .left ≤ length survival
   pub reach : s .reach + loadOf rule weights (s .left) ≡ 1 + loadOf rule weights (length survival)
-  pub row : Shelf (sumsWorth rule survival weights (s .left)) t (s .from) (min (limitOf rule) (s .reach))
+  pub row : Shelf (sumsValue rule survival weights (s .left)) t (s .from) (min (limitOf rule) (s .reach))
   pub behind : {side : ℕ} → Side side → Shelf (λ up k. 0) t (side + limitOf rule) (gapOf rule)
 
 -- a level with so many components left

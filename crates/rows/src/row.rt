@@ -6,7 +6,7 @@ ghost use lib.ListN.{length};
 ghost use Rattle.rules.specs.State.{S};
 ghost use Rattle.places.specs.Cells.{Both, Place, Written, cellAt};
 ghost use Rattle.rows.specs.Kinds.{limitOf};
-ghost use Rattle.rows.specs.Level.{Levelled, Raised, Span, endsWorth};
+ghost use Rattle.rows.specs.Level.{Levelled, Raised, Span, endsValue};
 use crate::Level;
 use crate::kinds;
 use memory::sum::Sum;
@@ -17,12 +17,12 @@ use rules::Rule;
 // The row with no components left.
 pub fn start(rule: Rule, limit: usize, table: &mut [u64])
     requires { ⌜ Span 0 limit (now table) × (limit ≡ limitOf rule) ⌝ }
-    ensures { λ r. ⌜ Written (endsWorth rule) limit 0 (now (table .entry)) (now (table .exit)) ⌝ }
+    ensures { λ r. ⌜ Written (endsValue rule) limit 0 (now (table .entry)) (now (table .exit)) ⌝ }
 {
     let mut m: usize = 0;
     while m < limit {
         let works = kinds::works(rule, limit, Sum { sum: m });
-        places::write(table, m, places::worth(works));
+        places::write(table, m, places::end_value(works));
         m += 1;
     }
 }
@@ -34,7 +34,7 @@ pub fn clear(off: usize, count: usize, table: &mut [u64])
 {
     let mut k: usize = 0;
     while k < count {
-        places::write(table, off + k, places::worth(false));
+        places::write(table, off + k, places::end_value(false));
         k += 1;
     }
 }

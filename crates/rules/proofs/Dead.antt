@@ -1,4 +1,4 @@
--- A dead memory never works and is worth nothing: of memories that no step leaves and that do not work at the end, no reading ends working and every
+-- A dead memory never works and its value is 0: of memories that no step leaves and that do not work at the end, no reading ends working and every
 -- value is 0. By induction over the components left; a row's `dead` is such a memory. Assumes nothing.
 use mathlib.Core.Path.{_≡_, refl}
 use mathlib.Core.Bool.{Bool, false}

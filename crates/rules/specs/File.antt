@@ -7,10 +7,13 @@ use lib.ListN.{length, getD, replicate}
 use Rattle.rules.specs.declared.System.{System}
 use Rattle.rules.specs.declared.Rating.{Rating}
 use Rattle.rules.specs.declared.Rating.the-variants.{Range, Refused}
+use Rattle.rules.specs.declared.Worth.{Worth}
+use Rattle.rules.specs.declared.Worth.the-variants as worth
 use Rattle.rules.specs.Below.{within, listBelow}
 use Rattle.rules.specs.Asked.{Asked, askedOf}
 use Rattle.rules.specs.Refusal.{most, cells, firstOf, badSize}
 use Rattle.rules.specs.Answer.{unless, figuresOf}
+use Rattle.rules.specs.Worth.{worthOf}
 
 -- a deck: its fans' survival numbers and weights, and its systems
 pub record Deck : Type 0 where
@@ -208,3 +211,16 @@ unfoldable pub loadingOf : (bytes : List ℕ) (s : ℕ) → Rating
 loadingOf bytes s =
     unless (fileRefusal bytes) Refused
     (cond (badNumber bytes s) (Refused 14) (answerIn bytes (s - 1)))
+
+-- request 06: the worth of a fan of a file's system, counted from 0, over a working table that the caller brings
+unfoldable pub systemWorth : Deck → System → (fan : ℕ) → Worth
+systemWorth d s fan = worthOf (askedBy d s) fan (replicate cells 0)
+
+abbrev pub worthIn : List ℕ → (s fan : ℕ) → Worth
+worthIn bytes s fan = systemWorth (deckIn bytes) (systemIn bytes s) fan
+
+-- and as the loading computer's call gives it: the file's refusal, 14, the system's own, 17
+unfoldable pub worthLoadingOf : (bytes : List ℕ) (s fan : ℕ) → Worth
+worthLoadingOf bytes s fan =
+    unless (fileRefusal bytes) worth.Refused
+    (cond (badNumber bytes s) (worth.Refused 14) (worthIn bytes (s - 1) fan))

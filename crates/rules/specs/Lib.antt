@@ -11,4 +11,5 @@ pub mod Asked
 pub mod Refusal
 pub mod Accepted
 pub mod Answer
+pub mod Worth
 pub mod File

@@ -1,7 +1,7 @@
 -- Document 01, "Refusal numbers": each condition of the table, and each call's refusal, "the lowest number that applies, and none otherwise".
 use mathlib.Core.Bool.{Bool, false, cond, not, _&&_, _||_}
 use mathlib.Core.List.{List, [], _∷_}
-use Prim.Native.Nat.{ℕ, suc, _^_}
+use Prim.Native.Nat.{ℕ, zero, suc, _^_}
 use lib.Dec.{ltb, leb, eqb}
 use lib.ListN.{length, getD}
 use Rattle.rules.specs.declared.Rule.{Rule}
@@ -81,6 +81,11 @@ highOne n w = leb (2 ^ n) w
 unfoldable pub firstOf : List (ℕ × Bool) → ℕ
 firstOf [] = 0
 firstOf (c ∷ cs) = cond (c .1) (c .0) (firstOf cs)
+
+-- a refusal where there is one, else the next
+unfoldable pub after : (refusal next : ℕ) → ℕ
+after zero next = next
+after (suc r) next = suc r
 
 -- "The verdict checks 1, 2, 5, 6, 9"
 unfoldable pub verdictRefusal : Rule → (n : ℕ) (weights : List ℕ) (w : ℕ) → ℕ

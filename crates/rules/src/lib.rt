@@ -27,6 +27,12 @@ pub enum Rating {
     Refused(u64),
 }
 
+// The worth of one fan, in signed parts of the unit.
+pub enum Worth {
+    Ends { lower: i64, upper: i64 },
+    Refused(u64),
+}
+
 // Whether a count table was written.
 pub enum Counting {
     Counted,

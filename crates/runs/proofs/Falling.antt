@@ -1,5 +1,5 @@
--- What runs of failed components are worth, kinds 4 and 5: a run out of the memory with no run and the run gone on; memories that all that is left cannot
--- bring to k are worth the unit; a run that can come to k ends at 0, dead or past the last component. By the definition's own step. Assumes nothing.
+-- The values of runs of failed components, kinds 4 and 5: a run out of the memory with no run and the run gone on; memories that all that is left cannot
+-- bring to k have the unit for their value; a run that can come to k ends at 0, dead or past the last component. By the definition's own step. Assumes nothing.
 use mathlib.Core.Path.{_≡_, refl, sym, ap, _∙_}
 use mathlib.Core.Bool.{Bool}
 use mathlib.Core.List.{List}
@@ -17,31 +17,31 @@ use Rattle.memory.specs.declared.run.Run.{Run}
 use Rattle.memory.specs.Run.{run, running}
 use Rattle.memory.proofs.Runs.{run-works, run-fails, run-ends, run-dead}
 use Rattle.places.specs.declared.Ends.{Ends}
-use Rattle.places.specs.Cells.{Both, Place, Put, Kept, Written, cellAt, one, worthOf, Steady}
+use Rattle.places.specs.Cells.{Both, Place, Put, Kept, Written, cellAt, one, valueOf, Steady}
 use Rattle.places.proofs.Cells.{both-as, row-as, row-more, room-kept, workable-kept, kept-none, kept-trans}
-use Rattle.places.proofs.Values.{Chance, worth-dead, worth-suc, step-steady, step-mixed}
+use Rattle.places.proofs.Values.{Chance, valued-dead, valued-suc, step-steady, step-mixed}
 use Rattle.runs.specs.Runs.{Free, Falling, Fillable, Filled}
 
 module _ (k : ℕ) (survival : List ℕ) (t : ℕ) (up : Bool) where
   -- a run before a component
-  pub run-before : (i s : ℕ) → s < k → worthOf (running k) survival (run t s) up (i + 1)
-      ≡ rounded up S (mixed S (getD survival i 0) (worthOf (running k) survival (run t 0) up i) (worthOf (running k) survival (run t (s + 1)) up i))
+  pub run-before : (i s : ℕ) → s < k → valueOf (running k) survival (run t s) up (i + 1)
+      ≡ rounded up S (mixed S (getD survival i 0) (valueOf (running k) survival (run t 0) up i) (valueOf (running k) survival (run t (s + 1)) up i))
   run-before i s alive =
-      ap (worthOf (running k) survival (run t s) up) (add-one i)
-      ∙ worth-suc (running k) survival i (run t s) up
+      ap (valueOf (running k) survival (run t s) up) (add-one i)
+      ∙ valued-suc (running k) survival i (run t s) up
       ∙ rw (run-works k (suc i) (run t s) alive, run-fails k (suc i) (run t s) alive)
 
   -- a memory that what is left cannot bring to k
-  pub decided : ((i : ℕ) → getD survival i 0 ≤ S) → (i s : ℕ) → t + s + i < k → worthOf (running k) survival (run t s) up i ≡ S
+  pub decided : ((i : ℕ) → getD survival i 0 ≤ S) → (i s : ℕ) → t + s + i < k → valueOf (running k) survival (run t s) up i ≡ S
   unfolding value
   decided units zero s l = rw (run-ends k 0 (run t s) (omega arith), lt-ltb (t + s) k (omega arith))
   decided units (suc i) s l =
-      ap (worthOf (running k) survival (run t s) up) (sym (add-one i))
+      ap (valueOf (running k) survival (run t s) up) (sym (add-one i))
       ∙ run-before i s (omega arith)
       ∙ rw (decided units i 0 (omega arith), decided units i (s + 1) (omega arith)) (unchanged up S (getD survival i 0) S (omega arith) (units i))
 
   -- a run that is dead where it ends, or past the last component and too long with its lead
-  pub fallen : (upto : ℕ) → k ≤ upto + t → worthOf (running k) survival (run t (upto - (upto - k))) up (upto - k) ≡ 0
+  pub fallen : (upto : ℕ) → k ≤ upto + t → valueOf (running k) survival (run t (upto - (upto - k))) up (upto - k) ≡ 0
   unfolding value
   fallen upto far =
       elim (decLt upto k) [
@@ -49,19 +49,19 @@ module _ (k : ℕ) (survival : List ℕ) (t : ℕ) (up : Bool) where
             let a : upto - k ≡ 0 = omega arith in
             let b : upto - 0 ≡ upto = omega arith in
             rw (a, b, run-ends k 0 (run t upto) l, le-ltb (t + upto) k (omega arith))
-        | no h ↦ worth-dead (running k) survival (run-dead k) (upto - k) (run t (upto - (upto - k))) (le-leb k _ (omega arith)) up
+        | no h ↦ valued-dead (running k) survival (run-dead k) (upto - k) (run t (upto - (upto - k))) (le-leb k _ (omega arith)) up
       ]
 
 -- a memory with no run, by its lead
 pub free-is : {k : ℕ} {m : Run} → Free k m → m ≡ run (m .lead) 0
 free-is {m = m} f = ap (run (m .lead)) (f .none)
 
--- a run taken back to i components left: the memory at hand, and what it is worth
+-- a run taken back to i components left: the memory at hand, and its value
 pub record Back (k t upto : ℕ) (survival : List ℕ) (i : ℕ) (m : Run) (ends : Ends) : Type 0 where
   pub most : i ≤ upto
   pub near : upto ≤ i + k
   pub is : m ≡ run t (upto - i)
-  pub value : Both (λ up. worthOf (running k) survival m up i) ends
+  pub value : Both (λ up. valueOf (running k) survival m up i) ends
 
 module _ {k : ℕ} {free : Run} {upto : ℕ} {survival t : List ℕ} (y : Falling k free upto survival t) where
   pub back-first : {ends : Ends} → Both (λ up. 0) ends → Back k (free .lead) upto survival (upto - k) (run (free .lead) (upto - (upto - k))) ends
@@ -72,7 +72,7 @@ module _ {k : ℕ} {free : Run} {upto : ℕ} {survival t : List ℕ} (y : Fallin
     value = both-as (λ up. sym (fallen k survival (free .lead) up upto (y .far))) b;
   }
 
-  pub back-last : {i : ℕ} {m : Run} {ends : Ends} → upto ≤ i → Back k (free .lead) upto survival i m ends → Both (λ up. worthOf (running k) survival free up upto) ends
+  pub back-last : {i : ℕ} {m : Run} {ends : Ends} → upto ≤ i → Back k (free .lead) upto survival i m ends → Both (λ up. valueOf (running k) survival free up upto) ends
   back-last {i} l v =
       let e : i ≡ upto = omega (arith, v .most) in
       let d : upto - upto ≡ 0 = omega arith in
@@ -86,11 +86,11 @@ module _ {k : ℕ} {free : Run} {upto : ℕ} {survival t : List ℕ} (y : Fallin
     pub back-some : 0 < m .run
     back-some = rw (v .is) (omega arith)
 
-    at-hand : Both (λ up. worthOf (running k) survival (run (free .lead) (upto - (i + 1) + 1)) up i) ends
+    at-hand : Both (λ up. valueOf (running k) survival (run (free .lead) (upto - (i + 1) + 1)) up i) ends
     at-hand = let e : upto - i ≡ upto - (i + 1) + 1 = omega arith in rw (v .is, e) at (v .value)
 
     module _ (p q : ℕ) (is : Chance survival i p q) {none : Ends} (n : Both (λ up. cellAt t up i) none) where
-      known : Both (λ up. worthOf (running k) survival (run (free .lead) 0) up i) none
+      known : Both (λ up. valueOf (running k) survival (run (free .lead) 0) up i) none
       known = both-as (λ up. rw (zero-add i, free-is (y .free)) at (y .row .is up i l)) n
 
       pub back-steady : Steady p q none ends
@@ -117,7 +117,7 @@ module _ {k : ℕ} {m : Run} {upto : ℕ} {survival t : List ℕ} (y : Fillable 
   filled-first w = record {
     row =
         row-as
-        (λ up i l. sym (ap (λ x. worthOf (running k) survival x up i) (free-is (y .free)) ∙ decided k survival (m .lead) up (y .list .units) i 0 (omega (arith, y .free .alive))))
+        (λ up i l. sym (ap (λ x. valueOf (running k) survival x up i) (free-is (y .free)) ∙ decided k survival (m .lead) up (y .list .units) i 0 (omega (arith, y .free .alive))))
         (w .row);
     kept = kept-none;
   }
@@ -139,7 +139,7 @@ module _ {k : ℕ} {m : Run} {upto : ℕ} {survival t : List ℕ} (y : Fillable 
     pub filled-place : Place (left + 1) t'
     filled-place = record { low = omega (arith, y .size, y .list .size); room = room-kept (v .kept) (y .list .room) }
 
-    pub filled-more : {t'' : List ℕ} {e : Ends} → Both (λ up. worthOf (running k) survival m up (left + 1)) e → Put (left + 1) e t' t'' → Filled k m (left + 1) survival t t''
+    pub filled-more : {t'' : List ℕ} {e : Ends} → Both (λ up. valueOf (running k) survival m up (left + 1)) e → Put (left + 1) e t' t'' → Filled k m (left + 1) survival t t''
     filled-more b p =
         let a : suc (left + 1) ≡ suc left + 1 = omega arith in
         let c : left + 1 ≡ suc left = omega arith in

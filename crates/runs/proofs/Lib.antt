@@ -1,3 +1,3 @@
--- The laws of kinds 4 and 5: what runs are worth, and the open lead.
+-- The laws of kinds 4 and 5: the values of runs, and the open lead.
 pub mod Falling
 pub mod Whole

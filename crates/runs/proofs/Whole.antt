@@ -18,35 +18,35 @@ use Rattle.memory.specs.Open.{leadOpen}
 use Rattle.memory.proofs.Runs.{run-row4, run-row5}
 use Rattle.memory.proofs.Opening.{lead-first, lead-start, lead-works, lead-fails}
 use Rattle.places.specs.declared.Ends.{Ends}
-use Rattle.places.specs.Cells.{Both, Place, Kept, Steady, cellAt, one, worthOf}
+use Rattle.places.specs.Cells.{Both, Place, Kept, Steady, cellAt, one, valueOf}
 use Rattle.places.proofs.Cells.{both-as, room-kept, workable-kept, kept-none, kept-trans}
-use Rattle.places.proofs.Values.{Chance, worth-suc, step-steady, step-mixed}
+use Rattle.places.proofs.Values.{Chance, valued-suc, step-steady, step-mixed}
 use Rattle.runs.specs.Runs.{Asked, Fillable, Filled}
 
 -- what stands where a memory is filled in
 pub filled-at : {k t upto : ℕ} {survival t₀ t₁ : List ℕ} → Filled k (run t 0) upto survival t₀ t₁ → {e : Ends} → Both (λ up. cellAt t₁ up upto) e
-    → Both (λ up. worthOf (running k) survival (run t 0) up upto) e
+    → Both (λ up. valueOf (running k) survival (run t 0) up upto) e
 filled-at {upto = upto} f = both-as (λ up. rw (zero-add upto) at (f .row .is up upto (omega arith)))
 
 module _ {k : ℕ} {survival t₀ : List ℕ} (y : Asked k survival t₀) where
   abbrev n : ℕ
   n = length survival
 
-  pub line-is : {e : Ends} → Both (λ up. worthOf (running k) survival (run 0 0) up n) e → Both (λ up. figureOf (row4 k) up S survival) e
+  pub line-is : {e : Ends} → Both (λ up. valueOf (running k) survival (run 0 0) up n) e → Both (λ up. figureOf (row4 k) up S survival) e
   line-is = both-as (λ up. run-row4 k (y .some) n .values up S (numberOf survival))
 
-  -- what the open lead is worth with i components left
+  -- the value of the open lead with i components left
   abbrev opened : (up : Bool) (i : ℕ) → ℕ
-  opened up i = worthOf (machineOf (row5 k)) survival (leadOpen k n i) up i
+  opened up i = valueOf (machineOf (row5 k)) survival (leadOpen k n i) up i
 
   open-more : (up : Bool) (i : ℕ) → i < n → n ≤ i + k
-      → rounded up S (mixed S (getD survival i 0) (worthOf (running k) survival (run (n - suc i) 0) up i) (opened up i)) ≡ opened up (i + 1)
+      → rounded up S (mixed S (getD survival i 0) (valueOf (running k) survival (run (n - suc i) 0) up i) (opened up i)) ≡ opened up (i + 1)
   open-more up i left near =
       rw (add-one i)
-      (sym (worth-suc (machineOf (row5 k)) survival i (leadOpen k n (suc i)) up
+      (sym (valued-suc (machineOf (row5 k)) survival i (leadOpen k n (suc i)) up
       ∙ rw (lead-works k n i left near, lead-fails k n i left near, run-row5 k (y .some) i (n - suc i) .values up S (numberOf survival))))
 
-  -- the ring on the way: the lead, and what it is worth
+  -- the ring on the way: the lead, and its value
   pub record Leading (size i : ℕ) (m : Lead) (ends : Ends) (t : List ℕ) : Type 0 where
     pub all : size ≡ n
     pub is : m ≡ lead (n - i)
@@ -61,14 +61,14 @@ module _ {k : ℕ} {survival t₀ : List ℕ} (y : Asked k survival t₀) where
     is = ap lead (omega (arith, y .fits));
     most = omega arith;
     near = omega arith;
-    value = both-as (λ up. sym (ap (λ m. worthOf (machineOf (row5 k)) survival m up (n - k)) (lead-first k n (y .fits)) ∙ row-value (row5 k) up S (numberOf survival) (omega arith) (n - k))) b;
+    value = both-as (λ up. sym (ap (λ m. valueOf (machineOf (row5 k)) survival m up (n - k)) (lead-first k n (y .fits)) ∙ row-value (row5 k) up S (numberOf survival) (omega arith) (n - k))) b;
     kept = kept-none;
   }
 
   pub leading-last : {size i : ℕ} {m : Lead} {e : Ends} {t : List ℕ} → size ≤ i → Leading size i m e t → Both (λ up. figureOf (row5 k) up S survival) e
   leading-last {i = i} l v =
       let e : i ≡ n = omega (arith, v .most, v .all) in
-      both-as (λ up. ap (λ m. worthOf (machineOf (row5 k)) survival m up n) (lead-start k n (y .some))) (rw e at (v .value))
+      both-as (λ up. ap (λ m. valueOf (machineOf (row5 k)) survival m up n) (lead-start k n (y .some))) (rw e at (v .value))
 
   module _ {size i : ℕ} {m : Lead} {ends : Ends} {t : List ℕ} (v : Leading size i m ends t) (l : i < size) where
     pub leading-some : 0 < m .lead
@@ -90,7 +90,7 @@ module _ {k : ℕ} {survival t₀ : List ℕ} (y : Asked k survival t₀) where
         leading-place = record { low = omega (arith, v .most, y .list .size); room = room-kept (kept-trans (v .kept) (f .kept)) (y .list .room) }
 
         module _ (p q : ℕ) (is : Chance survival i p q) {none : Ends} (b : Both (λ up. cellAt t' up i) none) where
-          known : Both (λ up. worthOf (running k) survival (run (n - suc i) 0) up i) none
+          known : Both (λ up. valueOf (running k) survival (run (n - suc i) 0) up i) none
           known = rw earlier at (filled-at f b)
 
           pub leading-steady : Steady p q none ends

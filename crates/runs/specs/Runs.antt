@@ -6,7 +6,7 @@ use lib.ListN.{length}
 use Rattle.rules.specs.Refusal.{most, cells}
 use Rattle.memory.specs.declared.run.Run.{Run}
 use Rattle.memory.specs.Run.{running}
-use Rattle.places.specs.Cells.{Shelf, Kept, Workable, worthOf}
+use Rattle.places.specs.Cells.{Shelf, Kept, Workable, valueOf}
 
 -- a memory with no run, whose lead is not dead
 pub record Free (k : ℕ) (m : Run) : Type 0 where
@@ -18,13 +18,13 @@ pub record Decidable (k : ℕ) (m : Run) (upto : ℕ) (t : List ℕ) : Type 0 wh
   pub size : upto ≤ most
   pub room : cells ≤ length t
 
--- with so many components left the lead and a run of all of them come to k; what the memory is worth with fewer is known
+-- with so many components left the lead and a run of all of them come to k; the memory's value with fewer is known
 pub record Falling (k : ℕ) (m : Run) (upto : ℕ) (survival t : List ℕ) : Type 0 where
   pub free : Free k m
   pub some : 0 < upto
   pub size : upto ≤ length survival
   pub far : k ≤ upto + m .lead
-  pub row : Shelf (worthOf (running k) survival m) t 0 upto
+  pub row : Shelf (valueOf (running k) survival m) t 0 upto
   pub list : Workable survival t
 
 pub record Fillable (k : ℕ) (m : Run) (upto : ℕ) (survival t : List ℕ) : Type 0 where
@@ -33,7 +33,7 @@ pub record Fillable (k : ℕ) (m : Run) (upto : ℕ) (survival t : List ℕ) : T
   pub list : Workable survival t
 
 pub record Filled (k : ℕ) (m : Run) (upto : ℕ) (survival t₀ t : List ℕ) : Type 0 where
-  pub row : Shelf (worthOf (running k) survival m) t 0 (suc upto)
+  pub row : Shelf (valueOf (running k) survival m) t 0 (suc upto)
   pub kept : Kept t₀ t
 
 -- a rule in range: 1 <= k <= n

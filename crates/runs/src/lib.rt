@@ -1,6 +1,6 @@
 // Kinds 4 and 5: low and high where k components in a row must not all fail.
 //
-// A component that works brings back the memory with no run, so of one lead only that memory is kept: what it is worth with i components left stands at
+// A component that works brings back the memory with no run, so of one lead only that memory is kept: its value with i components left stands at
 // place i. Each value comes of the earlier ones by one run taken back. The table is all that a ring uses: one lead at a time, each written over the last.
 ghost use mathlib.Core.Path.{_≡_};
 ghost use Prim.Native.Nat.{suc, _-_, _<_, min};
@@ -8,7 +8,7 @@ ghost use Rattle.rules.specs.State.{S};
 ghost use Rattle.rules.specs.Memory.{row4, row5};
 ghost use Rattle.rules.specs.Figure.{figureOf};
 ghost use Rattle.memory.specs.Run.{run, running};
-ghost use Rattle.places.specs.Cells.{Both, Kept, Written, worthOf};
+ghost use Rattle.places.specs.Cells.{Both, Kept, Written, valueOf};
 ghost use Rattle.runs.specs.Runs.{Decidable, Falling, Fillable, Filled, Asked};
 use memory::run::Lead;
 use memory::run::Run;
@@ -31,24 +31,24 @@ fn decide(k: usize, free: Run, upto: usize, table: &mut [u64]) -> usize
     let last = places::lesser(upto, k - 1 - free.lead);
     let mut left: usize = 0;
     while left <= last {
-        places::write(table, left, places::worth(true));
+        places::write(table, left, places::end_value(true));
         left += 1;
     }
     last
 }
 
-// What a memory with no run is worth with `upto` left: back over a run that ends dead, or past the last component and too long with its lead.
+// The value of a memory with no run with `upto` left: back over a run that ends dead, or past the last component and too long with its lead.
 // Any component of the run may work instead.
 fn back(k: usize, free: Run, upto: usize, survival: &[u32], table: &[u64]) -> Ends
     requires { ⌜ Falling k free upto (now survival) (now table) ⌝ }
-    ensures { λ r. ⌜ Both (λ up. worthOf (running k) (now (survival .entry)) free up upto) r ⌝ }
+    ensures { λ r. ⌜ Both (λ up. valueOf (running k) (now (survival .entry)) free up upto) r ⌝ }
 {
     let mut i = places::rest(upto, k);
     let mut m = Run {
         lead: free.lead,
         run: upto - i,
     };
-    let mut ends = places::worth(false);
+    let mut ends = places::end_value(false);
     while i < upto {
         m = m.before();
         let p = places::chance(survival, i);
@@ -63,7 +63,7 @@ fn back(k: usize, free: Run, upto: usize, survival: &[u32], table: &[u64]) -> En
     ends
 }
 
-// What a memory with no run is worth, with 0 to `upto` components left.
+// The values of a memory with no run, with 0 to `upto` components left.
 fn fill(k: usize, free: Run, upto: usize, survival: &[u32], table: &mut [u64])
     requires { ⌜ Fillable k free upto (now survival) (now table) ⌝ }
     ensures { λ r. ⌜ Filled k free upto (now (survival .entry)) (now (table .entry)) (now (table .exit)) ⌝ }
@@ -96,7 +96,7 @@ pub fn ring(k: usize, survival: &[u32], table: &mut [u64]) -> Ends
 {
     let n = survival.len();
     let mut lead = Lead { lead: k };
-    let mut opened = places::worth(false);
+    let mut opened = places::end_value(false);
     let mut i = n - k;
     while i < n {
         lead = lead.before();

@@ -2,8 +2,9 @@
 use Prim.Native.Nat.{ℕ, _≤_, _<_}
 use lib.ListN.{length, take, getD}
 use Rattle.rules.specs.declared.Rating.{Rating}
+use Rattle.rules.specs.declared.Worth.{Worth}
 use Rattle.rules.specs.File as file
-use Rattle.rules.specs.File.{mostSystems, systemOf}
+use Rattle.rules.specs.File.{mostSystems, systemOf, systemWorth}
 use Rattle.deck.specs.declared.Deck.{Deck}
 use Rattle.deck.specs.Read.{noSystem}
 
@@ -18,6 +19,10 @@ deckOf d = record {
 -- the answer of the system at a place of the array, counted from 0
 unfoldable pub answerAt : Deck → ℕ → Rating
 answerAt d s = systemOf (deckOf d) (getD (d .systems) s noSystem)
+
+-- the worth of a fan to that system
+unfoldable pub worthAt : Deck → (s fan : ℕ) → Worth
+worthAt d s fan = systemWorth (deckOf d) (getD (d .systems) s noSystem) fan
 
 -- the arrays hold n fans, and there is such a place
 pub record Held (d : Deck) (s : ℕ) : Type 0 where

@@ -4,7 +4,7 @@ use Prim.Native.Nat.{suc}
 use native.Mathlib.Omega.{arith}
 use borrow.Author.Tests.{lt-ltb, le-ltb}
 use Rattle.rules.specs.Refusal.{cells}
-use Rattle.refusals.proofs.Laws.{after-none, after-some}
+use Rattle.rules.proofs.Unless.{after-none, after-some}
 use borrow.Author.Needs.{needs}
 use Rattle.counts.proofs.refusal.Statement.{statement}
 use Rattle.counts.proofs.refusal.Tie as tie

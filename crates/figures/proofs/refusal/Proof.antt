@@ -9,7 +9,7 @@ use Rattle.rules.specs.Asked.{askedOf}
 use Rattle.rules.specs.Refusal.{aboveUnit, figuresRefusal}
 use Rattle.rules.proofs.Seven.{within-true}
 use Rattle.rules.proofs.Accepted.{in-stretch, first-of, first-after}
-use Rattle.refusals.proofs.Laws.{after-none, after-some}
+use Rattle.rules.proofs.Unless.{after-none, after-some}
 use Rattle.figures.proofs.Refused.{part-is, rated-short, rest-is}
 use Rattle.figures.proofs.refusal.Statement.{statement}
 use Rattle.figures.proofs.refusal.Tie as tie

@@ -33,14 +33,14 @@ after-requires c κs = omega (arith, c .before .before .before .before .before .
 works-requires : tie.Need-works-requires Inv-loop μ-loop
 works-requires c κs = search needs
 
-worth-requires : tie.Need-worth-requires Inv-loop μ-loop
-worth-requires c κs = search needs
+end-value-requires : tie.Need-end-value-requires Inv-loop μ-loop
+end-value-requires c κs = search needs
 
 loop-holds : tie.Need-loop-holds Inv-loop μ-loop
 loop-holds c =
     let start = c .before .before .before .before .before .before .before .start in
     let begin = c .before .before .before .before .before .begin in
-    (refl, closing-first (rw (ap (λ m. m .clean) (start .ensures)) at (begin .ensures)) (c .before .works .ensures) (c .worth .ensures))
+    (refl, closing-first (rw (ap (λ m. m .clean) (start .ensures)) at (begin .ensures)) (c .before .works .ensures) (c .end-value .ensures))
 
 sub-after : tie.Need-sub-after Inv-loop μ-loop
 sub-after c = search needs
@@ -144,7 +144,7 @@ ring-spec =
     begin-requires
     after-requires
     works-requires
-    worth-requires
+    end-value-requires
     loop-holds
     sub-after
     sub-after-2

@@ -18,11 +18,11 @@ rest-requires c κs = search needs
 sub-t10 : tie.Need-sub-t10 Inv-loop μ-loop
 sub-t10 c = search needs
 
-worth-requires : tie.Need-worth-requires Inv-loop μ-loop
-worth-requires c κs = search needs
+end-value-requires : tie.Need-end-value-requires Inv-loop μ-loop
+end-value-requires c κs = search needs
 
 loop-holds : tie.Need-loop-holds Inv-loop μ-loop
-loop-holds c = rw (c .before .rest .ensures) (back-first (c .before .before .before .before .pre) (c .worth .ensures))
+loop-holds c = rw (c .before .rest .ensures) (back-first (c .before .before .before .before .pre) (c .end-value .ensures))
 
 before-requires : tie.Need-before-requires Inv-loop μ-loop
 before-requires c κs = back-some (c .before .before .before .before .before .before .pre) _ (c .loop-test .taken) (c .before .loop .inv)
@@ -87,7 +87,7 @@ back-spec =
     μ-loop
     rest-requires
     sub-t10
-    worth-requires
+    end-value-requires
     loop-holds
     before-requires
     chance-requires

@@ -27,8 +27,8 @@ lesser-requires c κs = search needs
 loop-holds : tie.Need-loop-holds Inv-loop μ-loop
 loop-holds c = search needs
 
-worth-requires : tie.Need-worth-requires Inv-loop μ-loop
-worth-requires c κs = search needs
+end-value-requires : tie.Need-end-value-requires Inv-loop μ-loop
+end-value-requires c κs = search needs
 
 write-requires : tie.Need-write-requires Inv-loop μ-loop
 write-requires c κs = search needs
@@ -44,9 +44,9 @@ loop-again c =
     let pre = c .before .before .before .before .before .before .before .before .before .before .pre in
     let lesser = c .before .before .before .before .before .before .before .lesser in
     let loop = c .before .before .before .before .before .before .loop in
-    let worth = c .before .before .before .worth in
+    let value = c .before .before .before .end-value in
     let write = c .before .before .write in
-    (omega arith, written-more (write .ensures) (omega arith) (omega (arith, lesser .ensures, pre .size)) (worth .ensures) (loop .inv .1))
+    (omega arith, written-more (write .ensures) (omega arith) (omega (arith, lesser .ensures, pre .size)) (value .ensures) (loop .inv .1))
 
 same-length : tie.Need-same-length Inv-loop μ-loop
 same-length c = search needs
@@ -65,7 +65,7 @@ decide-spec =
     sub-lesser-2
     lesser-requires
     loop-holds
-    worth-requires
+    end-value-requires
     write-requires
     add-left
     loop-less

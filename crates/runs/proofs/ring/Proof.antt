@@ -14,14 +14,14 @@ Inv-loop k survival table₀ n lead₀ opened₀ i₀ table lead opened i = (y :
 abbrev μ-loop : tie.MeasureT-loop
 μ-loop k survival table₀ n lead₀ opened₀ i₀ table lead opened i = n - i
 
-worth-requires : tie.Need-worth-requires Inv-loop μ-loop
-worth-requires c κs = search needs
+end-value-requires : tie.Need-end-value-requires Inv-loop μ-loop
+end-value-requires c κs = search needs
 
 sub-i : tie.Need-sub-i Inv-loop μ-loop
 sub-i c = search needs
 
 loop-holds : tie.Need-loop-holds Inv-loop μ-loop
-loop-holds c = λ y. leading-first y (c .worth .ensures)
+loop-holds c = λ y. leading-first y (c .end-value .ensures)
 
 before-requires : tie.Need-before-requires Inv-loop μ-loop
 before-requires c κs =
@@ -110,7 +110,7 @@ ring-spec =
     (tie.spec
     Inv-loop
     μ-loop
-    worth-requires
+    end-value-requires
     sub-i
     loop-holds
     before-requires

@@ -13,8 +13,8 @@ use Rattle.rules.specs.Refusal.{highOne}
 use Rattle.rules.specs.Answer.{verdictOf, unless}
 use Rattle.rules.specs.Accepted.{Accepted}
 use Rattle.refusals.specs.Shared.{ruleRefusal}
-use Rattle.rules.proofs.Unless.{unless-some}
-use Rattle.refusals.proofs.Laws.{verdict-after, after-none, after-some, accepted}
+use Rattle.rules.proofs.Unless.{unless-some, after-none, after-some}
+use Rattle.refusals.proofs.Laws.{verdict-after, accepted}
 use Rattle.verdict.specs.Outcome.{Judged}
 use Rattle.verdict.proofs.Outcome.{judged}
 use Rattle.verdict.proofs.verdict_on.Statement.{statement}

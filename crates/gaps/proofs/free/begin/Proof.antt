@@ -7,8 +7,8 @@ use Rattle.gaps.proofs.free.begin.Tie as tie
 works-requires : tie.Need-works-requires
 works-requires c κs = search needs
 
-worth-requires : tie.Need-worth-requires
-worth-requires c κs = search needs
+end-value-requires : tie.Need-end-value-requires
+end-value-requires c κs = search needs
 
 write-requires : tie.Need-write-requires
 write-requires c κs = search needs
@@ -20,9 +20,9 @@ returns : tie.Need-returns
 returns c =
     let pre = c .before .before .before .before .before .before .before .before .pre in
     let works = c .before .before .before .before .works in
-    let worth = c .before .before .before .worth in
+    let value = c .before .before .before .end-value in
     let write = c .before .before .write in
-    begun pre (works .ensures) (worth .ensures) (write .ensures)
+    begun pre (works .ensures) (value .ensures) (write .ensures)
 
 pub begin-spec : {M : Type 1} → statement M
-begin-spec = tie.close (tie.spec works-requires worth-requires write-requires same-length returns)
+begin-spec = tie.close (tie.spec works-requires end-value-requires write-requires same-length returns)

@@ -22,13 +22,13 @@ returns c =
     let e = sym (c .before .before .works .ensures ∙ ap owedWorks (c .before .before .before .worked-many .ensures)) ∙ c .before .if1 .taken in
     record { low = rw e (c .read .ensures .low); high = rw e (c .read .ensures .high) }
 
-worth-requires : tie.Need-worth-requires
-worth-requires c κs = search needs
+end-value-requires : tie.Need-end-value-requires
+end-value-requires c κs = search needs
 
 returns-2 : tie.Need-returns-2
 returns-2 c =
     let e = sym (c .before .before .works .ensures ∙ ap owedWorks (c .before .before .before .worked-many .ensures)) ∙ c .before .if1 .left in
-    record { low = rw e (c .worth .ensures .low); high = rw e (c .worth .ensures .high) }
+    record { low = rw e (c .end-value .ensures .low); high = rw e (c .end-value .ensures .high) }
 
 pub cut-short-spec : {M : Type 1} → statement M
 cut-short-spec =
@@ -39,5 +39,5 @@ cut-short-spec =
     add-read
     read-requires
     returns
-    worth-requires
+    end-value-requires
     returns-2)

@@ -1,18 +1,18 @@
--- `settle` writes what the memory at hand is worth, then takes its debt back a component. Assumes nothing.
+-- `settle` writes the value of the memory at hand, then takes its debt back a component. Assumes nothing.
 use borrow.Author.Needs.{needs}
 use mathlib.Core.Path.{_≡_, refl}
 use Prim.Native.Nat.{_-_, _≤_}
 use native.Mathlib.Nat.{zero-add}
 use native.Mathlib.Omega.{arith}
 use Rattle.memory.specs.Owed.{owed, owing}
-use Rattle.places.specs.Cells.{Written, half, worthOf}
+use Rattle.places.specs.Cells.{Written, half, valueOf}
 use Rattle.places.proofs.Cells.{written-none, written-more, room-kept}
-use Rattle.gaps.proofs.Paying.{Back, end-worth, back-first, back-last, back-due, back-more}
+use Rattle.gaps.proofs.Paying.{Back, end-valued, back-first, back-last, back-due, back-more}
 use Rattle.gaps.proofs.owed.settle.Statement.{statement}
 use Rattle.gaps.proofs.owed.settle.Tie as tie
 
 abbrev Inv-loop : tie.InvT-loop
-Inv-loop r survival table₀ last due₀ ends₀ i₀ table due ends i = (i ≤ last) × Back r 0 0 0 survival i due ends × Written (λ up k. worthOf (owing r) survival (owed 0 k) up k) i half table₀ table
+Inv-loop r survival table₀ last due₀ ends₀ i₀ table due ends i = (i ≤ last) × Back r 0 0 0 survival i due ends × Written (λ up k. valueOf (owing r) survival (owed 0 k) up k) i half table₀ table
 
 abbrev μ-loop : tie.MeasureT-loop
 μ-loop r survival table₀ last due₀ ends₀ i₀ table due ends i = last - i
@@ -26,13 +26,13 @@ lesser-requires c κs = search needs
 works-requires : tie.Need-works-requires Inv-loop μ-loop
 works-requires c κs = search needs
 
-worth-requires : tie.Need-worth-requires Inv-loop μ-loop
-worth-requires c κs = search needs
+end-value-requires : tie.Need-end-value-requires Inv-loop μ-loop
+end-value-requires c κs = search needs
 
 loop-holds : tie.Need-loop-holds Inv-loop μ-loop
 loop-holds c =
     let pre = c .before .before .before .before .before .pre in
-    (omega arith, back-first (end-worth _ _ (owed 0 0) (omega (arith, pre .two)) (c .before .works .ensures) (c .worth .ensures)), written-none)
+    (omega arith, back-first (end-valued _ _ (owed 0 0) (omega (arith, pre .two)) (c .before .works .ensures) (c .end-value .ensures)), written-none)
 
 add-write : tie.Need-add-write Inv-loop μ-loop
 add-write c = search needs
@@ -100,7 +100,7 @@ settle-spec =
     sub-lesser
     lesser-requires
     works-requires
-    worth-requires
+    end-value-requires
     loop-holds
     add-write
     write-requires

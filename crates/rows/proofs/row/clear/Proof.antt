@@ -20,8 +20,8 @@ loop-holds c = (omega arith, written-none)
 add-write : tie.Need-add-write Inv-loop μ-loop
 add-write c = search needs
 
-worth-requires : tie.Need-worth-requires Inv-loop μ-loop
-worth-requires c κs = search needs
+end-value-requires : tie.Need-end-value-requires Inv-loop μ-loop
+end-value-requires c κs = search needs
 
 write-requires : tie.Need-write-requires Inv-loop μ-loop
 write-requires c κs =
@@ -39,7 +39,7 @@ loop-again : tie.Need-loop-again Inv-loop μ-loop
 loop-again c =
     let o = c .before .before .before .before .before .before in
     let low = o .before .before .pre .low in
-    (omega arith, written-more (c .before .before .write .ensures) refl (omega arith) (c .before .before .before .worth .ensures) (o .loop .inv .1))
+    (omega arith, written-more (c .before .before .write .ensures) refl (omega arith) (c .before .before .before .end-value .ensures) (o .loop .inv .1))
 
 same-length : tie.Need-same-length Inv-loop μ-loop
 same-length c = c .before .loop .inv .1 .kept .long
@@ -52,4 +52,4 @@ returns c =
 pub clear-spec : {M : Type 1} → statement M
 clear-spec =
     tie.close
-    (tie.spec Inv-loop μ-loop loop-holds add-write worth-requires write-requires add-k loop-less loop-again same-length returns)
+    (tie.spec Inv-loop μ-loop loop-holds add-write end-value-requires write-requires add-k loop-less loop-again same-length returns)

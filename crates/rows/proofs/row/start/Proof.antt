@@ -5,12 +5,12 @@ use mathlib.Core.Path.{_≡_}
 use native.Mathlib.Omega.{arith}
 use Rattle.places.specs.Cells.{Written}
 use Rattle.places.proofs.Cells.{room-kept, written-none, written-more}
-use Rattle.rows.specs.Level.{endsWorth}
+use Rattle.rows.specs.Level.{endsValue}
 use Rattle.rows.proofs.row.start.Statement.{statement}
 use Rattle.rows.proofs.row.start.Tie as tie
 
 abbrev Inv-loop : tie.InvT-loop
-Inv-loop rule limit table₀ m₀ table m = (m ≤ limit) × Written (endsWorth rule) m 0 table₀ table
+Inv-loop rule limit table₀ m₀ table m = (m ≤ limit) × Written (endsValue rule) m 0 table₀ table
 
 abbrev μ-loop : tie.MeasureT-loop
 μ-loop rule limit table₀ m₀ table m = limit - m
@@ -21,8 +21,8 @@ loop-holds c = (omega arith, written-none)
 works-requires : tie.Need-works-requires Inv-loop μ-loop
 works-requires c κs = c .before .before .before .pre .1
 
-worth-requires : tie.Need-worth-requires Inv-loop μ-loop
-worth-requires c κs = search needs
+end-value-requires : tie.Need-end-value-requires Inv-loop μ-loop
+end-value-requires c κs = search needs
 
 write-requires : tie.Need-write-requires Inv-loop μ-loop
 write-requires c κs =
@@ -39,7 +39,7 @@ loop-again : tie.Need-loop-again Inv-loop μ-loop
 loop-again c =
     let o = c .before .before .before .before .before .before .before in
     let low = o .before .before .pre .0 .low in
-    let e = rw (c .before .before .before .before .before .works .ensures) at (c .before .before .before .worth .ensures) in
+    let e = rw (c .before .before .before .before .before .works .ensures) at (c .before .before .before .end-value .ensures) in
     (omega arith, written-more (c .before .before .write .ensures) (omega arith) (omega arith) e (o .loop .inv .1))
 
 same-length : tie.Need-same-length Inv-loop μ-loop
@@ -53,4 +53,4 @@ returns c =
 pub start-spec : {M : Type 1} → statement M
 start-spec =
     tie.close
-    (tie.spec Inv-loop μ-loop loop-holds works-requires worth-requires write-requires add-m loop-less loop-again same-length returns)
+    (tie.spec Inv-loop μ-loop loop-holds works-requires end-value-requires write-requires add-m loop-less loop-again same-length returns)

@@ -8,7 +8,7 @@ use native.Mathlib.Numerals.{add-one}
 use Rattle.rules.specs.declared.Rule.{Rule}
 use Rattle.places.specs.Cells.{half, Written}
 use Rattle.places.proofs.Cells.{kept-none, written-none, written-more}
-use Rattle.rows.specs.Level.{sumsWorth}
+use Rattle.rows.specs.Level.{sumsValue}
 use Rattle.rows.proofs.Climbs.{side-near, Climb, read-place, write-place, climb-steady, climb-made}
 use Rattle.rows.proofs.Levels.{spare, level-climb, level-up, level-same}
 use Rattle.rows.proofs.row.turn.Statement.{statement}
@@ -18,7 +18,7 @@ abbrev Inv-loop : tie.InvT-loop
 Inv-loop survival weights table₀ left next from carry reach width to p q m₀ table m =
     (m ≤ width)
     × ((rule : Rule) → Climb rule survival weights left from table₀ (p .0) (q .0) carry width
-    → Written (sumsWorth rule survival weights (suc left)) m (half - from) table₀ table)
+    → Written (sumsValue rule survival weights (suc left)) m (half - from) table₀ table)
 
 abbrev μ-loop : tie.MeasureT-loop
 μ-loop survival weights table₀ left next from carry reach width to p q m₀ table m = width - m
