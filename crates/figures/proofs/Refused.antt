@@ -1,7 +1,7 @@
 -- The refusal of the figures, as the code works it out: 1 to 4, then 5 and 6 over the weights that are rated, then 7; and where there is none, the part can
 -- be rated. Weights that kind 2 does not read change nothing. Assumes nothing.
 use Prim.Native.Nat.{ℕ, suc, _-_, _≤_}
-use mathlib.Core.Path.{_≡_, refl, sym, ap, ap₂, _∙_}
+use mathlib.Core.Path.{_≡_, refl, sym, ap, _∙_}
 use mathlib.Core.Bool.{Bool, true, false, cond, not}
 use mathlib.Core.Logic.{_⊎_, inl, inr, ⊎-elim}
 use mathlib.Core.List.{List, [], _∷_}
@@ -10,19 +10,18 @@ use lib.Dec.{eqb}
 use lib.ListN.{length, take, drop, length-take, length-drop}
 use borrow.Author.Tests.{eqb-true, eqb-false, eq-eqb, ne-eqb}
 use Rattle.rules.specs.declared.Rule.{Rule}
-use Rattle.rules.specs.declared.Rating.the-variants.{Range}
 use Rattle.rules.specs.Below.{total}
 use Rattle.rules.specs.State.{S}
 use Rattle.rules.specs.Figure.{figure}
 use Rattle.rules.specs.Stretch.{stretch}
-use Rattle.rules.specs.Asked.{Asked, lengthOf, sizeOf, partOf, weightsOf, lowOf, highOf}
+use Rattle.rules.specs.Asked.{Asked, lengthOf, sizeOf, partOf, weightsOf}
 use Rattle.rules.specs.Refusal.{after, firstOf, badKind, badSize, badStretch, aboveUnit, weightsOut, badWeights, ranged, inRange, shortTable, figuresRefusal}
 use Rattle.rules.specs.Accepted.{Ratable}
 use Rattle.rules.proofs.Tests.{by-test}
 use Rattle.rules.proofs.Accepted.{first-same, first-after, in-stretch, figures-ratable, weights-accepted}
 use Rattle.rules.proofs.Unread.{accepted-unread, unread-range, unread-figure}
 use Rattle.refusals.specs.Shared.{ratedRefusal}
-use Rattle.figures.specs.Outcome.{ratedOf, range}
+use Rattle.figures.specs.Outcome.{ratedOf}
 
 -- the part as the code takes it
 pub part-is : (a b n : ℕ) (xs : List ℕ) → badStretch a b n ≡ false → take (b - (a - 1)) (drop (a - 1) xs) ≡ stretch a b xs
@@ -92,7 +91,7 @@ module _ (q : Asked) (table : List ℕ) where
       (sym (e ∙ ap (λ xs. ratedRefusal (q .rule) (lengthOf q) (length (q .weights)) (q .b - (q .a - 1)) (total xs)) d ∙ own-is (q .rule) (lengthOf q) (q .weights) (q .a) (q .b) (q .b - (q .a - 1))
       ∙ ap (λ x. firstOf ((5, badWeights (q .rule) (lengthOf q) (q .weights) (weightsOf q)) ∷ (6, not (inRange (q .rule) x (weightsOf q))) ∷ [])) (sym m)))
 
--- no refusal: the part can be rated, and its answer is the one asked for
+-- no refusal: the part can be rated, and its figures are those asked for
 module _ (q : Asked) (table : List ℕ) (none : figuresRefusal q table ≡ 0) where
   ratable : (badStretch (q .a) (q .b) (lengthOf q) ≡ false) × (q .rule .kind ≡ 2 → length (q .weights) ≡ lengthOf q) × Ratable (q .rule) (partOf q) (weightsOf q) table
   ratable = figures-ratable q table none
@@ -111,8 +110,5 @@ module _ (q : Asked) (table : List ℕ) (none : figuresRefusal q table ≡ 0) wh
       let y = ratable .2 in
       record { accepted = ⊎-elim (λ s. rw s (y .accepted)) (accepted-unread (y .accepted)) same; units = y .units; room = y .room }
 
-  figure-same : (up : Bool) → figure up S (q .rule) (partOf q) (handed q) ≡ figure up S (q .rule) (partOf q) (weightsOf q)
-  figure-same up = ⊎-elim (λ s. rw s) (λ k. unread-figure up (q .rule) (partOf q) (handed q) (weightsOf q) k) same
-
-  pub part-answer : range (q .rule) (partOf q) (handed q) ≡ Range (lowOf q) (highOf q)
-  part-answer = ap₂ Range (figure-same false) (figure-same true)
+  pub part-figure : (up : Bool) → figure up S (q .rule) (partOf q) (handed q) ≡ figure up S (q .rule) (partOf q) (weightsOf q)
+  part-figure up = ⊎-elim (λ s. rw s) (λ k. unread-figure up (q .rule) (partOf q) (handed q) (weightsOf q) k) same

@@ -1,27 +1,29 @@
 // Low and high: the figures of a stretch of a list.
 ghost use mathlib.Core.Path.{_≡_};
 ghost use mathlib.Core.Bool.{false};
+ghost use Rattle.rules.specs.State.{S};
+ghost use Rattle.rules.specs.Figure.{figure};
 ghost use Rattle.rules.specs.Asked.{askedOf};
 ghost use Rattle.rules.specs.Refusal.{badStretch, aboveUnit, figuresRefusal};
 ghost use Rattle.rules.specs.Accepted.{Ratable};
 ghost use Rattle.rules.specs.Answer.{cleared};
-ghost use Rattle.figures.specs.Outcome.{ratedOf, range, Rated};
+ghost use Rattle.places.specs.Cells.{Both};
+ghost use Rattle.figures.specs.Outcome.{ratedOf, Worked, Rated};
 use cells::CELLS;
+use places::Ends;
 use rules::Rating;
 use rules::Rule;
 use units::UNIT;
 
-// The answer of a list that can be rated.
-fn answer(rule: Rule, survival: &[u32], weights: &[u16], table: &mut [u64]) -> Rating
+// Low and high of a list that can be rated, and the table cleared.
+fn worked(rule: Rule, survival: &[u32], weights: &[u16], table: &mut [u64]) -> Ends
     requires { ⌜ Ratable rule (now survival) (now weights) (now table) ⌝ }
-    ensures answer { λ r. ⌜ r ≡ range rule (now (survival .entry)) (now (weights .entry)) ⌝ }
+    ensures figure { λ r. ⌜ Both (λ up. figure up S rule (now (survival .entry)) (now (weights .entry))) r ⌝ }
     ensures table { λ r. ⌜ now (table .exit) ≡ cleared (now (table .entry)) ⌝ }
 {
     let ends = engine::rate(rule, survival, weights, table);
     cells::zero(table, CELLS);
-    let low = ends.low;
-    let high = ends.high;
-    Rating::Range { low, high }
+    ends
 }
 
 // Refusal 3.
@@ -69,7 +71,7 @@ fn rated_weights(rule: Rule, n: usize, weights: &[u16], a: u64, b: u64) -> &[u16
 }
 
 // Refusals 1 to 7, the lowest that applies; 0 for none.
-fn refusal(rule: Rule, a: u64, b: u64, survival: &[u32], weights: &[u16], table: &[u64]) -> u64
+pub fn refusal(rule: Rule, a: u64, b: u64, survival: &[u32], weights: &[u16], table: &[u64]) -> u64
     ensures { λ r. ⌜ r ≡ figuresRefusal (askedOf rule a b (now (survival .entry)) (now (weights .entry))) (now (table .entry)) ⌝ }
 {
     if refusals::kind_out(rule) {
@@ -104,7 +106,25 @@ fn refusal(rule: Rule, a: u64, b: u64, survival: &[u32], weights: &[u16], table:
     0
 }
 
-// The figures of the stretch from component a to component b, worked on that part of the lent lists where it stands; of a whole list, from 1 to n.
+// Low and high of a stretch that is not refused, worked on that part of the lent lists where it stands.
+pub fn rate(
+    rule: Rule,
+    a: u64,
+    b: u64,
+    survival: &[u32],
+    weights: &[u16],
+    table: &mut [u64],
+) -> Ends
+    requires { ⌜ figuresRefusal (askedOf rule a b (now survival) (now weights)) (now table) ≡ 0 ⌝ }
+    ensures { λ r. ⌜ Worked (askedOf rule a b (now (survival .entry)) (now (weights .entry))) (now (table .entry)) (now (table .exit)) r ⌝ }
+{
+    let start = a as usize - 1;
+    let end = b as usize;
+    let rated = rated_weights(rule, survival.len(), weights, a, b);
+    worked(rule, &survival[start..end], rated, table)
+}
+
+// The figures of the stretch from component a to component b; of a whole list, from 1 to n.
 // Condition three of every range it answers: `figures-third` of rules/proofs/Accepted.
 pub fn figures(
     rule: Rule,
@@ -120,8 +140,8 @@ pub fn figures(
     if refused != 0 {
         return Rating::Refused(refused);
     }
-    let start = a as usize - 1;
-    let end = b as usize;
-    let rated = rated_weights(rule, survival.len(), weights, a, b);
-    answer(rule, &survival[start..end], rated, table)
+    let ends = rate(rule, a, b, survival, weights, table);
+    let low = ends.low;
+    let high = ends.high;
+    Rating::Range { low, high }
 }

@@ -15,10 +15,10 @@ use Rattle.rules.specs.Answer.{unless, Given, Judges, Rates, Counts}
 use Rattle.rules.proofs.Unless.{unless-some, unless-none}
 
 -- a case `Refused`, and a case that is none
-given-is : {A : Type 0} (refused : ℕ → A) (answer : A) (number refusal : ℕ) → Given number refusal → refused number ≡ unless refusal refused answer
+pub given-is : {A : Type 0} (refused : ℕ → A) (answer : A) (number refusal : ℕ) → Given number refusal → refused number ≡ unless refusal refused answer
 given-is refused answer number refusal g = ap refused (g .0) ∙ sym (unless-some refusal refused answer (λ z. omega (arith, g .1)))
 
-none-is : {A : Type 0} (refused : ℕ → A) (answer : A) {r : A} (refusal : ℕ) → refusal ≡ 0 → r ≡ answer → r ≡ unless refusal refused answer
+pub none-is : {A : Type 0} (refused : ℕ → A) (answer : A) {r : A} (refusal : ℕ) → refusal ≡ 0 → r ≡ answer → r ≡ unless refusal refused answer
 none-is refused answer refusal z e = e ∙ sym (unless-none refusal refused answer z)
 
 abbrev verdictBy : (refusal : ℕ) (failing : Bool) → Verdict

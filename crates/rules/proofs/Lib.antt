@@ -22,3 +22,5 @@ pub mod Seven
 pub mod Conditions
 pub mod Accepted
 pub mod Unread
+pub mod Differences
+pub mod Sure

@@ -1,0 +1,83 @@
+-- A fan's number replaced at the front of a longer copy, and the second rating on the table that the first has cleared: as long as it was, so
+-- refused as little, and cleared once more the same. Assumes nothing.
+use Prim.Native.Nat.{ℕ, suc, _+_, _-_, _≤_, _<_}
+use mathlib.Core.Path.{_≡_, refl, sym, ap, _∙_}
+use mathlib.Core.Bool.{Bool, true, false, cond}
+use mathlib.Core.List.{List, _++_}
+use native.Mathlib.Omega.{arith}
+use lib.Dec.{ltb}
+use lib.IntN.{subℕ}
+use lib.ListN.{length, take, drop, set, replicate, length-append, length-drop, length-replicate}
+use lib.Seq.{take-set-lt, drop-append-seam}
+use mir.Syntax.{w64}
+use mir.Val.{SFits}
+use borrow.Author.Tests.{not-false}
+use Rattle.rules.specs.State.{S}
+use Rattle.rules.specs.Figure.{figure}
+use Rattle.rules.specs.Asked.{Asked, lengthOf, partOf, weightsOf}
+use Rattle.rules.specs.Refusal.{most, cells, figuresRefusal}
+use Rattle.rules.specs.Answer.{cleared}
+use Rattle.rules.specs.Worth.{working, failing, badFan, worthRefusal}
+use Rattle.rules.proofs.Seven.{within-true}
+use Rattle.rules.proofs.Accepted.{first-same, none-first, in-stretch, figures-ratable}
+use Rattle.rules.proofs.Unless.{after-none}
+use Rattle.rules.proofs.Differences.{by-sign}
+use Rattle.rules.proofs.Sure.{after-first, sure-within}
+
+-- the number that stands at the fan's place of the copy's front
+pub front-replaced : (copy xs : List ℕ) (fan p : ℕ) → take (length xs) copy ≡ xs → fan - 1 < length xs → take (length xs) (set copy (fan - 1) p) ≡ set xs (fan - 1) p
+front-replaced copy xs fan p e h = take-set-lt (length xs) copy (fan - 1) p h ∙ ap (λ ys. set ys (fan - 1) p) e
+
+module _ (q : Asked) (table : List ℕ) (fan : ℕ) (none : figuresRefusal q table ≡ 0) where
+  -- a fan of the stretch is one of the list
+  pub placed : badFan q fan ≡ false → (1 ≤ fan) × (fan ≤ lengthOf q)
+  placed e =
+      let inside = within-true (q .a) fan (q .b) (not-false _ e) in
+      let h = in-stretch (q .a) (q .b) (lengthOf q) (figures-ratable q table none .0) in
+      (omega arith, omega arith)
+
+  pub listed : lengthOf q ≤ most
+  unfolding figuresRefusal
+  listed = within-true 1 (lengthOf q) most (not-false _ (none-first 1 _ _ (none-first 0 _ _ none .1) .0)) .1
+
+  abbrev room : cells ≤ length table
+  room = figures-ratable q table none .2 .room
+
+  cleared-length : length (cleared table) ≡ length table
+  cleared-length = simp (length-append, length-replicate, length-drop) (omega (arith, room))
+
+  pub cleared-accepted : figuresRefusal q (cleared table) ≡ 0
+  unfolding figuresRefusal
+  cleared-accepted =
+      first-same 1 _ _ _ _ refl (λ one. first-same 2 _ _ _ _ refl (λ two. first-same 3 _ _ _ _ refl (λ three. first-same 4 _ _ _ _ refl (λ four.
+      first-same 5 _ _ _ _ refl (λ five. first-same 6 _ _ _ _ refl (λ six. first-same 7 _ _ _ _ (ap (λ n. ltb n cells) cleared-length) (λ seven. refl)))))))
+      ∙ none
+
+pub cleared-again : (table : List ℕ) → cleared (cleared table) ≡ cleared table
+cleared-again table = ap (λ rest. replicate cells 0 ++ rest) (ap (λ n. drop n (cleared table)) (sym (length-replicate {A = ℕ} cells 0)) ∙ drop-append-seam (replicate cells 0) (drop cells table))
+
+-- ---- a worth that is not refused: neither rating is, and all four figures are within the unit
+
+module _ (q : Asked) (fan : ℕ) (table : List ℕ) (none : worthRefusal q fan table ≡ 0) where
+  pub accepted : figuresRefusal q table ≡ 0
+  accepted = after-first _ _ none
+
+  pub chosen : badFan q fan ≡ false
+  chosen = go (badFan q fan) (sym (after-none _ _ accepted) ∙ none)
+    where
+      go : (b : Bool) → _≡_ {A = ℕ} (cond b 17 0) 0 → b ≡ false
+      go true e = absurd (omega arith)
+      go false e = refl
+
+  pub second-accepted : figuresRefusal q (cleared table) ≡ 0
+  second-accepted = cleared-accepted q table fan accepted
+
+  pub works-within : (up : Bool) → figure up S (q .rule) (partOf (working fan q)) (weightsOf q) ≤ S
+  works-within = sure-within q table fan S accepted (omega arith)
+
+  pub fails-within : (up : Bool) → figure up S (q .rule) (partOf (failing fan q)) (weightsOf q) ≤ S
+  fails-within = sure-within q table fan 0 accepted (omega arith)
+
+-- the difference of two figures is a signed number of 64 bits
+pub less-fits : (a b : ℕ) → a ≤ S → b ≤ S → SFits w64 (subℕ a b)
+less-fits a b h k = by-sign (SFits w64) a b (λ l. record { sfits = omega arith }) (λ l. record { sfits = omega arith })

@@ -1,0 +1,106 @@
+// The worth of one fan: low and high with it sure to work, less high and low with it sure to fail.
+ghost use mathlib.Core.Path.{_≡_};
+ghost use Prim.Native.Nat.{_≤_};
+ghost use lib.IntN.{subℕ};
+ghost use lib.ListN.{length, take};
+ghost use Rattle.rules.specs.State.{S};
+ghost use Rattle.rules.specs.Asked.{askedOf};
+ghost use Rattle.rules.specs.Refusal.{most};
+ghost use Rattle.rules.specs.Worth.{sure, worthRefusal};
+ghost use Rattle.figures.specs.Outcome.{Worked};
+ghost use Rattle.worth.specs.Outcome.{Replaceable, Weighed};
+use places::Ends;
+use rules::Rule;
+use rules::Worth;
+use units::UNIT;
+
+// The fans of a list, at most.
+const MOST: usize = 64;
+
+// The refusals of the figures, then 17: the fan is outside the stretch.
+fn refusal(
+    rule: Rule,
+    a: u64,
+    b: u64,
+    fan: u64,
+    survival: &[u32],
+    weights: &[u16],
+    table: &[u64],
+) -> u64
+    ensures { λ r. ⌜ r ≡ worthRefusal (askedOf rule a b (now (survival .entry)) (now (weights .entry))) fan (now (table .entry)) ⌝ }
+{
+    let own = figures::refusal(rule, a, b, survival, weights, table);
+    if own != 0 {
+        return own;
+    }
+    if refusals::outside(a, fan, b) {
+        return 17;
+    }
+    0
+}
+
+// A copy of the survival numbers, and zeros behind them: the lent list is never written.
+fn copied(survival: &[u32]) -> [u32; MOST]
+    requires { ⌜ length (now survival) ≤ most ⌝ }
+    ensures { λ r. ⌜ take (length (now (survival .entry))) r ≡ now (survival .entry) ⌝ }
+{
+    let mut numbers = [0u32; MOST];
+    let mut i = 0;
+    while i < survival.len() {
+        numbers[i] = survival[i];
+        i += 1;
+    }
+    numbers
+}
+
+// Low and high with the fan's survival number replaced.
+fn rate_sure(
+    rule: Rule,
+    a: u64,
+    b: u64,
+    fan: u64,
+    p: u32,
+    survival: &[u32],
+    weights: &[u16],
+    table: &mut [u64],
+) -> Ends
+    requires { ⌜ Replaceable (askedOf rule a b (now survival) (now weights)) fan p (now table) ⌝ }
+    ensures { λ r. ⌜ Worked (sure fan p (askedOf rule a b (now (survival .entry)) (now (weights .entry)))) (now (table .entry)) (now (table .exit)) r ⌝ }
+{
+    let n = survival.len();
+    let mut numbers = copied(survival);
+    numbers[fan as usize - 1] = p;
+    figures::rate(rule, a, b, &numbers[..n], weights, table)
+}
+
+// The difference of two figures.
+fn less(a: u64, b: u64) -> i64
+    requires { ⌜ (a ≤ S) × (b ≤ S) ⌝ }
+    ensures { λ r. ⌜ r ≡ subℕ a b ⌝ }
+{
+    a as i64 - b as i64
+}
+
+// The worth of a fan of the stretch from component a to component b. The exact difference lies between its ends: `worth-between` of
+// rules/proofs/Sure.
+pub fn worth(
+    rule: Rule,
+    a: u64,
+    b: u64,
+    fan: u64,
+    survival: &[u32],
+    weights: &[u16],
+    table: &mut [u64],
+) -> Worth
+    ensures { λ r. ⌜ Weighed (askedOf rule a b (now (survival .entry)) (now (weights .entry))) fan (now (table .entry)) (now (table .exit)) r ⌝ }
+{
+    let refused = refusal(rule, a, b, fan, survival, weights, table);
+    if refused != 0 {
+        return Worth::Refused(refused);
+    }
+    let works = rate_sure(rule, a, b, fan, UNIT as u32, survival, weights, table);
+    let fails = rate_sure(rule, a, b, fan, 0, survival, weights, table);
+    let lower = less(works.low, fails.high);
+    let upper = less(works.high, fails.low);
+    Worth::Ends { lower, upper }
+}
