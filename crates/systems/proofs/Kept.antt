@@ -1,4 +1,4 @@
--- The deck that the reader hands on for a file: the system at a place can be rated, and answers as the file's system does. Assumes nothing.
+-- The deck that the reader hands on for a file: the system at a place can be rated, and answers as the file's system does, and its fans are worth as much. Assumes nothing.
 use mathlib.Core.Path.{_≡_, ap, ap₂, _∙_}
 use mathlib.Core.List.{List}
 use Prim.Native.Nat.{ℕ, _<_}
@@ -7,12 +7,13 @@ use lib.ListN.{getD, replicate, length-append}
 use Rattle.rules.specs.Asked.{askedOf}
 use Rattle.rules.specs.Refusal.{cells}
 use Rattle.rules.specs.Answer.{figuresOf}
-use Rattle.rules.specs.File.{countIn, deckIn, fileRefusal, systemOf, answerIn}
+use Rattle.rules.specs.Worth.{worthOf}
+use Rattle.rules.specs.File.{countIn, deckIn, fileRefusal, systemOf, systemWorth, answerIn, worthIn}
 use Rattle.rules.proofs.Lists.{below-length}
 use Rattle.deck.specs.Read.{padded, noSystem, keptDeck}
 use Rattle.deck.proofs.Kept.{kept-survival, kept-weights, kept-system}
 use Rattle.deck.proofs.Sound.{sound}
-use Rattle.systems.specs.Arrays.{answerAt, Held}
+use Rattle.systems.specs.Arrays.{answerAt, worthAt, Held}
 
 module _ (bytes : List ℕ) (s : ℕ) where
   pub kept-answer : s < countIn bytes → answerAt (keptDeck bytes) s ≡ answerIn bytes s
@@ -21,6 +22,13 @@ module _ (bytes : List ℕ) (s : ℕ) where
       let y = getD (keptDeck bytes .systems) s noSystem in
       ap₂ (λ xs ws. figuresOf (askedOf (y .rule) (y .a) (y .b) xs ws) (replicate cells 0)) (kept-survival bytes) (kept-weights bytes)
       ∙ ap (systemOf (deckIn bytes)) (kept-system bytes noSystem s h)
+
+  pub kept-worth : (fan : ℕ) → s < countIn bytes → worthAt (keptDeck bytes) s fan ≡ worthIn bytes s fan
+  unfolding worthAt systemWorth keptDeck
+  kept-worth fan h =
+      let y = getD (keptDeck bytes .systems) s noSystem in
+      ap₂ (λ xs ws. worthOf (askedOf (y .rule) (y .a) (y .b) xs ws) fan (replicate cells 0)) (kept-survival bytes) (kept-weights bytes)
+      ∙ ap (λ z. systemWorth (deckIn bytes) z fan) (kept-system bytes noSystem s h)
 
   pub kept-held : fileRefusal bytes ≡ 0 → s < countIn bytes → Held (keptDeck bytes) s
   unfolding keptDeck deckIn padded

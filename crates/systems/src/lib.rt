@@ -1,14 +1,16 @@
-// The figures of a system of a deck.
+// The figures of a system of a deck, and the worth of a fan to it.
 ghost use mathlib.Core.Path.{_≡_};
 ghost use lib.ListN.{replicate};
 ghost use Rattle.rules.specs.Asked.{askedOf};
 ghost use Rattle.rules.specs.Refusal.{cells};
 ghost use Rattle.rules.specs.Answer.{figuresOf};
-ghost use Rattle.systems.specs.Arrays.{answerAt, Held};
+ghost use Rattle.rules.specs.Worth.{worthOf};
+ghost use Rattle.systems.specs.Arrays.{answerAt, worthAt, Held};
 use cells::CELLS;
 use deck::Deck;
 use rules::Rating;
 use rules::System;
+use rules::Worth;
 
 // A system's figures over a deck's lists, in a working table of the call's own.
 fn rate_lists(system: System, survival: &[u32], weights: &[u16]) -> Rating
@@ -29,4 +31,33 @@ pub fn rate_system(deck: Deck, s: usize) -> Rating
     let weights = deck.weights;
     let system = deck.systems[s];
     rate_lists(system, &survival[..n], &weights[..n])
+}
+
+// The worth of a fan over a deck's lists, likewise.
+fn weigh_lists(system: System, fan: u64, survival: &[u32], weights: &[u16]) -> Worth
+    ensures { λ r. ⌜ r ≡ worthOf (askedOf (system .rule) (system .a) (system .b) (now (survival .entry)) (now (weights .entry))) fan (replicate cells 0) ⌝ }
+{
+    let mut table = [0u64; CELLS];
+    let rule = system.rule;
+    worth::worth(
+        rule,
+        system.a,
+        system.b,
+        fan,
+        survival,
+        weights,
+        &mut table,
+    )
+}
+
+// The worth of a fan to the system at a place of a deck, counted from 0.
+pub fn worth_system(deck: Deck, s: usize, fan: u64) -> Worth
+    requires { ⌜ Held deck s ⌝ }
+    ensures { λ r. ⌜ r ≡ worthAt deck s fan ⌝ }
+{
+    let n = deck.fans as usize;
+    let survival = deck.survival;
+    let weights = deck.weights;
+    let system = deck.systems[s];
+    weigh_lists(system, fan, &survival[..n], &weights[..n])
 }
