@@ -1,27 +1,44 @@
--- What a file and a system number answer, case by case. Assumes nothing.
-use mathlib.Core.Path.{_≡_, _∙_}
-use mathlib.Core.Bool.{true, false}
+-- What a file and a system number answer: the file's refusal, then 14, and past both the system's own answer, figures or worth alike. By the cases of
+-- the two refusals. Assumes nothing.
+use mathlib.Core.Path.{_≡_, refl, sym, _∙_}
+use mathlib.Core.Bool.{Bool, true, false, cond}
 use mathlib.Core.List.{List}
-use Prim.Native.Nat.{ℕ, _-_, _<_}
+use Prim.Native.Nat.{ℕ, zero, suc, _-_, _≤_, _<_}
 use native.Mathlib.Omega.{arith}
 use borrow.Author.Tests.{not-false}
-use Rattle.rules.specs.declared.Rating.the-variants.{Refused}
-use Rattle.rules.specs.File.{countIn, fileRefusal, answerIn, badNumber, loadingOf}
+use Rattle.rules.specs.Refusal.{after}
+use Rattle.rules.specs.Answer.{unless}
+use Rattle.rules.specs.File.{countIn, fileRefusal, badNumber}
 use Rattle.rules.proofs.Seven.{within-true}
-use Rattle.rules.proofs.Unless.{unless-some, unless-none}
+use Rattle.loading.specs.Outcome.{openRefusal}
+
+both-refusals : {A : Type 0} (refused : ℕ → A) (answer : A) (r : ℕ) (b : Bool)
+    → unless r refused (cond b (refused 14) answer) ≡ unless (after r (cond b 14 0)) refused answer
+unfolding unless after
+both-refusals refused answer zero true = refl
+both-refusals refused answer zero false = refl
+both-refusals refused answer (suc r) b = refl
+
+neither : (r : ℕ) (b : Bool) → after r (cond b 14 0) ≡ 0 → (r ≡ 0) × (b ≡ false)
+unfolding after
+neither zero true e = absurd (omega arith)
+neither zero false e = (refl, refl)
+neither (suc r) b e = absurd (omega arith)
 
 module _ (bytes : List ℕ) (s : ℕ) where
-  pub loading-refused : (fileRefusal bytes ≡ 0 → ⊥) → loadingOf bytes s ≡ Refused (fileRefusal bytes)
-  unfolding loadingOf
-  loading-refused h = unless-some _ _ _ h
+  pub opened-answer : {A : Type 0} (refused : ℕ → A) (answer : A)
+      → unless (fileRefusal bytes) refused (cond (badNumber bytes s) (refused 14) answer) ≡ unless (openRefusal bytes s) refused answer
+  unfolding openRefusal
+  opened-answer refused answer = both-refusals refused answer (fileRefusal bytes) (badNumber bytes s)
 
-  pub numbered : badNumber bytes s ≡ false → s - 1 < countIn bytes
-  numbered h = let l = within-true 1 s (countIn bytes) (not-false _ h) in omega arith
+  module _ (none : openRefusal bytes s ≡ 0) where
+    pub open-file : fileRefusal bytes ≡ 0
+    unfolding openRefusal
+    open-file = neither (fileRefusal bytes) (badNumber bytes s) none .0
 
-  pub loading-outside : fileRefusal bytes ≡ 0 → badNumber bytes s ≡ true → loadingOf bytes s ≡ Refused 14
-  unfolding loadingOf
-  loading-outside e h = unless-none _ _ _ e ∙ rw h
-
-  pub loading-answer : fileRefusal bytes ≡ 0 → badNumber bytes s ≡ false → loadingOf bytes s ≡ answerIn bytes (s - 1)
-  unfolding loadingOf
-  loading-answer e h = unless-none _ _ _ e ∙ rw h
+    -- the number is one of the file's
+    pub numbered : (1 ≤ s) × (s - 1 < countIn bytes)
+    unfolding openRefusal
+    numbered =
+        let l = within-true 1 s (countIn bytes) (not-false _ (neither (fileRefusal bytes) (badNumber bytes s) none .1)) in
+        (l .0, omega (arith, l))

@@ -1,3 +1,4 @@
--- The laws of the loading computer's call: each answer of a file, and that one number carries it.
+-- The laws of the loading computer's calls: each answer of a file, that one number carries its figures, and the ends of a worth.
 pub mod Answers
 pub mod Packed
+pub mod Told

@@ -1,8 +1,36 @@
--- What the loading computer's call answers: the number of the file's system.
+-- What the loading computer's calls answer: the number of the file's system; the worth of one of its fans, and the ends afterwards.
 use mathlib.Core.Path.{_≡_}
-use mathlib.Core.List.{List}
+use mathlib.Core.Bool.{cond}
+use mathlib.Core.List.{List, [], _∷_}
 use Prim.Native.Nat.{ℕ}
-use Rattle.rules.specs.File.{packed, loadingOf}
+use lib.IntN.{ℤ}
+use Rattle.rules.specs.declared.Worth.{Worth}
+use Rattle.rules.specs.declared.Worth.the-variants.{Ends, Refused}
+use Rattle.rules.specs.Refusal.{after}
+use Rattle.rules.specs.File.{fileRefusal, badNumber, packed, loadingOf, worthLoadingOf}
+use Rattle.deck.specs.declared.Read.{Read}
+use Rattle.deck.specs.Read.{keptDeck}
 
 pub record Answered (file : List ℕ) (system r : ℕ) : Type 0 where
   pub number : r ≡ packed (loadingOf file system)
+
+-- "answering 0 or the refusal", "nothing written on a refusal"
+abbrev pub numberOf : Worth → ℕ
+numberOf (Ends lower upper) = 0
+numberOf (Refused number) = number
+
+abbrev pub endsAfter : Worth → List ℤ → List ℤ
+endsAfter (Ends lower upper) ends = lower ∷ upper ∷ []
+endsAfter (Refused number) ends = ends
+
+pub record Told (file : List ℕ) (system fan : ℕ) (e₀ e : List ℤ) (r : ℕ) : Type 0 where
+  pub number : r ≡ numberOf (worthLoadingOf file system fan)
+  pub ends : e ≡ endsAfter (worthLoadingOf file system fan) e₀
+
+-- a file's own refusal, then 14
+unfoldable pub openRefusal : List ℕ → ℕ → ℕ
+openRefusal bytes s = after (fileRefusal bytes) (cond (badNumber bytes s) 14 0)
+
+pub record Opened (bytes : List ℕ) (s : ℕ) (r : Read) : Type 0 where
+  pub refusal : r .refusal ≡ openRefusal bytes s
+  pub deck : r .refusal ≡ 0 → r .deck ≡ keptDeck bytes

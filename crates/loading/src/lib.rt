@@ -1,18 +1,20 @@
-// The loading computer's call: a deck file's bytes and a system number in, one 64-bit number out.
+// The loading computer's calls: a deck file's bytes and a system number in, its figures as one 64-bit number out; with a fan, its worth.
 ghost use mathlib.Core.Path.{_≡_};
-ghost use Rattle.rules.specs.File.{packed, loadingOf};
-ghost use Rattle.loading.specs.Outcome.{Answered};
+ghost use Rattle.rules.specs.File.{packed, loadingOf, worthLoadingOf};
+ghost use Rattle.loading.specs.Outcome.{Opened, Answered, Told};
 ghost use Rattle.loading.specs.Packing.{Packable};
+use deck::Read;
 use rules::Rating;
+use rules::Worth;
 
 // The numbers that half of the answer holds, and what a refusal's number is added to.
 const HALF_WORD: u64 = 4294967296;
 
 const REFUSED: u64 = (HALF_WORD - 1) * HALF_WORD;
 
-// The answer for a file's system, counted from 1: the file's refusal, then 14, then the system's own.
-fn rate_file(file: &[u8], system: u64) -> Rating
-    ensures { λ r. ⌜ r ≡ loadingOf (now (file .entry)) system ⌝ }
+// The deck of a file, or its refusal: the file's own, then 14 for a system that it does not have.
+fn opened(file: &[u8], system: u64) -> Read
+    ensures { λ r. ⌜ Opened (now (file .entry)) system r ⌝ }
 {
     let read = deck::read_deck(file);
     let refusal = read.refusal;
@@ -20,12 +22,34 @@ fn rate_file(file: &[u8], system: u64) -> Rating
     let refused = refusal != 0;
     let outside = refusals::outside(1, system, deck.count);
     if refused {
-        return Rating::Refused(refusal);
+        return Read { refusal, deck };
     }
     if outside {
-        return Rating::Refused(14);
+        return Read { refusal: 14, deck };
     }
-    systems::rate_system(deck, (system - 1) as usize)
+    Read { refusal: 0, deck }
+}
+
+// The answer for a file's system, counted from 1: the file's refusal, then 14, then the system's own.
+fn rate_file(file: &[u8], system: u64) -> Rating
+    ensures { λ r. ⌜ r ≡ loadingOf (now (file .entry)) system ⌝ }
+{
+    let read = opened(file, system);
+    if read.refusal != 0 {
+        return Rating::Refused(read.refusal);
+    }
+    systems::rate_system(read.deck, (system - 1) as usize)
+}
+
+// The worth of a fan to it, likewise, then 17.
+fn weigh_file(file: &[u8], system: u64, fan: u64) -> Worth
+    ensures { λ r. ⌜ r ≡ worthLoadingOf (now (file .entry)) system fan ⌝ }
+{
+    let read = opened(file, system);
+    if read.refusal != 0 {
+        return Worth::Refused(read.refusal);
+    }
+    systems::worth_system(read.deck, (system - 1) as usize, fan)
 }
 
 // An answer as one number: low times 2^32 plus high, or (2^32 - 1) times 2^32 plus the refusal.
@@ -45,4 +69,20 @@ pub extern "C" fn foambeetle_rate(file: &[u8], system: u64) -> u64
     ensures { λ r. ⌜ Answered (now (file .entry)) system r ⌝ }
 {
     pack(rate_file(file, system))
+}
+
+// What the C program calls for the worth of a fan:
+// `uint64_t foambeetle_worth(const uint8_t *file, size_t length, uint64_t system, uint64_t fan, int64_t ends[2])`. It answers 0 and writes both
+// ends, or the refusal and writes nothing.
+#[no_mangle]
+pub extern "C" fn foambeetle_worth(file: &[u8], system: u64, fan: u64, ends: &mut [i64; 2]) -> u64
+    ensures { λ r. ⌜ Told (now (file .entry)) system fan (now (ends .entry)) (now (ends .exit)) r ⌝ }
+{
+    match weigh_file(file, system, fan) {
+        Worth::Ends { lower, upper } => {
+            *ends = [lower, upper];
+            0
+        }
+        Worth::Refused(number) => number,
+    }
 }

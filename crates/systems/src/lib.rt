@@ -39,15 +39,7 @@ fn weigh_lists(system: System, fan: u64, survival: &[u32], weights: &[u16]) -> W
 {
     let mut table = [0u64; CELLS];
     let rule = system.rule;
-    worth::worth(
-        rule,
-        system.a,
-        system.b,
-        fan,
-        survival,
-        weights,
-        &mut table,
-    )
+    worth::worth(rule, system.a, system.b, fan, survival, weights, &mut table)
 }
 
 // The worth of a fan to the system at a place of a deck, counted from 0.

@@ -3,74 +3,48 @@ use mathlib.Core.Path.{sym, ap, _∙_}
 use Prim.Native.Nat.{_-_}
 use native.Mathlib.Omega.{arith}
 use borrow.Author.Needs.{needs}
-use borrow.Author.Tests.{eqb-true, eqb-false, not-true, not-false}
 use Rattle.rules.specs.declared.Rating.the-variants.{Refused}
-use Rattle.rules.proofs.Seven.{within-true}
-use Rattle.deck.specs.Read.{keptDeck}
-use Rattle.deck.proofs.Kept.{read-none, read-deck}
+use Rattle.rules.specs.File.{loadingOf}
+use Rattle.rules.proofs.Unless.{unless-none, unless-some}
 use Rattle.systems.specs.Arrays.{answerAt}
 use Rattle.systems.proofs.Kept.{kept-answer, kept-held}
-use Rattle.loading.proofs.Answers.{numbered, loading-refused, loading-outside, loading-answer}
+use Rattle.loading.proofs.Answers.{opened-answer, open-file, numbered}
 use Rattle.loading.proofs.rate_file.Statement.{statement}
 use Rattle.loading.proofs.rate_file.Tie as tie
 
-read-deck-requires : tie.Need-read-deck-requires
-read-deck-requires c κs = search needs
-
-outside-requires : tie.Need-outside-requires
-outside-requires c κs = search needs
+opened-requires : tie.Need-opened-requires
+opened-requires c κs = search needs
 
 returns : tie.Need-returns
+unfolding loadingOf
 returns c =
-    let a = c .before .before .before .before .before .args in
-    let is = c .before .before .before .read-deck .ensures .refusal in
-    ap Refused is ∙ sym (loading-refused (a .file .now) (a .system) (λ none. eqb-false _ _ (not-true _ (c .if1 .taken)) (is ∙ none)))
+    let x = c .before .before .before .before .args in
+    let is = c .before .before .opened .ensures .refusal in
+    ap Refused is ∙ sym (opened-answer (x .file .now) (x .system) Refused _ ∙ unless-some _ _ _ (λ none. c .if1 .taken (is ∙ none)))
 
-returns-2 : tie.Need-returns-2
-unfolding keptDeck
-returns-2 c =
-    let read = c .before .before .before .before .read-deck .ensures in
-    let left = eqb-true _ _ (not-false _ (c .before .if1 .left)) in
-    let outside = rw (read-deck _ _ read left) at (sym (c .before .before .outside .ensures) ∙ c .if2 .taken) in
-    sym (loading-outside _ _ (read-none _ _ read left) outside)
-
--- past both tests the number is one of the file's
 sub-rate-system : tie.Need-sub-rate-system
 sub-rate-system c =
-    let inside = within-true 1 (c .before .before .before .before .before .before .args .system) _ (not-false _ (sym (c .before .before .outside .ensures) ∙ c .if2 .left)) in
-    omega (arith, inside .0)
+    let none = sym (c .before .before .opened .ensures .refusal) ∙ c .if1 .left in
+    omega (arith, numbered _ _ none .0)
 
 rate-system-requires : tie.Need-rate-system-requires
-unfolding keptDeck
 rate-system-requires c κs =
-    let read = c .before .before .before .before .read-deck .ensures in
-    let left = eqb-true _ _ (not-false _ (c .before .if1 .left)) in
-    let deck = read-deck _ _ read left in
-    let inside = rw deck at (sym (c .before .before .outside .ensures) ∙ c .if2 .left) in
-    let a = c .before .before .before .before .before .before .args in
-    rw deck (kept-held _ _ (read-none _ _ read left) (numbered (a .file .now) (a .system) inside))
+    let read = c .before .before .opened .ensures in
+    let none = sym (read .refusal) ∙ c .if1 .left in
+    rw (read .deck (c .if1 .left)) (kept-held _ _ (open-file _ _ none) (numbered _ _ none .1))
 
-returns-3 : tie.Need-returns-3
-unfolding keptDeck
-returns-3 c =
-    let read = c .before .before .before .before .before .read-deck .ensures in
-    let left = eqb-true _ _ (not-false _ (c .before .before .if1 .left)) in
-    let deck = read-deck _ _ read left in
-    let inside = rw deck at (sym (c .before .before .before .outside .ensures) ∙ c .before .if2 .left) in
-    let a = c .before .before .before .before .before .before .before .args in
+returns-2 : tie.Need-returns-2
+unfolding loadingOf
+returns-2 c =
+    let read = c .before .before .before .opened .ensures in
+    let left = c .before .if1 .left in
+    let none = sym (read .refusal) ∙ left in
+    let s = c .before .before .before .before .before .args .system in
     c .rate-system .ensures
-    ∙ ap (λ d. answerAt d (a .system - 1)) deck
-    ∙ kept-answer _ _ (numbered (a .file .now) (a .system) inside)
-    ∙ sym (loading-answer _ _ (read-none _ _ read left) inside)
+    ∙ ap (λ d. answerAt d (s - 1)) (read .deck left)
+    ∙ kept-answer _ _ (numbered _ _ none .1)
+    ∙ sym (opened-answer _ _ Refused _ ∙ unless-none _ _ _ none)
 
 pub rate-file-spec : {M : Type 1} → statement M
 rate-file-spec =
-    tie.close
-    (tie.spec
-    read-deck-requires
-    outside-requires
-    returns
-    returns-2
-    sub-rate-system
-    rate-system-requires
-    returns-3)
+    tie.close (tie.spec opened-requires returns sub-rate-system rate-system-requires returns-2)

@@ -1,0 +1,11 @@
+-- The worth's call: its contract settles its outcome. Assumes nothing.
+use mathlib.Core.Path.{_≡_, sym, _∙_}
+use mathlib.Core.List.{List}
+use Prim.Native.Nat.{ℕ}
+use lib.IntN.{ℤ}
+use Rattle.loading.specs.Outcome.{Told}
+
+-- any two outcomes that the contract allows are equal
+pub same-told : {file : List ℕ} {system fan : ℕ} {e₀ e e' : List ℤ} {r r' : ℕ} → Told file system fan e₀ e r → Told file system fan e₀ e' r'
+    → (r ≡ r') × (e ≡ e')
+same-told p q = (p .number ∙ sym (q .number), p .ends ∙ sym (q .ends))
