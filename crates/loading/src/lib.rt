@@ -1,7 +1,7 @@
 // The loading computer's calls: a deck file's bytes and a system number in, its figures as one 64-bit number out; with a fan, its worth.
 ghost use mathlib.Core.Path.{_≡_};
 ghost use Rattle.rules.specs.File.{packed, loadingOf, worthLoadingOf};
-ghost use Rattle.loading.specs.Outcome.{Opened, Answered, Told};
+ghost use Rattle.loading.specs.Outcome.{Opened, Answered, numberOf, endsAfter, Told};
 ghost use Rattle.loading.specs.Packing.{Packable};
 use deck::Read;
 use rules::Rating;
@@ -71,18 +71,25 @@ pub extern "C" fn foambeetle_rate(file: &[u8], system: u64) -> u64
     pack(rate_file(file, system))
 }
 
-// What the C program calls for the worth of a fan:
-// `uint64_t foambeetle_worth(const uint8_t *file, size_t length, uint64_t system, uint64_t fan, int64_t ends[2])`. It answers 0 and writes both
-// ends, or the refusal and writes nothing.
-#[no_mangle]
-pub extern "C" fn foambeetle_worth(file: &[u8], system: u64, fan: u64, ends: &mut [i64; 2]) -> u64
-    ensures { λ r. ⌜ Told (now (file .entry)) system fan (now (ends .entry)) (now (ends .exit)) r ⌝ }
+// A worth as C gets it: 0 and both ends, or the refusal and the ends as they were.
+pub fn tell(worth: Worth, ends: &mut [i64; 2]) -> u64
+    ensures number { λ r. ⌜ r ≡ numberOf worth ⌝ }
+    ensures ends { λ r. ⌜ now (ends .exit) ≡ endsAfter worth (now (ends .entry)) ⌝ }
 {
-    match weigh_file(file, system, fan) {
+    match worth {
         Worth::Ends { lower, upper } => {
             *ends = [lower, upper];
             0
         }
         Worth::Refused(number) => number,
     }
+}
+
+// What the C program calls for the worth of a fan:
+// `uint64_t foambeetle_worth(const uint8_t *file, size_t length, uint64_t system, uint64_t fan, int64_t ends[2])`.
+#[no_mangle]
+pub extern "C" fn foambeetle_worth(file: &[u8], system: u64, fan: u64, ends: &mut [i64; 2]) -> u64
+    ensures { λ r. ⌜ Told (now (file .entry)) system fan (now (ends .entry)) (now (ends .exit)) r ⌝ }
+{
+    tell(weigh_file(file, system, fan), ends)
 }

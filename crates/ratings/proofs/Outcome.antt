@@ -1,9 +1,14 @@
--- Two outcomes of the rating for C are one. Assumes nothing.
+-- Two outcomes of the rating and of the worth for C are one. Assumes nothing.
 use mathlib.Core.Path.{_≡_, sym, _∙_}
 use mathlib.Core.List.{List}
+use lib.IntN.{ℤ}
 use Prim.Native.Nat.{ℕ}
 use Rattle.rules.specs.Asked.{Asked}
-use Rattle.ratings.specs.Outcome.{Timed}
+use Rattle.ratings.specs.Outcome.{Timed, TimedWorth}
 
 pub same-timed : {q : Asked} {t₀ t t' : List ℕ} {r r' : ℕ} → Timed q t₀ t r → Timed q t₀ t' r' → (r ≡ r') × (t ≡ t')
 same-timed p q = (p .answer ∙ sym (q .answer), p .table ∙ sym (q .table))
+
+pub same-timed-worth : {q : Asked} {fan : ℕ} {t₀ t t' : List ℕ} {e₀ e e' : List ℤ} {r r' : ℕ} → TimedWorth q fan t₀ t e₀ e r → TimedWorth q fan t₀ t' e₀ e' r'
+    → (r ≡ r') × (t ≡ t') × (e ≡ e')
+same-timed-worth p q = (p .number ∙ sym (q .number), p .table ∙ sym (q .table), p .ends ∙ sym (q .ends))

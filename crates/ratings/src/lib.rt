@@ -1,5 +1,5 @@
-// The figures for C, in a working table that C lends: what the benchmark times.
-ghost use Rattle.ratings.specs.Outcome.{Timed};
+// The figures and the worth for C, in a working table that C lends: what the benchmark times.
+ghost use Rattle.ratings.specs.Outcome.{Timed, TimedWorth};
 ghost use Rattle.rules.specs.Asked.{askedOf};
 ghost use Rattle.rules.specs.State.{ruleOf};
 use rules::Rule;
@@ -25,4 +25,32 @@ pub extern "C" fn foambeetle_figures(
         second,
     };
     loading::pack(figures::figures(rule, a, b, survival, weights, table))
+}
+
+// The worth of a fan, likewise. In C: `uint64_t foambeetle_worth_of(uint64_t kind, uint64_t first, uint64_t second, uint64_t a, uint64_t b, uint64_t fan,
+// const uint32_t *survival, size_t n, const uint16_t *weights, size_t weighed, uint64_t *table, size_t cells, int64_t ends[2])`.
+#[no_mangle]
+pub extern "C" fn foambeetle_worth_of(
+    kind: u64,
+    first: u64,
+    second: u64,
+    a: u64,
+    b: u64,
+    fan: u64,
+    survival: &[u32],
+    weights: &[u16],
+    table: &mut [u64],
+    ends: &mut [i64; 2],
+) -> u64
+    ensures { λ r. ⌜ TimedWorth (askedOf (ruleOf kind first second) a b (now (survival .entry)) (now (weights .entry))) fan (now (table .entry)) (now (table .exit)) (now (ends .entry)) (now (ends .exit)) r ⌝ }
+{
+    let rule = Rule {
+        kind,
+        first,
+        second,
+    };
+    loading::tell(
+        worth::worth(rule, a, b, fan, survival, weights, table),
+        ends,
+    )
 }

@@ -1,0 +1,26 @@
+-- `ratings::foambeetle_worth_of` meets its contract: the worth is told. Assumes nothing.
+use mathlib.Core.Path.{ap, _∙_}
+use borrow.Author.Needs.{needs}
+use Rattle.worth.proofs.Outcome.{worth-is}
+use Rattle.loading.specs.Outcome.{numberOf, endsAfter}
+use Rattle.ratings.proofs.foambeetle_worth_of.Statement.{statement}
+use Rattle.ratings.proofs.foambeetle_worth_of.Tie as tie
+
+worth-requires : tie.Need-worth-requires
+worth-requires c κs = search needs
+
+tell-requires : tie.Need-tell-requires
+tell-requires c κs = search needs
+
+same-length : tie.Need-same-length
+same-length c = search needs
+
+returns : tie.Need-returns
+returns c =
+    let e = c .before .before .before .before .worth .ensures in
+    let told = c .tell .ensures in
+    let x = c .before .before .before .before .before .before .before .before .before .args in
+    record { number = told .0 ∙ ap numberOf (worth-is e); table = e .table; ends = told .1 ∙ ap (λ w. endsAfter w (x .ends .now)) (worth-is e) }
+
+pub foambeetle-worth-of-spec : {M : Type 1} → statement M
+foambeetle-worth-of-spec = tie.close (tie.spec worth-requires tell-requires same-length returns)
