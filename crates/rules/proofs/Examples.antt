@@ -1,13 +1,17 @@
--- Document 01, "Proved examples": A to K as one table, and one theorem that every row of it holds, computed by the checker. Assumes nothing.
+-- Document 01, "Proved examples": A to K as one table, and one theorem that every row of it holds, computed by the checker; and a
+-- second one, of worths, which document 01 does not know. Assumes nothing.
 use mathlib.Core.Path.{_≡_, refl}
 use mathlib.Core.List.{List, [], _∷_}
-use Prim.Native.Nat.{ℕ}
+use Prim.Native.Nat.{ℕ, suc, _^_}
 use lib.Count.{ones}
 use Rattle.rules.specs.declared.Rule.{Rule}
 use Rattle.rules.specs.declared.Verdict.{Verdict}
 use Rattle.rules.specs.declared.Verdict.the-variants.{Works, Fails}
 use Rattle.rules.specs.declared.Rating.{Rating}
 use Rattle.rules.specs.declared.Rating.the-variants.{Range}
+use Rattle.rules.specs.declared.Worth.{Worth}
+use Rattle.rules.specs.declared.Worth.the-variants as worth
+use Rattle.rules.specs.declared.Worth.the-variants.{Ends}
 use Rattle.rules.specs.Below.{sumBelow, held, some, listBelow, total}
 use Rattle.rules.specs.State.{S, ruleOf, numberOf}
 use Rattle.rules.specs.Verdict.{weightDown, someWindow, fails}
@@ -16,8 +20,10 @@ use Rattle.rules.specs.Memory.{moved, ended, readingOf}
 use Rattle.rules.specs.Figure.{rounded, value}
 use Rattle.rules.specs.Stretch.{stretch}
 use Rattle.rules.specs.Asked.{askedOf}
-use Rattle.rules.specs.Refusal.{cells, aboveUnit, weightsOut, ranged, firstOf, verdictRefusal, figuresRefusal}
+use Rattle.rules.specs.Refusal.{cells, after, aboveUnit, weightsOut, ranged, firstOf, verdictRefusal, figuresRefusal}
 use Rattle.rules.specs.Answer.{unless, verdictOf, figuresOf}
+use Rattle.rules.specs.Worth.{worthOf}
+use lib.IntN.{pos, negℤ}
 use lib.ListN.{length, replicate}
 
 -- a count table, the verdict on a word, or the figures of a list
@@ -52,6 +58,24 @@ table =
     ∷ figures (ruleOf 1 2 0) (1 ∷ 1 ∷ []) (Range 1 2)  -- J
     ∷ figures (ruleOf 1 1 0) (S ∷ []) (Range S S)  -- K
     ∷ []
+
+-- request 06, worked by hand. Four fans at 1/2, 1/4, 1/2 and above the unit; both of fans 2 and 3 must work, so each is worth the other's chance. Fans at
+-- both ends of the stretch are answered, those beside it are not, and the number of one outside is not read. The last: a fan whose failing is wanted.
+abbrev four : List ℕ
+four = 2 ^ 29 ∷ 2 ^ 28 ∷ 2 ^ 29 ∷ suc S ∷ []
+
+abbrev pub weighed : (rule : Rule) (a b : ℕ) (survival : List ℕ) (fan : ℕ) → Worth
+weighed rule a b survival fan = worthOf (askedOf rule a b survival []) fan (replicate cells 0)
+
+pub worths : (weighed (ruleOf 1 1 0) 2 3 four 2 ≡ Ends (pos (2 ^ 29)) (pos (2 ^ 29)))
+    × (weighed (ruleOf 1 1 0) 2 3 four 3 ≡ Ends (pos (2 ^ 28)) (pos (2 ^ 28)))
+    × (weighed (ruleOf 1 1 0) 2 3 four 1 ≡ worth.Refused 17)
+    × (weighed (ruleOf 1 1 0) 2 3 four 4 ≡ worth.Refused 17)
+    × (weighed (ruleOf 1 1 0) 2 4 four 4 ≡ worth.Refused 4)
+    × (weighed (ruleOf 1 3 0) 2 3 four 4 ≡ worth.Refused 6)
+    × (weighed (ruleOf 3 0 0) 1 1 four 1 ≡ Ends (negℤ (pos S)) (negℤ (pos S)))
+unfolding sumBelow held some listBelow total numberOf someWindow fails weightDown ones moved ended readingOf rounded value stretch aboveUnit weightsOut ranged firstOf after figuresRefusal unless worthOf
+worths = (refl, refl, refl, refl, refl, refl, refl)
 
 pub examples : All table
 unfolding All Holds table sumBelow held some listBelow total numberOf someWindow fails weightDown ones countIf countsOf moved ended readingOf rounded value stretch aboveUnit weightsOut ranged firstOf verdictRefusal figuresRefusal unless verdictOf figuresOf

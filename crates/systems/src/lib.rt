@@ -37,7 +37,7 @@ pub fn rate_system(deck: Deck, s: usize) -> Rating
 fn weigh_lists(system: System, fan: u64, survival: &[u32], weights: &[u16]) -> Worth
     ensures { λ r. ⌜ r ≡ worthOf (askedOf (system .rule) (system .a) (system .b) (now (survival .entry)) (now (weights .entry))) fan (replicate cells 0) ⌝ }
 {
-    let mut table = [0u64; CELLS];
+    let mut working = [0u64; CELLS];
     let rule = system.rule;
     worth::worth(rule, system.a, system.b, fan, survival, weights, &mut table)
 }
@@ -47,9 +47,9 @@ pub fn worth_system(deck: Deck, s: usize, fan: u64) -> Worth
     requires { ⌜ Held deck s ⌝ }
     ensures { λ r. ⌜ r ≡ worthAt deck s fan ⌝ }
 {
-    let n = deck.fans as usize;
+    let fans = deck.fans as usize;
     let survival = deck.survival;
     let weights = deck.weights;
     let system = deck.systems[s];
-    weigh_lists(system, fan, &survival[..n], &weights[..n])
+    weigh_lists(system, fan, &survival[..fans], &weights[..fans])
 }

@@ -30,10 +30,12 @@ fn refusal(
     ensures { λ r. ⌜ r ≡ worthRefusal (askedOf rule a b (now (survival .entry)) (now (weights .entry))) fan (now (table .entry)) ⌝ }
 {
     let own = figures::refusal(rule, a, b, survival, weights, table);
-    if own != 0 {
+    let refused = own != 0;
+    let outside = refusals::outside(a, fan, b);
+    if refused {
         return own;
     }
-    if refusals::outside(a, fan, b) {
+    if outside {
         return 17;
     }
     0

@@ -2,6 +2,7 @@
 use borrow.Author.Needs.{needs}
 use mathlib.Core.Path.{sym, ap, _∙_}
 use mathlib.Core.Bool.{cond}
+use borrow.Author.Tests.{eqb-true, eqb-false, not-true, not-false}
 use Rattle.rules.proofs.Unless.{after-none, after-some}
 use Rattle.worth.proofs.refusal.Statement.{statement}
 use Rattle.worth.proofs.refusal.Tie as tie
@@ -9,23 +10,23 @@ use Rattle.worth.proofs.refusal.Tie as tie
 refusal-requires : tie.Need-refusal-requires
 refusal-requires c κs = search needs
 
-returns : tie.Need-returns
-returns c =
-    let own = c .before .refusal .ensures in
-    own ∙ sym (after-some _ _ (λ z. c .if1 .taken (own ∙ z)))
-
 outside-requires : tie.Need-outside-requires
 outside-requires c κs = search needs
 
+returns : tie.Need-returns
+returns c =
+    let own = c .before .before .refusal .ensures in
+    own ∙ sym (after-some _ _ (λ none. eqb-false _ _ (not-true _ (c .if1 .taken)) (own ∙ none)))
+
 returns-2 : tie.Need-returns-2
 returns-2 c =
-    let none = sym (c .before .before .before .refusal .ensures) ∙ c .before .before .if1 .left in
-    sym (after-none _ _ none ∙ ap (λ b. cond b 17 0) (sym (c .before .outside .ensures) ∙ c .if2 .taken))
+    let none = sym (c .before .before .before .refusal .ensures) ∙ eqb-true _ _ (not-false _ (c .before .if1 .left)) in
+    sym (after-none _ _ none ∙ ap (λ b. cond b 17 0) (sym (c .before .before .outside .ensures) ∙ c .if2 .taken))
 
 returns-3 : tie.Need-returns-3
 returns-3 c =
-    let none = sym (c .before .before .before .refusal .ensures) ∙ c .before .before .if1 .left in
-    sym (after-none _ _ none ∙ ap (λ b. cond b 17 0) (sym (c .before .outside .ensures) ∙ c .if2 .left))
+    let none = sym (c .before .before .before .refusal .ensures) ∙ eqb-true _ _ (not-false _ (c .before .if1 .left)) in
+    sym (after-none _ _ none ∙ ap (λ b. cond b 17 0) (sym (c .before .before .outside .ensures) ∙ c .if2 .left))
 
 pub refusal-spec : {M : Type 1} → statement M
-refusal-spec = tie.close (tie.spec refusal-requires returns outside-requires returns-2 returns-3)
+refusal-spec = tie.close (tie.spec refusal-requires outside-requires returns returns-2 returns-3)
