@@ -3,14 +3,15 @@ use mathlib.Core.Path.{_≡_, sym, ap, _∙_}
 use mathlib.Core.List.{List, [], _++_, append-assoc, append-nil}
 use Prim.Native.Nat.{ℕ, _+_, _-_, _≤_}
 use native.Mathlib.Omega.{arith}
+use lib.IntN.{ℤ}
 use lib.ListN.{length, take, length-append}
 use lib.Seq.{paste, length-paste, take-paste, take-all}
 use borrow.Author.Tests.{le-leb}
-use Rattle.text.specs.Decimal.{decimal}
-use Rattle.text.specs.Lines.{named, namedRoom, pairText, pairRoom}
+use Rattle.text.specs.Decimal.{decimal, signed}
+use Rattle.text.specs.Lines.{named, namedRoom, pairText, pairRoom, signedNamed, signedPair, signedRoom, signedPairRoom}
 use Rattle.text.specs.Put.{Put, PutNamed}
 use Rattle.text.specs.Added.{Added}
-use Rattle.text.proofs.Digits.{decimal-short}
+use Rattle.text.proofs.Digits.{decimal-short, signed-short}
 
 module _ {out after : List ℕ} {at end : ℕ} where
   pub put-added : {text : List ℕ} → at + length text ≤ length out → Put out at text after end → Added text out at after end
@@ -42,6 +43,18 @@ module _ {out after : List ℕ} {at end : ℕ} where
       let one = length-append first (decimal a) in
       let two = length-append second (decimal b) in
       omega (arith, added .ends, lengths, one, two, decimal-short a, decimal-short b)
+
+  -- and of signed ones
+  pub signed-reach : (name : List ℕ) (z : ℤ) → Added (signedNamed name z) out at after end → end ≤ at + signedRoom name
+  signed-reach name z added = omega (arith, added .ends, length-append name (signed z), signed-short z)
+
+  pub signed-pair-reach : (first : List ℕ) (a : ℤ) (second : List ℕ) (b : ℤ) → Added (signedPair first a second b) out at after end
+      → end ≤ at + signedPairRoom first second
+  signed-pair-reach first a second b added =
+      let lengths = length-append (signedNamed first a) (signedNamed second b) in
+      let one = length-append first (signed a) in
+      let two = length-append second (signed b) in
+      omega (arith, added .ends, lengths, one, two, signed-short a, signed-short b)
 
   pub added-more : {text more last : List ℕ} {stop : ℕ} → Added text out at after end → Added more after end last stop → Added (text ++ more) out at last stop
   added-more {text} {more} one two =

@@ -1,4 +1,5 @@
--- The digits that `io::decimal` writes, the fewest that hold a number, are the number's decimal digits, at most 20. Assumes nothing.
+-- The digits that `io::decimal` writes, the fewest that hold a number, are the number's decimal digits, at most 20, and a
+-- signed number has a minus besides. Assumes nothing.
 use mathlib.Core.Path.{_≡_, ap}
 use mathlib.Core.Bool.{Bool, true, false, cond}
 use mathlib.Core.List.{[], _∷_, _++_}
@@ -7,10 +8,11 @@ use native.Mathlib.Nat.{one-le-pow, pow-le-pow-right}
 use native.Mathlib.Decide.{decLe}
 use native.Mathlib.Omega.{arith}
 use lib.Dec.{ltb}
+use lib.IntN.{ℤ, pos, negsuc}
 use lib.ListN.{length, length-append}
 use borrow.Author.Tests.{lt-ltb, le-ltb}
 use Rattle.io.specs.Digits.{digits, Fewest}
-use Rattle.text.specs.Decimal.{digitsIn, mostDigits, decimal}
+use Rattle.text.specs.Decimal.{text, digitsIn, mostDigits, decimal, signedDigits, signed}
 
 -- by one digit: the number without its last one has one fewer
 digits-are : (most k n : ℕ) → Fewest 10 1 n (suc k) → k < most → digits 10 (suc k) n ≡ digitsIn most n
@@ -55,3 +57,7 @@ digits-short (suc most) n = go (ltb n 10) (digits-short most (n / 10))
 
 pub decimal-short : (n : ℕ) → length (decimal n) ≤ mostDigits
 decimal-short n = digits-short mostDigits n
+
+pub signed-short : (z : ℤ) → length (signed z) ≤ signedDigits
+signed-short (pos n) = omega (arith, decimal-short n)
+signed-short (negsuc n) = omega (arith, length-append (text "-") (decimal (suc n)), decimal-short (suc n))

@@ -5,6 +5,7 @@ use Prim.Native.Nat.{ℕ, zero, suc, _+_, _/_, _%_}
 use Prim.Native.Char.{code}
 use Prim.Native.String.{String, [] as []ˢ, _∷_ as _∷ˢ_}
 use lib.Dec.{ltb}
+use lib.IntN.{ℤ, pos, negsuc}
 
 -- the bytes of a quoted text
 abbrev pub text : String → List ℕ
@@ -22,3 +23,11 @@ mostDigits = 20
 
 abbrev pub decimal : ℕ → List ℕ
 decimal n = digitsIn mostDigits n
+
+-- a signed number's: those of its absolute value, after a minus where it is negative; and how many bytes these are at most
+abbrev pub signed : ℤ → List ℕ
+signed (pos n) = decimal n
+signed (negsuc n) = text "-" ++ decimal (suc n)
+
+abbrev pub signedDigits : ℕ
+signedDigits = 1 + mostDigits
