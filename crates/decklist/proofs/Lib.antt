@@ -1,4 +1,3 @@
--- The laws of the listing of a file, and of input that is cut.
+-- The laws of the listing of a file.
 mod Lengths
 mod Printing
-mod Front

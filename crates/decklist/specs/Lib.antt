@@ -1,4 +1,3 @@
--- What decklist is asked for, what it prints, and the buffers of its input and its lines.
+-- What decklist is asked for, and what it prints.
 pub mod Task
 pub mod Lines
-pub mod Outcome

@@ -1,13 +1,11 @@
--- Document 01, "Deck file and printing": "Its first line gives n and m, then one line per system: its number, then low and high, or the refusal.
--- A refused file prints only `file refused` and the number." Where percents are asked for, an answered line has them too. And the room that each
--- line takes at most.
+-- Document 01, "Deck file and printing": "Its first line gives n and m, then one line per system: its number, then low and high, or the refusal."
+-- Where percents are asked for, an answered line has them too. And the room that each line takes at most.
 use mathlib.Core.Bool.{Bool, true, false}
 use mathlib.Core.List.{List, [], _++_}
 use Prim.Native.Nat.{ℕ, zero, suc, _+_, _*_}
 use Rattle.rules.specs.declared.Rating.{Rating}
 use Rattle.rules.specs.declared.Rating.the-variants.{Range, Refused}
-use Rattle.rules.specs.Answer.{unless}
-use Rattle.rules.specs.File.{mostSystems, fansIn, countIn, fileRefusal, answerIn}
+use Rattle.rules.specs.File.{mostSystems, fansIn, countIn, answerIn}
 use Rattle.text.specs.Decimal.{text}
 use Rattle.text.specs.Lines.{named, namedRoom, pairText, pairRoom, refusedText}
 use Rattle.percent.specs.Percent.{rangeText, rangeRoom}
@@ -50,14 +48,9 @@ headText n m = pairText (text "deck ") n (text " systems ") m ++ text "\n"
 abbrev pub headRoom : ℕ
 headRoom = pairRoom (text "deck ") (text " systems ") + 1
 
--- "A refused file prints only `file refused` and the number"
-abbrev pub fileText : ℕ → List ℕ
-fileText number = text "file" ++ refusedText number
-
--- all that decklist prints, and the room that it is given
-unfoldable pub listText : (percent : Bool) → List ℕ → List ℕ
-listText percent bytes =
-    unless (fileRefusal bytes) fileText (headText (fansIn bytes) (countIn bytes) ++ linesText percent (countIn bytes) (answerIn bytes))
+-- all that decklist prints for a file that is not refused, and the room that it is given
+abbrev pub listText : (percent : Bool) → List ℕ → List ℕ
+listText percent bytes = headText (fansIn bytes) (countIn bytes) ++ linesText percent (countIn bytes) (answerIn bytes)
 
 abbrev pub outputRoom : ℕ
 outputRoom = 8192

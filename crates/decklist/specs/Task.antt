@@ -2,18 +2,21 @@
 use mathlib.Core.Bool.{true, false, cond}
 use mathlib.Core.List.{List}
 use Prim.Native.Nat.{ℕ}
-use lib.Dec.{ltb}
 use Rattle.text.specs.Decimal.{text}
 use Rattle.program.specs.Edges.{sameText}
+use Rattle.program.specs.Words.{wordsOf}
+use Rattle.program.specs.declared.words.Words.{Words}
+use Rattle.program.specs.declared.words.Words.the-variants as words
 use Rattle.decklist.specs.declared.task.Task.{Task}
 use Rattle.decklist.specs.declared.task.Task.the-variants.{Listing, Help, Version, Unknown}
 
-abbrev pub wordTask : List ℕ → Task
-wordTask word =
-    cond (sameText word (text "--help")) Help
-    (cond (sameText word (text "--version")) Version
-    (cond (sameText word (text "--percent")) (Listing true) Unknown))
+abbrev pub taskFor : Words → (word : List ℕ) → Task
+taskFor words.None word = Listing false
+taskFor words.Help word = Help
+taskFor words.Version word = Version
+taskFor words.Other word = cond (sameText word (text "--percent")) (Listing true) Unknown
+taskFor words.Many word = Unknown
 
 -- by how many words the program was started with, its own name among them, and the first after that
 abbrev pub taskOf : (count : ℕ) (word : List ℕ) → Task
-taskOf count word = cond (ltb count 2) (Listing false) (cond (ltb 2 count) Unknown (wordTask word))
+taskOf count word = taskFor (wordsOf count word) word

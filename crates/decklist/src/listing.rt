@@ -5,15 +5,14 @@ ghost use Rattle.rules.specs.State.{S};
 ghost use Rattle.text.specs.Added.{Added};
 ghost use Rattle.systems.specs.Arrays.{answerAt};
 ghost use Rattle.systems.specs.Within.{WithinUnit};
-ghost use Rattle.decklist.specs.Lines.{endText, ratingText, lineText, linesText, headText};
+ghost use Rattle.printing.specs.Listable.{Listable};
+ghost use Rattle.printing.specs.Front.{WholePrinted};
+ghost use Rattle.decklist.specs.Lines.{endText, ratingText, lineText, linesText, headText, listText};
 ghost use Rattle.decklist.specs.Lines.{endRoom, ratingRoom, lineRoom, linesRoom, headRoom, outputRoom};
-ghost use Rattle.decklist.specs.Outcome.{Listable, Printed, WholePrinted};
 use deck::Deck;
+use printing::INPUT;
 use rules::Rating;
 use text::lines;
-
-// The buffer for the input. No sound file has more than 724 bytes: what is cut from a longer input changes no line.
-pub const INPUT: usize = 1024;
 
 // Room for all lines.
 pub const OUTPUT: usize = 8192;
@@ -81,27 +80,17 @@ fn put_head(n: u64, m: u64, out: &mut [u8]) -> usize
     text::put(out, end, b"\n")
 }
 
-// All that is printed for a file.
-fn list(percent: bool, bytes: &[u8], out: &mut [u8]) -> usize
-    requires { ⌜ outputRoom ≤ length (now out) ⌝ }
-    ensures { λ r. ⌜ Printed percent (now (bytes .entry)) (now (out .exit)) r ⌝ }
-{
-    let read = deck::read_deck(bytes);
-    if read.refusal != 0 {
-        let end = text::put(out, 0, b"file");
-        return lines::put_refused(read.refusal, out, end);
-    }
-    let deck = read.deck;
-    let end = put_head(deck.fans, deck.count, out);
-    put_systems(percent, deck, out, end)
-}
-
 // All that is printed for an input, of which the buffer holds the front: all of it, or as much as the buffer takes.
 pub fn list_front(percent: bool, input: &[u8; INPUT], filled: usize, out: &mut [u8]) -> usize
     requires within { ⌜ filled ≤ length (now input) ⌝ }
     requires room { ⌜ outputRoom ≤ length (now out) ⌝ }
-    ensures { λ r. ⌜ WholePrinted percent (now (input .entry)) filled (now (out .exit)) r ⌝ }
+    ensures { λ r. ⌜ WholePrinted (listText percent) (now (input .entry)) filled (now (out .exit)) r ⌝ }
 {
-    let buffer: &[u8] = input;
-    list(percent, &buffer[..filled], out)
+    let read = printing::read_front(input, filled);
+    if read.refusal != 0 {
+        return printing::put_refused_file(read.refusal, out);
+    }
+    let deck = read.deck;
+    let end = put_head(deck.fans, deck.count, out);
+    put_systems(percent, deck, out, end)
 }

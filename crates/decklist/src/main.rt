@@ -4,23 +4,18 @@ mod listing; // listing.rt: the lines
 mod task; // task.rt: what the program's words ask for
 
 use libc::STDERR_FILENO;
-use libc::STDOUT_FILENO;
 use program::Input;
+use program::words::WORD;
 use task::Task;
 
-// Room for every word that is known, so that a longer one, which is cut to none, is not known either.
-const WORD: usize = 16;
-
-// Writes a text to standard output; what cannot be written is told.
+// Writes a text to standard output.
 fn write_text(text: &[u8]) {
-    if !io::write_all(STDOUT_FILENO, text) {
-        os::fail(b"decklist: standard output");
-    }
+    program::write_output(b"decklist: standard output", text)
 }
 
 // Lists the file on standard input; nothing is listed where it cannot be read.
 fn list_input(percent: bool) {
-    let mut input = [0u8; listing::INPUT];
+    let mut input = [0u8; printing::INPUT];
     let Input::Filled(filled) = program::read_input(b"decklist: standard input", &mut input) else {
         return;
     };

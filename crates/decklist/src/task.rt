@@ -1,6 +1,8 @@
 // What decklist is asked for by its words.
 ghost use mathlib.Core.Path.{_≡_};
 ghost use Rattle.decklist.specs.Task.{taskOf};
+use program::words;
+use program::words::Words;
 
 pub enum Task {
     Listing { percent: bool },
@@ -13,20 +15,17 @@ pub enum Task {
 pub fn task_of(count: usize, word: &[u8]) -> Task
     ensures { λ r. ⌜ r ≡ taskOf count (now (word .entry)) ⌝ }
 {
-    if count < 2 {
-        return Task::Listing { percent: false };
+    let asked = words::words_of(count, word);
+    match asked {
+        Words::None => Task::Listing { percent: false },
+        Words::Help => Task::Help,
+        Words::Version => Task::Version,
+        Words::Other => {
+            if program::same(word, b"--percent") {
+                return Task::Listing { percent: true };
+            }
+            Task::Unknown
+        }
+        Words::Many => Task::Unknown,
     }
-    if count > 2 {
-        return Task::Unknown;
-    }
-    if program::same(word, b"--help") {
-        return Task::Help;
-    }
-    if program::same(word, b"--version") {
-        return Task::Version;
-    }
-    if program::same(word, b"--percent") {
-        return Task::Listing { percent: true };
-    }
-    Task::Unknown
 }

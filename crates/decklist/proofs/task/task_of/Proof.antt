@@ -1,15 +1,23 @@
--- `task::task_of` meets its contract, test by test. Assumes nothing.
+-- `task::task_of` meets its contract, case by case. Assumes nothing.
 use mathlib.Core.Path.{sym, _∙_}
-use borrow.Author.Tests.{lt-ltb, le-ltb}
 use borrow.Author.Needs.{needs}
 use Rattle.decklist.proofs.task.task_of.Statement.{statement}
 use Rattle.decklist.proofs.task.task_of.Tie as tie
 
-returns : tie.Need-returns
-returns c = rw (lt-ltb _ _ (c .if1 .taken))
+words-of-requires : tie.Need-words-of-requires
+words-of-requires c κs = search needs
 
-returns-2 : tie.Need-returns-2
-returns-2 c = rw (le-ltb _ _ (c .before .if1 .left), lt-ltb _ _ (c .if2 .taken))
+enum-told : tie.Need-enum-told
+enum-told c = search needs
+
+enum-told-2 : tie.Need-enum-told-2
+enum-told-2 c = search needs
+
+enum-told-3 : tie.Need-enum-told-3
+enum-told-3 c = search needs
+
+enum-told-4 : tie.Need-enum-told-4
+enum-told-4 c = search needs
 
 slice-aggregate-same : tie.Need-slice-aggregate-same
 slice-aggregate-same c = search needs
@@ -17,62 +25,46 @@ slice-aggregate-same c = search needs
 same-requires : tie.Need-same-requires
 same-requires c κs = search needs
 
+returns : tie.Need-returns
+returns c =
+    let told = c .before .before .before in
+    rw (sym (told .before .before .words-of .ensures) ∙ told .enum-told4 .given .1, sym (c .before .same .ensures) ∙ c .if1 .taken)
+
+enum-told-5 : tie.Need-enum-told-5
+enum-told-5 c = search needs
+
+returns-2 : tie.Need-returns-2
+returns-2 c = rw (sym (c .before .before .words-of .ensures) ∙ c .enum-told .given .1)
+
 returns-3 : tie.Need-returns-3
-returns-3 c =
-    let one = le-ltb _ _ (c .before .before .before .before .if1 .left) in
-    let two = le-ltb _ _ (c .before .before .before .if2 .left) in
-    simp (two, one, sym (c .before .same .ensures) ∙ c .if3 .taken)
-
-slice-aggregate-same-2 : tie.Need-slice-aggregate-same-2
-slice-aggregate-same-2 c = search needs
-
-same-requires-2 : tie.Need-same-requires-2
-same-requires-2 c κs = search needs
+returns-3 c = rw (sym (c .before .before .words-of .ensures) ∙ c .enum-told2 .given .1)
 
 returns-4 : tie.Need-returns-4
-returns-4 c =
-    let one = le-ltb _ _ (c .before .before .before .before .before .before .before .if1 .left) in
-    let two = le-ltb _ _ (c .before .before .before .before .before .before .if2 .left) in
-    let no-help = sym (c .before .before .before .before .same .ensures) ∙ c .before .before .before .if3 .left in
-    simp (two, one, no-help, sym (c .before .same2 .ensures) ∙ c .if4 .taken)
-
-slice-aggregate-same-3 : tie.Need-slice-aggregate-same-3
-slice-aggregate-same-3 c = search needs
-
-same-requires-3 : tie.Need-same-requires-3
-same-requires-3 c κs = search needs
+returns-4 c = rw (sym (c .before .before .words-of .ensures) ∙ c .enum-told3 .given .1)
 
 returns-5 : tie.Need-returns-5
 returns-5 c =
-    let one = le-ltb _ _ (c .before .before .before .before .before .before .before .before .before .before .if1 .left) in
-    let two = le-ltb _ _ (c .before .before .before .before .before .before .before .before .before .if2 .left) in
-    let other = c .before .before .before .before .before .before in
-    let no-help = sym (other .before .same .ensures) ∙ other .if3 .left in
-    let no-version = sym (c .before .before .before .before .same2 .ensures) ∙ c .before .before .before .if4 .left in
-    simp (two, one, no-help, no-version, sym (c .before .same3 .ensures) ∙ c .if5 .taken)
+    let told = c .before .before .before in
+    rw (sym (told .before .before .words-of .ensures) ∙ told .enum-told4 .given .1, sym (c .before .same .ensures) ∙ c .if1 .left)
 
 returns-6 : tie.Need-returns-6
-returns-6 c =
-    let one = le-ltb _ _ (c .before .before .before .before .before .before .before .before .before .before .if1 .left) in
-    let two = le-ltb _ _ (c .before .before .before .before .before .before .before .before .before .if2 .left) in
-    let other = c .before .before .before .before .before .before in
-    let no-help = sym (other .before .same .ensures) ∙ other .if3 .left in
-    let no-version = sym (c .before .before .before .before .same2 .ensures) ∙ c .before .before .before .if4 .left in
-    simp (two, one, no-help, no-version, sym (c .before .same3 .ensures) ∙ c .if5 .left)
+returns-6 c = rw (sym (c .before .before .words-of .ensures) ∙ c .enum-told5 .given .1)
 
 pub task-of-spec : {M : Type 1} → statement M
 task-of-spec =
     tie.close
     (tie.spec
-    returns
-    returns-2
+    words-of-requires
+    enum-told
+    enum-told-2
+    enum-told-3
+    enum-told-4
     slice-aggregate-same
     same-requires
+    returns
+    enum-told-5
+    returns-2
     returns-3
-    slice-aggregate-same-2
-    same-requires-2
     returns-4
-    slice-aggregate-same-3
-    same-requires-3
     returns-5
     returns-6)

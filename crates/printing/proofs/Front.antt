@@ -1,5 +1,5 @@
 -- Input longer than any sound file, 724 bytes, is never cut into a sound one: a front of 725 bytes or more has the whole's header and is no file
--- either, so decklist prints the same for both. A buffer that takes more than 724 bytes can be cut from no input that matters. Assumes nothing.
+-- either, so the reader answers the same for both. A buffer that takes more than 724 bytes can be cut from no input that matters. Assumes nothing.
 use mathlib.Core.Path.{_≡_, refl, sym, ap, _∙_}
 use mathlib.Core.Bool.{Bool, true, false, not, _&&_}
 use mathlib.Core.List.{List}
@@ -14,10 +14,11 @@ use Rattle.rules.specs.Refusal.{badSize}
 use Rattle.rules.specs.File.{versionField, zeroField, fansField, countField, survivalField, weightsField, systemsField, headerLength, mostFans, mostSystems, survivalOffset, weightsOffset, systemsOffset, fileLength, numberAt, fansIn, countIn, badLayout, fileRefusal}
 use Rattle.rules.proofs.Seven.{within-true}
 use Rattle.rules.proofs.Accepted.{first-same}
+use Rattle.rules.proofs.Unless.{unless-some}
+use Rattle.deck.specs.declared.Read.{Read}
+use Rattle.deck.specs.Outcome.{Handed}
 use Rattle.deck.proofs.Sound.{sound}
-use Rattle.decklist.specs.Lines.{listText}
-use Rattle.decklist.specs.Outcome.{Printed, Front, WholePrinted}
-use Rattle.decklist.proofs.Printing.{refused-list}
+use Rattle.printing.specs.Front.{Front, WholeRead}
 
 -- the length of the longest sound file, 724
 abbrev longest : ℕ
@@ -64,24 +65,30 @@ module _ (bytes : List ℕ) (k : ℕ) (long : longest < k) (within : k ≤ lengt
       ∙ sym (long-layout bytes (omega arith) (rw (same-number 2 fansField (omega arith)) at n) (rw (same-number 2 countField (omega arith)) at m)))
       (λ layout. refl)))))
 
-  front-prints : (percent : Bool) → listText percent front ≡ listText percent bytes
-  front-prints percent =
+  front-handed : (r : Read) → Handed front r → Handed bytes r
+  front-handed r is =
       let refused = long-refused bytes (omega arith) in
-      sym (refused-list front percent (fileRefusal front) refl (λ z. refused (sym same-refusal ∙ z)))
-      ∙ refused-list bytes percent (fileRefusal front) same-refusal (λ z. refused (sym same-refusal ∙ z))
+      record {
+        refusal = is .refusal ∙ same-refusal;
+        deck =
+            is .deck
+            ∙ unless-some (fileRefusal front) _ _ (λ z. refused (sym same-refusal ∙ z))
+            ∙ sym (unless-some (fileRefusal bytes) _ _ refused);
+      }
 
--- an input is as its front in a buffer that takes more than the longest file
-front-same : (percent : Bool) (input buffer : List ℕ) (filled : ℕ) → longest < length buffer → Front input buffer filled
-    → listText percent (take filled buffer) ≡ listText percent input
-front-same percent input buffer filled long front =
-    elim (decLe (length input) (length buffer)) [
-      | yes l ↦ rw (front .same, take-all filled input (omega (arith, front .most)))
-      | no g ↦ rw (front .same) (front-prints input filled (omega (arith, front .most)) (omega (arith, front .most)) percent)
-    ]
+module _ (buffer : List ℕ) (filled : ℕ) where
+  -- an input is read as its front in a buffer that takes more than the longest file
+  pub whole-read : (r : Read) → longest < length buffer → Handed (take filled buffer) r → WholeRead buffer filled r
+  whole-read r long is = record {
+    handed = λ input front.
+        elim (decLe (length input) (length buffer)) [
+          | yes l ↦ rw (front .same ∙ take-all filled input (omega (arith, front .most))) at is
+          | no g ↦ front-handed input filled (omega (arith, front .most)) (omega (arith, front .most)) r (rw (front .same) at is)
+        ];
+  }
 
-pub whole-printed : (percent : Bool) (buffer out : List ℕ) (filled end : ℕ) → longest < length buffer → Printed percent (take filled buffer) out end
-    → WholePrinted percent buffer filled out end
-whole-printed percent buffer out filled end long front = record {
-  counts = front .counts;
-  stands = λ input is. front .stands ∙ front-same percent input buffer filled long is;
-}
+  -- the buffer's first bytes are an input of which it holds the front
+  pub front-itself : filled ≤ length buffer → Front (take filled buffer) buffer filled
+  front-itself h =
+      let size = length-take-le filled buffer h in
+      record { most = omega (arith, size); same = sym (take-all filled (take filled buffer) (omega (arith, size))) }
