@@ -1,0 +1,2 @@
+-- What deckworth prints.
+pub mod Lines
