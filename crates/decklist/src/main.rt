@@ -3,7 +3,6 @@
 mod listing; // listing.rt: the lines
 mod task; // task.rt: what the program's words ask for
 
-use libc::STDERR_FILENO;
 use program::Input;
 use program::words::WORD;
 use task::Task;
@@ -34,11 +33,8 @@ fn main() {
             b"usage: decklist [--percent] < FILE\n       decklist --help\n       decklist --version\n",
         ),
         Task::Version => write_text(b"decklist 1.0.0\n"),
-        Task::Unknown => {
-            io::write_all(
-                STDERR_FILENO,
-                b"decklist: takes no word, or one of --percent, --help and --version\n",
-            );
-        }
+        Task::Unknown => program::write_error(
+            b"decklist: takes no word, or one of --percent, --help and --version\n",
+        ),
     }
 }

@@ -2,7 +2,6 @@
 
 mod listing; // listing.rt: the lines
 
-use libc::STDERR_FILENO;
 use program::Input;
 use program::words;
 use program::words::WORD;
@@ -34,11 +33,8 @@ fn main() {
             b"usage: deckworth < FILE\n       deckworth --help\n       deckworth --version\n",
         ),
         Words::Version => write_text(b"deckworth 1.0.0\n"),
-        Words::Other | Words::Many => {
-            io::write_all(
-                STDERR_FILENO,
-                b"deckworth: takes no word, or one of --help and --version\n",
-            );
-        }
+        Words::Other | Words::Many => program::write_error(
+            b"deckworth: takes no word, or one of --help and --version\n",
+        ),
     }
 }

@@ -4,6 +4,7 @@ pub mod words; // words.rt: what its words ask for
 ghost use mathlib.Core.Path.{_≡_};
 ghost use lib.ListN.{length};
 ghost use Rattle.program.specs.Edges.{sameText, FitsIn};
+use libc::STDERR_FILENO;
 use libc::STDIN_FILENO;
 use libc::STDOUT_FILENO;
 
@@ -64,4 +65,9 @@ pub fn write_output(name: &[u8], text: &[u8]) {
     if !io::write_all(STDOUT_FILENO, text) {
         os::fail(name);
     }
+}
+
+// Writes a text to standard error, where nothing is left to do if it cannot be written.
+pub fn write_error(text: &[u8]) {
+    io::write_all(STDERR_FILENO, text);
 }

@@ -12,7 +12,7 @@ use mir.Val.{SFits, toZ, ofZ}
 use mir.ValLaws.{toZ-ofZ}
 
 -- a number as it is read back
-abbrev held : ℤ → ℤ
+abbrev pub held : ℤ → ℤ
 held z = toZ w64 (ofZ w64 z)
 
 module _ (z : ℤ) (fits : SFits w64 z) where

@@ -3,6 +3,7 @@ use native.Mathlib.Omega.{arith}
 use mir.Syntax.{w64}
 use mir.ValLaws.{toZ-ofZ}
 use Rattle.text.specs.Decimal.{text}
+use Rattle.text.proofs.Signed.{held}
 use Rattle.text.proofs.Adding.{put-added, added-more, signed-pair-reach}
 use borrow.Author.Needs.{needs}
 use Rattle.deckworth.proofs.listing.put_worth.Statement.{statement}
@@ -25,14 +26,11 @@ slice-aggregate-put c = search needs
 
 put-requires : tie.Need-put-requires
 put-requires c κs =
-    let told = c .before .before .before .before .before .before .before .before in
-    let fits = told .known-told .given in
-    let ends = told .before .worth .given .0 in
+    let known = c .before .before .before .before .before .before .before .before .before in
+    let ends = known .worth .given .0 in
     let pair = c .before .before .before .before .put-signed-pair in
-    let lower = toZ-ofZ w64 (ends .0) (record { sfits = fits .0 .1 }) in
-    let upper = toZ-ofZ w64 (ends .1 .0) (record { sfits = fits .1 .0 .1 }) in
-    let put = rw (lower, upper) at (pair .ensures) in
-    omega (arith, told .before .before .before .before .pre, pair .kept, signed-pair-reach (text " lower ") (ends .0) (text " upper ") (ends .1 .0) put)
+    let reach = signed-pair-reach (text " lower ") (held (ends .0)) (text " upper ") (held (ends .1 .0)) (pair .ensures) in
+    omega (arith, known .before .before .before .pre, pair .kept, reach)
 
 enum-known-worth-2 : tie.Need-enum-known-worth-2
 enum-known-worth-2 c = search needs
@@ -48,14 +46,13 @@ returns c =
     let told = c .before .before .before .before .before .before .before .before .before .before .before in
     let fits = told .known-told .given in
     let is = told .before .worth .given in
-    let ends = is .0 in
     let pair = c .before .before .before .before .before .before .before .put-signed-pair in
-    let lower = toZ-ofZ w64 (ends .0) (record { sfits = fits .0 .1 }) in
-    let upper = toZ-ofZ w64 (ends .1 .0) (record { sfits = fits .1 .0 .1 }) in
-    let put = rw (lower, upper) at (pair .ensures) in
-    let reach = signed-pair-reach (text " lower ") (ends .0) (text " upper ") (ends .1 .0) put in
+    let lower = toZ-ofZ w64 (is .0 .0) (record { sfits = fits .0 .1 }) in
+    let upper = toZ-ofZ w64 (is .0 .1 .0) (record { sfits = fits .1 .0 .1 }) in
+    let ends = rw (lower, upper) at (pair .ensures) in
+    let reach = signed-pair-reach (text " lower ") (is .0 .0) (text " upper ") (is .0 .1 .0) ends in
     let room = told .before .before .before .before .pre in
-    rw (is .1) (added-more put (put-added (omega (arith, room, pair .kept, reach)) (c .before .before .put .ensures)))
+    rw (is .1) (added-more ends (put-added (omega (arith, room, pair .kept, reach)) (c .before .before .put .ensures)))
 
 same-length-2 : tie.Need-same-length-2
 same-length-2 c = search needs
