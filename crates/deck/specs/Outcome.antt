@@ -1,9 +1,9 @@
 -- What the two calls over a file's bytes answer.
 use mathlib.Core.Path.{_≡_}
 use mathlib.Core.List.{List}
-use Prim.Native.Nat.{ℕ}
+use Prim.Native.Nat.{ℕ, _<_}
 use Rattle.rules.specs.Answer.{unless}
-use Rattle.rules.specs.File.{fileRefusal}
+use Rattle.rules.specs.File.{countIn, fileRefusal}
 use Rattle.deck.specs.declared.Read.{Read}
 use Rattle.deck.specs.Read.{noDeck, keptDeck}
 
@@ -15,3 +15,8 @@ pub record Checked (bytes : List ℕ) (r : ℕ) : Type 0 where
 pub record Handed (bytes : List ℕ) (r : Read) : Type 0 where
   pub refusal : r .refusal ≡ fileRefusal bytes
   pub deck : r .deck ≡ unless (fileRefusal bytes) (λ n. noDeck) (keptDeck bytes)
+
+-- a file that is not refused, and a place of one of its systems, counted from 0
+pub record Placed (bytes : List ℕ) (s : ℕ) : Type 0 where
+  pub accepted : fileRefusal bytes ≡ 0
+  pub place : s < countIn bytes

@@ -6,9 +6,9 @@ mod parts; // parts.rt: the survival numbers, the weights and the systems, in ar
 ghost use mathlib.Core.Path.{_≡_};
 ghost use Prim.Native.Nat.{_≤_};
 ghost use lib.ListN.{length};
-ghost use Rattle.rules.specs.File.{headerLength, badVersion, badLayout, fileRefusal};
+ghost use Rattle.rules.specs.File.{headerLength, fansIn, countIn, systemIn, badVersion, badLayout, fileRefusal};
 ghost use Rattle.deck.specs.Read.{noDeck, keptDeck};
-ghost use Rattle.deck.specs.Outcome.{Checked, Handed};
+ghost use Rattle.deck.specs.Outcome.{Checked, Handed, Placed};
 use crate::layout::MOST_FANS;
 use crate::layout::MOST_SYSTEMS;
 use rules::System;
@@ -98,19 +98,60 @@ fn no_deck() -> Deck
     }
 }
 
+// How many fans a file that is not refused has.
+pub fn fans_in(bytes: &[u8]) -> usize
+    requires { ⌜ fileRefusal (now bytes) ≡ 0 ⌝ }
+    ensures { λ r. ⌜ r ≡ fansIn (now (bytes .entry)) ⌝ }
+{
+    number::number2(bytes, layout::FANS_FIELD) as usize
+}
+
+// And how many systems.
+pub fn count_in(bytes: &[u8]) -> usize
+    requires { ⌜ fileRefusal (now bytes) ≡ 0 ⌝ }
+    ensures { λ r. ⌜ r ≡ countIn (now (bytes .entry)) ⌝ }
+{
+    number::number2(bytes, layout::COUNT_FIELD) as usize
+}
+
+// Its survival numbers, and zeros.
+pub fn survival_in(bytes: &[u8]) -> [u32; MOST_FANS]
+    requires { ⌜ fileRefusal (now bytes) ≡ 0 ⌝ }
+    ensures { λ r. ⌜ r ≡ keptDeck (now (bytes .entry)) .survival ⌝ }
+{
+    parts::survival_in(bytes, fans_in(bytes))
+}
+
+// Its weights, and zeros.
+pub fn weights_in(bytes: &[u8]) -> [u16; MOST_FANS]
+    requires { ⌜ fileRefusal (now bytes) ≡ 0 ⌝ }
+    ensures { λ r. ⌜ r ≡ keptDeck (now (bytes .entry)) .weights ⌝ }
+{
+    parts::weights_in(bytes, fans_in(bytes))
+}
+
+// Its system at a place, counted from 0.
+pub fn system_in(bytes: &[u8], s: usize) -> System
+    requires { ⌜ Placed (now bytes) s ⌝ }
+    ensures { λ r. ⌜ r ≡ systemIn (now (bytes .entry)) s ⌝ }
+{
+    let from = layout::systems_offset(fans_in(bytes));
+    parts::system_at(bytes, from + layout::SYSTEM_BYTES * s)
+}
+
 // The deck of a file that is not refused.
 fn kept_deck(bytes: &[u8]) -> Deck
     requires { ⌜ fileRefusal (now bytes) ≡ 0 ⌝ }
     ensures { λ r. ⌜ r ≡ keptDeck (now (bytes .entry)) ⌝ }
 {
-    let fans = number::number2(bytes, layout::FANS_FIELD);
-    let count = number::number2(bytes, layout::COUNT_FIELD);
-    let survival = parts::survival_in(bytes, fans as usize);
-    let weights = parts::weights_in(bytes, fans as usize);
-    let systems = parts::systems_in(bytes, fans as usize, count as usize);
+    let n = fans_in(bytes);
+    let count = count_in(bytes);
+    let survival = survival_in(bytes);
+    let weights = weights_in(bytes);
+    let systems = parts::systems_in(bytes, n, count);
     Deck {
-        fans,
-        count,
+        fans: n as u64,
+        count: count as u64,
         survival,
         weights,
         systems,

@@ -47,7 +47,7 @@ pub fn weights_in(bytes: &[u8], n: usize) -> [u16; MOST_FANS]
 }
 
 // The system in the ten bytes from a place on.
-fn system_at(bytes: &[u8], at: usize) -> System
+pub fn system_at(bytes: &[u8], at: usize) -> System
     requires { ⌜ at + systemBytes ≤ length (now bytes) ⌝ }
     ensures { λ r. ⌜ r ≡ systemAt (now (bytes .entry)) at ⌝ }
 {

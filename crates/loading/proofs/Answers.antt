@@ -3,12 +3,13 @@
 use mathlib.Core.Path.{_≡_, refl, sym, _∙_}
 use mathlib.Core.Bool.{Bool, true, false, cond}
 use mathlib.Core.List.{List}
-use Prim.Native.Nat.{ℕ, zero, suc, _-_, _≤_, _<_}
+use Prim.Native.Nat.{ℕ, zero, suc, _-_, _≤_}
 use native.Mathlib.Omega.{arith}
 use borrow.Author.Tests.{not-false}
 use Rattle.rules.specs.Refusal.{after}
 use Rattle.rules.specs.Answer.{unless}
 use Rattle.rules.specs.File.{countIn, fileRefusal, badNumber}
+use Rattle.deck.specs.Outcome.{Placed}
 use Rattle.rules.proofs.Seven.{within-true}
 use Rattle.loading.specs.Outcome.{openRefusal}
 
@@ -32,13 +33,10 @@ module _ (bytes : List ℕ) (s : ℕ) where
   opened-answer refused answer = both-refusals refused answer (fileRefusal bytes) (badNumber bytes s)
 
   module _ (none : openRefusal bytes s ≡ 0) where
-    pub open-file : fileRefusal bytes ≡ 0
-    unfolding openRefusal
-    open-file = neither (fileRefusal bytes) (badNumber bytes s) none .0
-
-    -- the number is one of the file's
-    pub numbered : (1 ≤ s) × (s - 1 < countIn bytes)
+    -- the number is that of one of the file's systems
+    pub numbered : (1 ≤ s) × Placed bytes (s - 1)
     unfolding openRefusal
     numbered =
-        let l = within-true 1 s (countIn bytes) (not-false _ (neither (fileRefusal bytes) (badNumber bytes s) none .1)) in
-        (l .0, omega (arith, l))
+        let past = neither (fileRefusal bytes) (badNumber bytes s) none in
+        let l = within-true 1 s (countIn bytes) (not-false _ (past .1)) in
+        (l .0, record { accepted = past .0; place = omega (arith, l) })

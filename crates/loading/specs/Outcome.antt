@@ -8,8 +8,6 @@ use Rattle.rules.specs.declared.Worth.{Worth}
 use Rattle.rules.specs.declared.Worth.the-variants.{Ends, Refused}
 use Rattle.rules.specs.Refusal.{after}
 use Rattle.rules.specs.File.{fileRefusal, badNumber, packed, loadingOf, worthLoadingOf}
-use Rattle.deck.specs.declared.Read.{Read}
-use Rattle.deck.specs.Read.{keptDeck}
 
 pub record Answered (file : List ℕ) (system r : ℕ) : Type 0 where
   pub number : r ≡ packed (loadingOf file system)
@@ -30,7 +28,3 @@ pub record Told (file : List ℕ) (system fan : ℕ) (e₀ e : List ℤ) (r : �
 -- a file's own refusal, then 14
 unfoldable pub openRefusal : List ℕ → ℕ → ℕ
 openRefusal bytes s = after (fileRefusal bytes) (cond (badNumber bytes s) 14 0)
-
-pub record Opened (bytes : List ℕ) (s : ℕ) (r : Read) : Type 0 where
-  pub refusal : r .refusal ≡ openRefusal bytes s
-  pub deck : r .refusal ≡ 0 → r .deck ≡ keptDeck bytes

@@ -1,9 +1,8 @@
 // The loading computer's calls: a deck file's bytes and a system number in, its figures as one 64-bit number out; with a fan, its worth.
 ghost use mathlib.Core.Path.{_≡_};
 ghost use Rattle.rules.specs.File.{packed, loadingOf, worthLoadingOf};
-ghost use Rattle.loading.specs.Outcome.{Opened, Answered, numberOf, endsAfter, Told};
+ghost use Rattle.loading.specs.Outcome.{openRefusal, Answered, numberOf, endsAfter, Told};
 ghost use Rattle.loading.specs.Packing.{Packable};
-use deck::Read;
 use rules::Rating;
 use rules::Worth;
 
@@ -12,44 +11,40 @@ const HALF_WORD: u64 = 4294967296;
 
 const REFUSED: u64 = (HALF_WORD - 1) * HALF_WORD;
 
-// The deck of a file, or its refusal: the file's own, then 14 for a system that it does not have.
-fn opened(file: &[u8], system: u64) -> Read
-    ensures { λ r. ⌜ Opened (now (file .entry)) system r ⌝ }
+// The file's own refusal, then 14 for a system that it does not have; 0 for none.
+fn refusal(file: &[u8], system: u64) -> u64
+    ensures { λ r. ⌜ r ≡ openRefusal (now (file .entry)) system ⌝ }
 {
-    let read = deck::read_deck(file);
-    let refusal = read.refusal;
-    let deck = read.deck;
-    let refused = refusal != 0;
-    let outside = refusals::outside(1, system, deck.count);
-    if refused {
-        return Read { refusal, deck };
+    let own = deck::file_refusal(file);
+    if own != 0 {
+        return own;
     }
-    if outside {
-        return Read { refusal: 14, deck };
+    if refusals::outside(1, system, deck::count_in(file) as u64) {
+        return 14;
     }
-    Read { refusal: 0, deck }
+    0
 }
 
 // The answer for a file's system, counted from 1: the file's refusal, then 14, then the system's own.
 fn rate_file(file: &[u8], system: u64) -> Rating
     ensures { λ r. ⌜ r ≡ loadingOf (now (file .entry)) system ⌝ }
 {
-    let read = opened(file, system);
-    if read.refusal != 0 {
-        return Rating::Refused(read.refusal);
+    let refused = refusal(file, system);
+    if refused != 0 {
+        return Rating::Refused(refused);
     }
-    systems::rate_system(read.deck, (system - 1) as usize)
+    systems::rate_in(file, (system - 1) as usize)
 }
 
 // The worth of a fan to it, likewise, then 17.
 fn weigh_file(file: &[u8], system: u64, fan: u64) -> Worth
     ensures { λ r. ⌜ r ≡ worthLoadingOf (now (file .entry)) system fan ⌝ }
 {
-    let read = opened(file, system);
-    if read.refusal != 0 {
-        return Worth::Refused(read.refusal);
+    let refused = refusal(file, system);
+    if refused != 0 {
+        return Worth::Refused(refused);
     }
-    systems::worth_system(read.deck, (system - 1) as usize, fan)
+    systems::weigh_in(file, (system - 1) as usize, fan)
 }
 
 // An answer as one number: low times 2^32 plus high, or (2^32 - 1) times 2^32 plus the refusal.

@@ -5,6 +5,8 @@ ghost use Rattle.rules.specs.Asked.{askedOf};
 ghost use Rattle.rules.specs.Refusal.{cells};
 ghost use Rattle.rules.specs.Answer.{figuresOf};
 ghost use Rattle.rules.specs.Worth.{worthOf};
+ghost use Rattle.rules.specs.File.{answerIn, worthIn};
+ghost use Rattle.deck.specs.Outcome.{Placed};
 ghost use Rattle.systems.specs.Arrays.{answerAt, worthAt, Held};
 use cells::CELLS;
 use deck::Deck;
@@ -39,7 +41,15 @@ fn weigh_lists(system: System, fan: u64, survival: &[u32], weights: &[u16]) -> W
 {
     let mut working = [0u64; CELLS];
     let rule = system.rule;
-    worth::worth(rule, system.a, system.b, fan, survival, weights, &mut table)
+    worth::worth(
+        rule,
+        system.a,
+        system.b,
+        fan,
+        survival,
+        weights,
+        &mut working,
+    )
 }
 
 // The worth of a fan to the system at a place of a deck, counted from 0.
@@ -52,4 +62,28 @@ pub fn worth_system(deck: Deck, s: usize, fan: u64) -> Worth
     let weights = deck.weights;
     let system = deck.systems[s];
     weigh_lists(system, fan, &survival[..fans], &weights[..fans])
+}
+
+// The figures of the system at a place of a file that is not refused, counted from 0. Only the lists are copied from the file's bytes.
+pub fn rate_in(file: &[u8], s: usize) -> Rating
+    requires { ⌜ Placed (now file) s ⌝ }
+    ensures { λ r. ⌜ r ≡ answerIn (now (file .entry)) s ⌝ }
+{
+    let n = deck::fans_in(file);
+    let survival = deck::survival_in(file);
+    let weights = deck::weights_in(file);
+    let system = deck::system_in(file, s);
+    rate_lists(system, &survival[..n], &weights[..n])
+}
+
+// The worth of a fan to it, likewise.
+pub fn weigh_in(file: &[u8], s: usize, fan: u64) -> Worth
+    requires { ⌜ Placed (now file) s ⌝ }
+    ensures { λ r. ⌜ r ≡ worthIn (now (file .entry)) s fan ⌝ }
+{
+    let n = deck::fans_in(file);
+    let survival = deck::survival_in(file);
+    let weights = deck::weights_in(file);
+    let system = deck::system_in(file, s);
+    weigh_lists(system, fan, &survival[..n], &weights[..n])
 }
