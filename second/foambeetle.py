@@ -416,6 +416,16 @@ def figures_refusal(rule, a, b, survivals, weights, room, unit):
     return rated_refusal(rule, a, b, survivals, weights, unit) or (7 if room < TABLE_CELLS else None)
 
 
+def bad_fan(a, b, fan):
+    # document 02, request 06: "17, fan number outside the stretch"
+    return not a <= fan <= b
+
+
+def worth_refusal(rule, a, b, fan, survivals, weights, room, unit):
+    # document 02, request 06: "as for the figures, the chosen fan's own survival number included under 4", "then 17"
+    return figures_refusal(rule, a, b, survivals, weights, room, unit) or (17 if bad_fan(a, b, fan) else None)
+
+
 # ---- the public calls --------------------------------------------------------
 
 
@@ -441,6 +451,21 @@ def figures(rule, a, b, survivals, weights, room=TABLE_CELLS, unit=UNIT):
     if number:
         return Refusal(number)
     return low_and_high(rule, survivals[a - 1:b], weights[a - 1:b], unit)
+
+
+def with_fan(survivals, fan, survival):
+    # document 02, request 06: "with that fan sure to work", its number S; "with it sure to fail", its number 0
+    return [survival if place == fan else other for place, other in enumerate(survivals, 1)]
+
+
+def worth(rule, a, b, fan, survivals, weights, room=TABLE_CELLS, unit=UNIT):
+    # document 02, request 06: "the lower is the first's low less the second's high, the upper the first's high less the second's low"
+    number = worth_refusal(rule, a, b, fan, survivals, weights, room, unit)
+    if number:
+        return Refusal(number)
+    first = figures(rule, a, b, with_fan(survivals, fan, unit), weights, room, unit)
+    second = figures(rule, a, b, with_fan(survivals, fan, 0), weights, room, unit)
+    return first[0] - second[1], first[1] - second[0]
 
 
 def working_table_after(cells, answer):
@@ -537,10 +562,36 @@ def decklist_output(data):
     return "".join(line + "\n" for line in lines)
 
 
+def worth_of_system(deck, system, fan):
+    # document 02, request 06: "Refusals: as for the figures", "then 17"; 7 doesn't arise, as in a rating
+    return worth(system.rule, system.a, system.b, fan, deck.survivals, deck.weights)
+
+
+def deckworth_output(data):
+    # document 02, request 06: "for each system of a deck file and each fan 1 to n, a line of system, fan, lower, upper or the refusal"
+    deck = read_deck(data)
+    if isinstance(deck, Refusal):
+        return f"file refused {deck.number}\n"
+    lines = []
+    for place, system in enumerate(deck.systems, 1):
+        for fan in range(1, len(deck.survivals) + 1):
+            answer = worth_of_system(deck, system, fan)
+            if isinstance(answer, Refusal):
+                lines.append(f"system {place} fan {fan} refused {answer.number}")
+            else:
+                lines.append(f"system {place} fan {fan} lower {answer[0]} upper {answer[1]}")
+    return "".join(line + "\n" for line in lines)
+
+
 def packed(answer):
     # document 01, 'Deck file and printing': "low times 2^32 plus high; for a refusal, (2^32 - 1)"
     top, bottom = (2 ** 32 - 1, answer.number) if isinstance(answer, Refusal) else answer
     return top * 2 ** 32 + bottom
+
+
+def bad_system(deck, system):
+    # document 01, 'Refusal numbers', row 14
+    return not 1 <= system <= len(deck.systems)
 
 
 def rate(data, system):
@@ -548,6 +599,16 @@ def rate(data, system):
     deck = read_deck(data)
     if isinstance(deck, Refusal):
         return packed(deck)
-    if not 1 <= system <= len(deck.systems):
+    if bad_system(deck, system):
         return packed(Refusal(14))
     return packed(rate_system(deck, deck.systems[system - 1]))
+
+
+def worth_of_file(data, system, fan):
+    # document 01, 'Refusal numbers', as in a rating: the file's own, 14, then the system's; document 02, request 06: "then 17"
+    deck = read_deck(data)
+    if isinstance(deck, Refusal):
+        return deck
+    if bad_system(deck, system):
+        return Refusal(14)
+    return worth_of_system(deck, deck.systems[system - 1], fan)

@@ -15,8 +15,8 @@ from files import DAMAGES, random_deck, random_files
 from foambeetle import (
     DEAD, FAILS, KINDS, ROWS, TABLE_CELLS, UNIT, WORKS, Deck, Refusal, Rule, System, bad_rule,
     count_slots_after, count_table, counts_by_choice, counts_by_reading, counts_by_words, deck_bytes,
-    decklist_output, exact_sum, exact_sum_by_words, fails, figures, file_refusal, low_and_high,
-    low_and_high_by_words, pascal_row, rate, read_deck, verdict, working_table_after,
+    decklist_output, deckworth_output, exact_sum, exact_sum_by_words, fails, figures, file_refusal, low_and_high,
+    low_and_high_by_words, pascal_row, rate, read_deck, verdict, working_table_after, worth, worth_of_file,
 )
 from published import DECK_FILE, DECK_LINES
 from samples import all_rules, random_rule, random_survivals, random_weights, rules_in_range
@@ -281,6 +281,111 @@ def refusals_of_states_and_counts():
     yield count_table(Rule(4, 1, 0), 3, [], 7800, 4), [1, 0, 0, 0]
 
 
+def sure(survivals, fan, survival):
+    """A copy of the list with one fan's number replaced."""
+    replaced = list(survivals)
+    replaced[fan - 1] = survival
+    return replaced
+
+
+def worths_by_words():
+    # document 02, request 06: "The exact difference lies between them, and they are at most 2n - 2 units apart. Both ends run from -S to S"
+    for unit in (UNIT, 10 ** 9, 10, 1):
+        for rule, survivals, weights in random_systems(14, 56, 8):
+            survivals = [p * unit // UNIT for p in survivals]
+            n = len(survivals)
+            for fan in range(1, n + 1):
+                lower, upper = worth(rule, 1, n, fan, survivals, weights, unit=unit)
+                works, failing = (sure(survivals, fan, p) for p in (unit, 0))
+                exact = exact_sum_by_words(rule, works, weights, unit) - exact_sum_by_words(rule, failing, weights, unit)
+                yield lower * unit ** (n - 1) <= exact <= upper * unit ** (n - 1), True
+                yield 0 <= upper - lower <= 2 * n - 2, True
+                yield -unit <= lower and upper <= unit, True
+                ends = [low_and_high_by_words(rule, numbers, weights, unit) for numbers in (works, failing)]
+                yield (lower, upper), (ends[0][0] - ends[1][1], ends[0][1] - ends[1][0])
+
+
+def worths_of_parts():
+    """A stretch's worths are those of a list of its fans alone, and the fan's own number changes none of them."""
+    # document 01, 'Stretches': "answers as a list of those components alone would"
+    rng = random.Random(15)
+    for rule, survivals, weights in random_systems(16, 70, 8):
+        before, after = rng.randint(0, 4), rng.randint(0, 4)
+        longer = [2 ** 32 - 1] * before + survivals + [2 ** 32 - 1] * after
+        heavier = [65535] * before + weights + [65535] * after
+        a, b = before + 1, before + len(survivals)
+        for fan in range(1, len(survivals) + 1):
+            alone = worth(rule, 1, len(survivals), fan, survivals, weights)
+            yield worth(rule, a, b, before + fan, longer, heavier), alone
+            yield worth(rule, 1, len(survivals), fan, sure(survivals, fan, rng.randrange(UNIT + 1)), weights), alone
+
+
+def plain_worths():
+    """Worths that can be told without a reading."""
+    half = UNIT // 2
+    # two of three: the fan decides where exactly one of the other two has failed
+    yield [worth(Rule(1, 2, 0), 1, 3, fan, [half] * 3, []) for fan in (1, 2, 3)], [(half, half)] * 3
+    # two in a row: the middle fan decides unless both others work, an end fan where the middle one has failed and the other works
+    yield [worth(Rule(4, 2, 0), 1, 3, fan, [half] * 3, []) for fan in (1, 2, 3)], [(half // 2,) * 2, (half // 2 * 3,) * 2, (half // 2,) * 2]
+    for n in (1, 2, 5, 64):
+        # a single fan that all hangs on; with the others sure, the range's two ends
+        yield worth(Rule(1, 1, 0), 1, n, n, [UNIT] * n, []), (UNIT, UNIT)
+        yield worth(Rule(3, 0, 0), 1, n, 1, [UNIT] * n, []), (-UNIT, -UNIT)
+        # a system that always fails
+        yield worth(Rule(3, 0, n), 1, n, 1, [half] * n, []), (0, 0)
+    # a fan of no weight: both figures are those of the others alone, so the worth is their width to either side of 0
+    rng = random.Random(17)
+    for _ in range(40):
+        others = rng.randint(1, 12)
+        survivals, weights, fan = random_survivals(rng, others), random_weights(rng, others), rng.randint(1, others + 1)
+        rule = random_rule(rng, 2, others, sum(weights))
+        low, high = low_and_high(rule, survivals, weights)
+        longer, lighter = ([*numbers[:fan - 1], more, *numbers[fan - 1:]] for numbers, more in ((survivals, 7), (weights, 0)))
+        yield worth(rule, 1, others + 1, fan, longer, lighter), (low - high, high - low)
+
+
+def refusals_of_worths():
+    # document 02, request 06: "as for the figures, the chosen fan's own survival number included under 4 where the fan is in the stretch, then 17"
+    three, over = [1, 1, 1], [1, UNIT + 1, 1]
+    cases = (
+        (Rule(8, 0, 9), 0, 9, 0, [], [], 0, 1), (Rule(2, 0, 0), 0, 9, 0, [], [], 0, 2), (Rule(2, 0, 0), 2, 1, 9, over, [], 0, 3),
+        (Rule(2, 0, 0), 1, 3, 9, over, [], 0, 4), (Rule(2, 0, 0), 1, 3, 0, three, [], 0, 5), (Rule(1, 4, 0), 1, 3, 0, three, [], 0, 6),
+        (Rule(1, 1, 0), 1, 3, 0, three, [], 7799, 7), (Rule(1, 1, 0), 1, 3, 0, three, [], 7800, 17),
+        (Rule(1, 1, 0), 1, 3, 4, three, [], 7800, 17), (Rule(1, 1, 0), 2, 2, 1, three, [], 7800, 17),
+        (Rule(1, 1, 0), 2, 2, 3, three, [], 7800, 17), (Rule(1, 1, 0), 1, 3, 2 ** 64 - 1, three, [], 7800, 17),
+        # the chosen fan's own number, in the stretch and out of it
+        (Rule(1, 1, 0), 1, 3, 2, over, [], 7800, 4), (Rule(1, 1, 0), 2, 2, 2, over, [], 7800, 4),
+        (Rule(1, 1, 0), 1, 1, 2, over, [], 7800, 17), (Rule(1, 1, 0), 3, 3, 2, over, [], 7800, 17),
+    )
+    for rule, a, b, fan, survivals, weights, room, number in cases:
+        yield worth(rule, a, b, fan, survivals, weights, room), Refusal(number)
+    yield worth(Rule(1, 1, 0), 2, 2, 2, [2 ** 32 - 1, UNIT, 2 ** 32 - 1], []), (UNIT, UNIT)
+
+
+def worths_of_files():
+    """What deckworth prints is what the call for C answers, on the documents' file and on others."""
+    yield deckworth_output(DECK_FILE).splitlines()[:6], [
+        *(f"system 1 fan {fan} lower 536870912 upper 536870912" for fan in (1, 2, 3)), "system 2 fan 1 lower 268435456 upper 268435456",
+        "system 2 fan 2 lower 805306368 upper 805306368", "system 2 fan 3 lower 268435456 upper 268435456"]
+    yield deckworth_output(DECK_FILE).splitlines()[6:], [f"system 3 fan {fan} refused 6" for fan in (1, 2, 3)]
+    for system, fan, number in ((0, 1, 14), (4, 0, 14), (2 ** 64 - 1, 1, 14), (3, 0, 6), (1, 0, 17), (1, 4, 17), (1, 2 ** 64 - 1, 17)):
+        yield worth_of_file(DECK_FILE, system, fan), Refusal(number)
+    seen = set()
+    for data in (data for data in random_files(18, 120) if len(data) < 300):
+        if file_refusal(data):
+            yield deckworth_output(data), decklist_output(data)
+            yield worth_of_file(data, 0, 0), Refusal(file_refusal(data))
+            continue
+        deck = read_deck(data)
+        asked = [(system, fan) for system in range(1, len(deck.systems) + 1) for fan in range(1, len(deck.survivals) + 1)]
+        for (system, fan), line in zip(asked, deckworth_output(data).splitlines(), strict=True):
+            answer = worth_of_file(data, system, fan)
+            refused = isinstance(answer, Refusal)
+            seen.add(answer.number if refused else 0)
+            yield line, f"system {system} fan {fan} " + (f"refused {answer.number}" if refused else f"lower {answer[0]} upper {answer[1]}")
+    yield seen, {0, 1, 3, 4, 5, 6, 17}
+
+
 def stretches_read_inside_only():
     # document 01, 'Stretches': what stands outside changes no answer
     rng = random.Random(7)
@@ -360,7 +465,7 @@ GROUPS = (
     published_figures, table_1_exactly, example_file, traps, source_equations, pascal, verdicts_three_ways, long_verdicts_three_ways,
     counts_three_ways, enclosure, figures_two_ways, rules_accepted, refusals_of_calls,
     refusals_of_states_and_counts, stretches_read_inside_only, deck_files, printed_and_packed,
-    header_damage, lent_tables,
+    header_damage, lent_tables, worths_by_words, worths_of_parts, plain_worths, refusals_of_worths, worths_of_files,
 )
 
 
