@@ -2,9 +2,10 @@
 
     python3 second/cases.py NAME STDIN STDOUT
 
-NAME is verdict, figures or counts. STDIN gets the number of cases and then the
-cases, all of it unsigned 64-bit little-endian words; STDOUT gets one line for
-each case. The same NAME always gives the same two files.
+NAME is verdict, figures or counts; the figures' cases are followed by those of
+the worth of a fan. STDIN gets the number of cases and then the cases, all of it
+unsigned 64-bit little-endian words; STDOUT gets one line for each case. The same
+NAME always gives the same two files.
 """
 
 import sys
@@ -12,9 +13,11 @@ import sys
 import counts_cases
 import figures_cases
 import verdict_cases
+import worth_cases
 from words import pack
 
-MODULES = {"verdict": verdict_cases, "figures": figures_cases, "counts": counts_cases}
+MODULES = {"verdict": (verdict_cases,), "figures": (figures_cases, worth_cases), "counts": (counts_cases,)}
+MOST_BYTES = 2 ** 20  # the room that a case-running program has for either file
 
 
 def missing_answers(wanted, lines):
@@ -23,17 +26,27 @@ def missing_answers(wanted, lines):
                   if not any(f"{line} ".startswith(f"{answer} ") for line in lines))
 
 
-def write_cases(module, input_path, output_path):
-    cases = module.make_cases()
+def lines_of(module, cases):
     lines = [case.line() for case in cases]
     missing = missing_answers(module.ANSWERS_WANTED, lines)
     if missing:
-        sys.exit(f"no case is answered: {', '.join(missing)}")
-    with open(input_path, "wb") as target:
-        target.write(pack([len(cases)]))
-        target.writelines(pack(case.words()) for case in cases)
-    with open(output_path, "w", encoding="ascii", newline="\n") as target:
-        target.writelines(line + "\n" for line in lines)
+        sys.exit(f"no case of {module.__name__} is answered: {', '.join(missing)}")
+    return lines
+
+
+def write_file(path, data):
+    if len(data) > MOST_BYTES:
+        sys.exit(f"{path}: {len(data)} bytes, and a case-running program reads and writes {MOST_BYTES}")
+    with open(path, "wb") as target:
+        target.write(data)
+
+
+def write_cases(modules, input_path, output_path):
+    made = [(module, module.make_cases()) for module in modules]
+    cases = [case for _, some in made for case in some]
+    lines = [line for module, some in made for line in lines_of(module, some)]
+    write_file(input_path, pack([len(cases)]) + b"".join(pack(case.words()) for case in cases))
+    write_file(output_path, "".join(line + "\n" for line in lines).encode("ascii"))
 
 
 def main(arguments):

@@ -1,6 +1,7 @@
 """Cases for the figures of a stretch; a whole list is its stretch 1 to n.
 
-Words of a case: kind, first, second, a, b, room, seed, N, the survival numbers, W, the weights.
+Words of a case: call (0 the figures, 1 the worth of a fan), kind, first, second, a, b, fan (0 for the figures), room, seed, N, the survival
+numbers, W, the weights. second/worth_cases.py has the cases of call 1, which stand behind these in the same file.
 """
 
 import random
@@ -15,6 +16,7 @@ from samples import (
 )
 from words import checksum, rubbish
 
+FIGURES = 0  # the word `call`
 ANSWERS_WANTED = {"low"} | {f"refused {number}" for number in range(1, 8)}
 SEEDS = (0, 1, 3, 2 ** 32, 2 ** 63, 2 ** 64 - 1, 2685821657736338717)
 
@@ -28,20 +30,23 @@ class Case(NamedTuple):
     survivals: list
     weights: list
 
-    def words(self):
-        return [*self.rule, self.a, self.b, self.room, self.seed,
+    def words(self, call=FIGURES, fan=0):
+        return [call, *self.rule, self.a, self.b, fan, self.room, self.seed,
                 len(self.survivals), *self.survivals, len(self.weights), *self.weights]
 
     def answer(self):
         return figures(self.rule, self.a, self.b, self.survivals, self.weights, self.room)
 
-    def line(self):
-        answer = self.answer()
+    def line_of(self, answer, first, second):
+        """The line of an answer whose two ends have these names."""
         table, = rubbish(self.seed, self.room)
         cells = f"cells {checksum(working_table_after(table, answer))}"
         if isinstance(answer, Refusal):
             return f"refused {answer.number} {cells}"
-        return f"low {answer[0]} high {answer[1]} {cells}"
+        return f"{first} {answer[0]} {second} {answer[1]} {cells}"
+
+    def line(self):
+        return self.line_of(self.answer(), "low", "high")
 
 
 def published_cases():

@@ -31,7 +31,7 @@ def answer_of(line):
 def begins_published(name):
     """Does the stored case file, after its number of cases, begin with the published ones?"""
     stored = (root / f"crates/{name}_cases/stdin").read_bytes()
-    return stored[8:].startswith(b"".join(pack(case.words()) for case in MODULES[name].published_cases()))
+    return stored[8:].startswith(b"".join(pack(case.words()) for case in MODULES[name][0].published_cases()))
 
 
 def differences(name, entries):

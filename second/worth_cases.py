@@ -1,0 +1,178 @@
+"""Cases for the worth of a fan: what the figures are asked with (second/figures_cases.py), and the fan; they stand behind the figures' cases."""
+
+import random
+from typing import NamedTuple
+
+from figures_cases import Case as Asked
+from figures_cases import part, spoil, whole
+from foambeetle import KINDS, MOST_WEIGHT, TABLE_CELLS, UNIT, Rule, worth
+from samples import (
+    EDGE_SURVIVALS, HUGE, OVER_UNIT, all_rules, edge_rules, random_rule, random_stretch, random_survivals, random_weights, rules_in_range,
+    unread_weights, weights_for, weights_of_total, wrong_rules,
+)
+
+WORTH = 1  # the word `call`
+OUTSIDE = 17  # the refusal of the fan
+ANSWERS_WANTED = {"lower"} | {f"refused {number}" for number in (*range(1, 8), OUTSIDE)}
+
+
+class Case(NamedTuple):
+    asked: Asked
+    fan: int
+
+    def words(self):
+        return self.asked.words(WORTH, self.fan)
+
+    def line(self):
+        rule, a, b, room, _, survivals, weights = self.asked
+        return self.asked.line_of(worth(rule, a, b, self.fan, survivals, weights, room), "lower", "upper")
+
+
+def with_number(asked, fan, survival):
+    """The same with another survival number of one fan."""
+    survivals = list(asked.survivals)
+    survivals[fan - 1] = survival
+    return asked._replace(survivals=survivals)
+
+
+def small_cases(rng):
+    """Every rule in range for n up to 4, and every fan; for n = 5 the fans at the ends and one between."""
+    for n in range(1, 6):
+        weights = weights_of_total(rng, n, n + 1)
+        for rule in all_rules(n, sum(weights)):
+            read = weights if rule.kind == 2 else unread_weights(rng)
+            asked = whole(rng, rule, random_survivals(rng, n), read)
+            yield from (Case(asked, fan) for fan in (range(1, n + 1) if n < 5 else (1, rng.randint(2, 4), 5)))
+
+
+def own_number_cases(rng):
+    """The chosen fan's number at every edge of its range, and above it: the edges change no answer, what is above is refused 4."""
+    for kind in KINDS:
+        for n in (2, 5):
+            weights = weights_of_total(rng, n, n + 1) if kind == 2 else []
+            asked = whole(rng, random_rule(rng, kind, n, n + 1), random_survivals(rng, n), weights)
+            fan = rng.randint(1, n)
+            yield from (Case(with_number(asked, fan, survival), fan) for survival in EDGE_SURVIVALS + OVER_UNIT)
+
+
+def long_cases(rng):
+    """Random rules for larger n, and the ends of the range for n = 64."""
+    for kind in KINDS:
+        for place in range(14):
+            n = rng.randint(6, 40) if place % 5 == 0 else rng.randint(6, 16)
+            weights = weights_for(rng, kind, n)
+            asked = whole(rng, random_rule(rng, kind, n, sum(weights)), random_survivals(rng, n), weights)
+            yield Case(asked, rng.choice((1, n, rng.randint(1, n))))
+        weights = weights_of_total(rng, 64, MOST_WEIGHT) if kind == 2 else []
+        for rule in edge_rules(kind, 64, MOST_WEIGHT):
+            yield Case(whole(rng, rule, random_survivals(rng, 64), weights), rng.choice((1, 2, 32, 63, 64)))
+
+
+def sound_fan_cases(rng):
+    """Lists of 64 sound fans, where both figures stand well inside the range."""
+    for kind in KINDS:
+        weights = weights_of_total(rng, 64, MOST_WEIGHT) if kind == 2 else []
+        rules = rules_in_range(kind, 64, MOST_WEIGHT)
+        survivals = [UNIT - rng.randrange(UNIT // 64) for _ in range(64)]
+        for rule in (rules[1], rules[3]):
+            yield from (Case(whole(rng, rule, survivals, weights), fan) for fan in (1, 33, 64))
+
+
+def no_weight_cases(rng):
+    """Kind 2: fans of no weight, whose worth lies to either side of 0, beside fans of some."""
+    for _ in range(30):
+        n = rng.randint(2, 12)
+        weights = weights_of_total(rng, n, rng.choice((n, 40, MOST_WEIGHT)))
+        light = rng.randint(1, n)
+        weights[light - 1] = 0
+        rule = random_rule(rng, 2, n, sum(weights)) or Rule(1, 1, 0)
+        asked = whole(rng, rule, [rng.randrange(UNIT + 1) for _ in range(n)], weights)
+        yield Case(asked, light)
+        yield Case(asked, light % n + 1)
+
+
+def harmful_fan_cases(rng):
+    """Kind 3, where a fan that works can bring the number failed down to where the system fails."""
+    for _ in range(40):
+        n = rng.randint(1, 9)
+        low = rng.randint(0, n - 1)
+        asked = whole(rng, Rule(3, low, rng.randint(low, n - 1)), [rng.randrange(UNIT + 1) for _ in range(n)], unread_weights(rng))
+        yield Case(asked, rng.randint(1, n))
+
+
+def stretch_cases(rng):
+    """Stretches inside a list: the fans at both ends of each, those just outside, and any; what stands outside must not be read."""
+    # document 02, request 06: "17, fan number outside the stretch"
+    for _ in range(110):
+        n = rng.randint(1, 9)
+        a, b = random_stretch(rng, n)
+        kind = rng.choice(KINDS)
+        survivals = random_survivals(rng, n)
+        weights = random_weights(rng, n) if kind == 2 else unread_weights(rng)
+        rule = random_rule(rng, kind, b - a + 1, sum(weights[a - 1:b])) or Rule(4, 1, 0)
+        for outside in [*range(a - 1), *range(b, n)]:
+            survivals[outside] = rng.choice(OVER_UNIT + (7,))
+            if kind == 2:
+                weights[outside] = rng.choice((0, 121, 65535))
+        asked = part(rng, rule, a, b, survivals, weights)
+        yield from (Case(asked, fan) for fan in sorted({a, b, a - 1, b + 1, rng.randint(1, n)}))
+
+
+def outside_cases(rng):
+    """Fans on no list: 0, one past the last, huge, and those that would be fan 1 if they were cut to fewer bits."""
+    for n in (1, 2, 5):
+        for kind in KINDS:
+            weights = weights_of_total(rng, n, n + 1) if kind == 2 else []
+            asked = whole(rng, random_rule(rng, kind, n, n + 1) or Rule(1, 1, 0), random_survivals(rng, n), weights)
+            yield from (Case(asked, fan) for fan in (0, n + 1, 65, *HUGE, 2 ** 8 + 1, 2 ** 16 + 1, 2 ** 32 + 1, 2 ** 63 + 1))
+
+
+def room_cases(rng):
+    """Working tables of no cells, one too few, just enough and more; a table too short comes before a fan outside."""
+    for kind in KINDS:
+        weights = weights_of_total(rng, 4, 6) if kind == 2 else []
+        for room in (0, TABLE_CELLS - 1, TABLE_CELLS, 8000):
+            asked = whole(rng, random_rule(rng, kind, 4, 6), random_survivals(rng, 4), weights)._replace(room=room)
+            yield from (Case(asked, fan) for fan in (0, rng.randint(1, 4)))
+
+
+def rule_cases(rng):
+    """Rules just out of range, which come before a fan outside."""
+    for n in (1, 3):
+        for kind in KINDS:
+            weights = weights_of_total(rng, n, n + 1)
+            for rule in wrong_rules(kind, n, n + 1):
+                asked = part(rng, rule, 2, n + 1, random_survivals(rng, n + 2), [1] + weights + [1])
+                yield Case(asked, rng.choice((0, 1, 2, n + 1, n + 2)))
+
+
+def length_cases(rng):
+    """No fans, and more than 64."""
+    for n in (0, 65):
+        for kind in (0, 1, 2, 5):
+            asked = whole(rng, Rule(kind, 1, 0), random_survivals(rng, n), [1] * min(n, 3))
+            yield from (Case(asked, fan) for fan in (0, 1, n))
+
+
+def refused_cases(rng):
+    """One, two or three things wrong at once, so that the first in the order must win."""
+    for _ in range(300):
+        n = rng.choice((1, 2, 3, 5, 7))
+        a, b = random_stretch(rng, n)
+        kind = rng.choice(KINDS)
+        weights = random_weights(rng, n) if kind == 2 else unread_weights(rng)
+        rule = random_rule(rng, kind, b - a + 1, sum(weights[a - 1:b])) or Rule(1, 1, 0)
+        asked, fan = part(rng, rule, a, b, random_survivals(rng, n), weights), rng.randint(a, b)
+        for damage in sorted(rng.sample((*range(1, 8), OUTSIDE), rng.choice((1, 2, 2, 3))), reverse=True):
+            if damage == OUTSIDE:
+                fan = rng.choice((0, a - 1, b + 1, *HUGE))
+            else:
+                asked = spoil(rng, asked, damage)
+        yield Case(asked, fan)
+
+
+def make_cases():
+    rng = random.Random(606)
+    makers = (small_cases, own_number_cases, long_cases, sound_fan_cases, no_weight_cases, harmful_fan_cases, stretch_cases, outside_cases,
+              room_cases, rule_cases, length_cases, refused_cases)
+    return [case for maker in makers for case in maker(rng)]
