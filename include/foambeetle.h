@@ -1,15 +1,16 @@
-/* foambeetle.h: the loading computer's call.
+/* foambeetle.h: the loading computer's call, and the worth of one fan.
  *
- * Link with libfoambeetle.a or libfoambeetle.so (x86-64), which need nothing but memcpy and memset. The call reads a
- * deck file's bytes, rates one of its systems, and answers one 64-bit number. It writes nothing of the caller's, keeps
- * nothing between calls, and may run in several threads at once. It uses up to 67,000 bytes of stack, 62,400 of them its
- * working table.
+ * Link with libfoambeetle.a or libfoambeetle.so (x86-64), which need nothing but memcpy and memset. Each call reads a
+ * deck file's bytes: foambeetle_rate rates one of its systems and answers one 64-bit number, foambeetle_worth tells what
+ * one of its fans is worth to a system. A call writes nothing of the caller's but the two ends of a worth, keeps nothing
+ * between calls, and may run in several threads at once. It uses up to 70,000 bytes of stack, 62,400 of them its working
+ * table.
  *
  * Figures are parts of FOAMBEETLE_UNIT: the exact chance that the system works lies between low / 2^30 and
- * high / 2^30.
+ * high / 2^30. So are the ends of a worth, which may be negative.
  *
- * A refusal is a number of this table. 2 and 10 to 13 refuse the whole file, 14 the system number, and the others the
- * system alone:
+ * A refusal is a number of this table. 2 and 10 to 13 refuse the whole file, 14 the system number, 17 the fan's, and the
+ * others the system alone:
  *
  *    1  kind not 1..7
  *    2  number of fans 0 or above 64
@@ -22,6 +23,7 @@
  *   12  number of systems not 1..32
  *   13  an offset or the file's length differs from the layout
  *   14  system number 0 or above the file's count
+ *   17  worth: the fan is not in the system's stretch
  */
 #ifndef FOAMBEETLE_H
 #define FOAMBEETLE_H
@@ -67,6 +69,12 @@ static inline uint32_t foambeetle_high(uint64_t answer)
 {
     return (uint32_t)(answer & 0xffffffffu);
 }
+
+/* The worth of a fan to a system, both counted from 1, of the same file: the system's chance with that fan sure to work,
+ * less its chance with it sure to fail. The exact difference lies between ends[0] / 2^30, the lower, and
+ * ends[1] / 2^30, the upper; both run from -2^30 to 2^30, and they are at most 2n - 2 apart for a stretch of n fans. The
+ * answer is 0 where they are written, and the refusal's number where nothing is. `ends` has room for two numbers. */
+uint64_t foambeetle_worth(const uint8_t *file, size_t length, uint64_t system, uint64_t fan, int64_t *ends);
 
 #ifdef __cplusplus
 }
