@@ -1,4 +1,4 @@
-"""What the tests share: the project's folder, running a command, building by make, and the C compiler for x86-64."""
+"""What the tests share: the project's folder, its programs and C samples, running a command, building by make, and the C compiler for x86-64."""
 
 import os
 import subprocess
@@ -10,7 +10,19 @@ root = Path(__file__).resolve().parent.parent
 room = root / "target/tests"
 sys.path.insert(0, str(root / "second"))
 
+from foambeetle import decklist_output, deckworth_output  # noqa: E402
+
 STRICT = ("-Wall", "-Wextra", "-Werror", "-O1")
+
+
+def rated_lines(data):
+    """What decklist prints of a sound file, less its first line."""
+    return decklist_output(data).split("\n", 1)[1]
+
+
+# The programs, and the C samples of the library's calls, each with what the second program prints for it.
+PROGRAMS = {"decklist": decklist_output, "deckworth": deckworth_output}
+SAMPLES = {"rate": rated_lines, "worth": deckworth_output}
 
 
 def run(words, data=b"", **more):
@@ -21,6 +33,16 @@ def make(*words):
     """make as a person starts it, also below another make."""
     plain = {name: value for name, value in os.environ.items() if name not in ("MAKEFLAGS", "MAKELEVEL", "MFLAGS")}
     return run(["make", "--no-print-directory", "-C", root, *words], env=plain)
+
+
+def prove():
+    """The programs, proved and built."""
+    make(*(f"target/stamp/{program}" for program in PROGRAMS))
+
+
+def started(program, *words):
+    """The words that start a program that rt built."""
+    return [root / "tests/run-program", program, *words]
 
 
 @lru_cache(maxsize=None)
@@ -47,6 +69,16 @@ def decks():
     return sorted((root / "samples").glob("*.deck"))
 
 
+def sample(name):
+    return root / f"samples/{name}.c"
+
+
+def compare_samples(what, words, output, by_name=False):
+    """The sample decks through a program, each on its standard input, and where the program opens it itself by its name too."""
+    got = [run([*words, *([deck] if by_name else [])], deck.read_bytes()).decode() for deck in decks()]
+    return compare(f"samples through {what}", got, [output(deck.read_bytes()) for deck in decks()])
+
+
 def reported(wrong, said):
     """What is wrong, a line each, and what was looked at; the exit status."""
     for line in wrong:
@@ -55,12 +87,12 @@ def reported(wrong, said):
     return 1 if wrong else 0
 
 
-def held(*checks):
-    """Whether each check, named as its function is, holds."""
+def held(*checks, of=()):
+    """Whether each check, named as its function is, holds of these names, or at all."""
     good = True
     for check in checks:
-        holds = check()
-        print(f"{check.__name__.replace('_', ' ')}: {'yes' if holds else 'NO'}")
+        holds = check(*of)
+        print(f"{' '.join((*of, check.__name__.replace('_', ' ')))}: {'yes' if holds else 'NO'}")
         good &= holds
     return good
 

@@ -5,9 +5,7 @@ import os
 import shutil
 import sys
 
-from common import build, compare, decks, make, room, root, run, tools
-
-from foambeetle import decklist_output
+from common import PROGRAMS, SAMPLES, build, compare_samples, held, make, room, root, run, sample, tools
 
 STAGE = room / "stage"
 PREFIX = "/usr"
@@ -30,29 +28,38 @@ def pkg_config_version():
     return f"Version: {(root / 'VERSION').read_text().strip()}" in lines
 
 
-def found_by_pkg_config():
-    """The C sample, built with the words that pkg-config gives for what was installed."""
-    if shutil.which("pkg-config") is None:
-        print("skipped: a program built by pkg-config, which is not there")
-        return None
+def pages_there():
+    """Every program has its man page."""
+    return all((PLACE / f"share/man/man1/{program}.1").exists() for program in PROGRAMS)
+
+
+def library_words():
+    """The words that pkg-config gives for what was installed."""
     own = {**os.environ, "PKG_CONFIG_LIBDIR": str(PLACE / "lib/pkgconfig"), "PKG_CONFIG_SYSROOT_DIR": str(STAGE), "PKG_CONFIG_ALLOW_SYSTEM_CFLAGS": "1",
            "PKG_CONFIG_ALLOW_SYSTEM_LIBS": "1"}
-    words = run(["pkg-config", "--cflags", "--libs", "foambeetle"], env=own).decode().split()
-    return [*tools()[1], build(root / "samples/rate.c", "rate_installed", "-static", *words)]
+    return run(["pkg-config", "--cflags", "--libs", "foambeetle"], env=own).decode().split()
+
+
+def samples_agree():
+    """The C samples, built with those words."""
+    if shutil.which("pkg-config") is None:
+        print("skipped: programs built by pkg-config, which is not there")
+        return True
+    good = True
+    for name, output in SAMPLES.items():
+        program = build(sample(name), f"{name}_installed", "-static", *library_words())
+        good &= compare_samples(f"the installed library, by {name}", [*tools()[1], program], output, by_name=True)
+    return good
 
 
 def main():
     shutil.rmtree(STAGE, ignore_errors=True)
     make("install", f"DESTDIR={STAGE}", f"PREFIX={PREFIX}")
     print(f"installed: {' '.join(installed())}")
-    wanted = [decklist_output(deck.read_bytes()) for deck in decks()]
-    good = pkg_config_version() and all(alone(program) for program in (PLACE / "bin").iterdir())
-    printed = [run([*tools()[1], PLACE / "bin/decklist"], deck.read_bytes()).decode() for deck in decks()]
-    good &= compare("samples through the installed decklist", printed, wanted)
-    sample = found_by_pkg_config()
-    if sample:
-        got = [run([*sample, deck]).decode() for deck in decks()]
-        good &= compare("samples through the installed library", got, [text.split("\n", 1)[1] for text in wanted])
+    good = held(pages_there, pkg_config_version) and all(alone(program) for program in (PLACE / "bin").iterdir())
+    for program, output in PROGRAMS.items():
+        good &= compare_samples(f"the installed {program}", [*tools()[1], PLACE / "bin" / program], output)
+    good &= samples_agree()
     make("uninstall", f"DESTDIR={STAGE}", f"PREFIX={PREFIX}")
     print(f"left by uninstall: {installed()}")
     return 0 if good and not installed() else 1

@@ -11,9 +11,9 @@ import shutil
 import sys
 from pathlib import Path
 
-from common import build, compare, decks, make, root, run, static, tools
+from common import SAMPLES, build, compare, compare_samples, decks, make, root, run, sample, static, tools
 
-from foambeetle import decklist_output, rate, read_deck
+from foambeetle import Refusal, rate, read_deck, worth_of_file
 
 LIBRARY = root / "target/lib"
 SHARED = LIBRARY / "libfoambeetle.so"
@@ -53,38 +53,49 @@ def starter():
     return [*tools()[1], loader, "--library-path", f"{loader.parent}:{LIBRARY}"]
 
 
-def programs():
-    """The C sample, built each way: what to call it, and the words that start it."""
-    sample = root / "samples/rate.c"
-    yield "a static program", static(sample, "rate_static")
-    pie = build(sample, "rate_pie", "-pie", "-fPIE", *HERE, LIBRARY / "libfoambeetle.a")
+def built(name):
+    """A C sample, built each way: what to call it, and the words that start it."""
+    source = sample(name)
+    yield "a static program", static(source, f"{name}_static")
+    pie = build(source, f"{name}_pie", "-pie", "-fPIE", *HERE, LIBRARY / "libfoambeetle.a")
     yield "a position-independent program", [*starter(), pie]
-    yield "the shared library", [*starter(), build(sample, "rate_shared", *HERE, "-lfoambeetle")]
+    yield "the shared library", [*starter(), build(source, f"{name}_shared", *HERE, "-lfoambeetle")]
     plus = tools()[0].removesuffix("gcc") + "g++"
     if shutil.which(plus) is None:
         print(f"skipped: the library from C++, since there is no {plus}")
         return
-    yield "C++", [*starter(), build(sample, "rate_plus", *HERE, "-lfoambeetle", compiler=plus, standard="-std=c++17")]
+    yield "C++", [*starter(), build(source, f"{name}_plus", *HERE, "-lfoambeetle", compiler=plus, standard="-std=c++17")]
 
 
-def by_ctypes(library, data, system):
-    call = ctypes.CDLL(str(library)).foambeetle_rate
+def rated_by_ctypes(library, data, system):
+    call = library.foambeetle_rate
     call.argtypes, call.restype = [ctypes.c_char_p, ctypes.c_size_t, ctypes.c_uint64], ctypes.c_uint64
     return call(data, len(data), system)
 
 
+def worth_by_ctypes(library, data, system, fan):
+    """The two ends or the refusal; a refusal must leave the ends as they were."""
+    pair, before = ctypes.c_int64 * 2, (2 ** 62, -2 ** 62)
+    call, ends = library.foambeetle_worth, pair(*before)
+    call.argtypes, call.restype = [ctypes.c_char_p, ctypes.c_size_t, ctypes.c_uint64, ctypes.c_uint64, pair], ctypes.c_uint64
+    refusal = call(data, len(data), system, fan, ends)
+    return Refusal(refusal) if refusal and tuple(ends) == before else tuple(ends)
+
+
 def python_answers():
+    library = ctypes.CDLL(str(SHARED))
     asked = [(deck.read_bytes(), system) for deck in decks() for system in range(len(read_deck(deck.read_bytes()).systems) + 2)]
-    got = [by_ctypes(SHARED, data, system) for data, system in asked]
-    return compare("answers through ctypes", got, [rate(data, system) for data, system in asked])
+    good = compare("answers through ctypes", [rated_by_ctypes(library, *one) for one in asked], [rate(*one) for one in asked])
+    fans = [(data, system, fan) for data, system in asked for fan in (0, 1, len(read_deck(data).survivals), 2 ** 64 - 1)]
+    return good & compare("worths through ctypes", [worth_by_ctypes(library, *one) for one in fans], [worth_of_file(*one) for one in fans])
 
 
 def main():
     make("lib")
     good = names()
-    wanted = [decklist_output(deck.read_bytes()).split("\n", 1)[1] for deck in decks()]
-    for what, words in programs():
-        good &= compare(f"samples through {what}", [run([*words, deck]).decode() for deck in decks()], wanted)
+    for name, output in SAMPLES.items():
+        for what, words in built(name):
+            good &= compare_samples(f"{what}, by {name}", words, output, by_name=True)
     if NATIVE:
         good &= python_answers()
     else:

@@ -1,8 +1,12 @@
-/* Calls foambeetle_rate on every deck file of standard input (for each its length in 4 bytes, lowest first, then its bytes) and prints the
- * answers, in hex, a line a file: for the system numbers 0 to one above the file's count, and for two huge ones. Each system is asked twice, with
- * the bytes' end at a page that may not be touched and with their start at another, so that a read past either end stops the program; the two
- * answers must be one, and the bytes as they were. The last line is the deepest stack that a call used. */
+/* Makes the library's calls on every deck file of standard input and prints a line for each system that is asked for: its number, what
+ * foambeetle_rate answers, in hex, the fan that is asked for with it, and what foambeetle_worth answers. The input has for each file its length in 4
+ * bytes, its bytes, the number of systems in 4 bytes, and for each its number and the fan's in 8 bytes, all lowest byte first.
+ *
+ * Every call is made twice, with what it is lent ending at a page that may not be touched and beginning behind another, so that a step past either
+ * end stops the program. The two answers must be one, the file's bytes as they were, and the ends untouched where the call refuses. The last line is
+ * the deepest stack that a call used. */
 #define _GNU_SOURCE
+#include <inttypes.h>
 #include <signal.h>
 #include <stdio.h>
 #include <stdlib.h>
@@ -19,36 +23,38 @@
 #define PAGE 65536u
 #define STACK (4 * PAGE)
 #define PAINT 0xa5
-#define MOST_SYSTEMS 33u
+#define ENDS (2 * sizeof(int64_t))
+/* The bytes of the ends' page that are looked at beside the ends. */
+#define BESIDE 256u
 
-static uint8_t *page;
+static uint8_t *file_page, *ends_page;
 static uint8_t *stack;
 static uint8_t before[PAGE];
 static ucontext_t caller, callee;
 
-/* The call that runs on the painted stack. */
+/* What is asked of a file, and what is answered. */
+struct asked {
+    uint64_t system, fan;
+};
+
+struct answer {
+    uint64_t rated, refused;
+    int64_t ends[2];
+};
+
+/* The calls that run on the painted stack. */
 static struct {
     const uint8_t *file;
     size_t length;
-    uint64_t system;
-    uint64_t answer;
+    struct asked asked;
+    int64_t *ends;
+    uint64_t rated, refused;
     uint8_t *top;
 } call;
 
 static void stop(const char *why) {
     fprintf(stderr, "loading_test: %s\n", why);
     exit(1);
-}
-
-/* A page that may be read and written, between two that may not. */
-static void make_page(void) {
-    uint8_t *all = mmap(NULL, 4 * PAGE, PROT_NONE, MAP_PRIVATE | MAP_ANONYMOUS, -1, 0);
-
-    if (all == MAP_FAILED)
-        stop("no memory for the guard pages");
-    page = all + (PAGE - (uintptr_t)all % PAGE) % PAGE + PAGE;
-    if (mprotect(page, PAGE, PROT_READ | PROT_WRITE))
-        stop("the page cannot be made readable");
 }
 
 /* Does reading this byte stop a program? */
@@ -69,9 +75,24 @@ static int guarded(const uint8_t *byte) {
     return WIFSIGNALED(status) && WTERMSIG(status) == SIGSEGV;
 }
 
-static void run_call(void) {
+/* A page that may be read and written, between two that may not. */
+static uint8_t *make_page(void) {
+    uint8_t *all = mmap(NULL, 4 * PAGE, PROT_NONE, MAP_PRIVATE | MAP_ANONYMOUS, -1, 0);
+    uint8_t *page = all + (PAGE - (uintptr_t)all % PAGE) % PAGE + PAGE;
+
+    if (all == MAP_FAILED)
+        stop("no memory for the guard pages");
+    if (mprotect(page, PAGE, PROT_READ | PROT_WRITE))
+        stop("the page cannot be made readable");
+    if (!guarded(page - 1) || !guarded(page + PAGE))
+        stop("the guard pages can be read");
+    return page;
+}
+
+static void run_calls(void) {
     call.top = __builtin_frame_address(0);
-    call.answer = foambeetle_rate(call.file, call.length, call.system);
+    call.rated = foambeetle_rate(call.file, call.length, call.asked.system);
+    call.refused = foambeetle_worth(call.file, call.length, call.asked.system, call.asked.fan, call.ends);
 }
 
 static void make_stack(void) {
@@ -81,20 +102,20 @@ static void make_stack(void) {
     memset(stack, PAINT, STACK);
 }
 
-/* The call, on the painted stack. */
-static uint64_t rate(const uint8_t *file, size_t length, uint64_t system) {
+/* The calls, on the painted stack. */
+static void make_calls(const uint8_t *file, size_t length, struct asked asked, uint8_t *ends) {
     call.file = file;
     call.length = length;
-    call.system = system;
+    call.asked = asked;
+    call.ends = (int64_t *)ends;
     if (getcontext(&callee))
         stop("no context");
     callee.uc_stack.ss_sp = stack;
     callee.uc_stack.ss_size = STACK;
     callee.uc_link = &caller;
-    makecontext(&callee, run_call, 0);
+    makecontext(&callee, run_calls, 0);
     if (swapcontext(&caller, &callee))
         stop("cannot change stacks");
-    return call.answer;
 }
 
 static size_t deepest(void) {
@@ -105,68 +126,89 @@ static size_t deepest(void) {
     return (size_t)(call.top - (stack + lowest));
 }
 
-/* How many system numbers from 0 on are asked of a file. */
-static uint64_t asked(const uint8_t *file, size_t length) {
-    uint64_t count = length < 8 ? 1 : file[6] + 256u * file[7];
+static int painted(const uint8_t *from, size_t length) {
+    size_t at = 0;
 
-    return (count < MOST_SYSTEMS ? count : MOST_SYSTEMS) + 2;
+    while (at < length && from[at] == PAINT)
+        at++;
+    return at == length;
 }
 
-static uint64_t number(uint64_t place, uint64_t count) {
-    if (place < count)
-        return place;
-    return place == count ? UINT64_C(1) << 63 : UINT64_MAX;
+/* Both calls with what they are lent at these places, and `beside` next to the ends: the answer, and nothing else changed. */
+static struct answer answer_at(uint8_t *at, uint8_t *ends, const uint8_t *beside, const uint8_t *file, size_t length, struct asked asked) {
+    struct answer answer;
+
+    memcpy(at, file, length);
+    memset(ends, PAINT, ENDS);
+    make_calls(at, length, asked, ends);
+    if (memcmp(at, file, length))
+        stop("a lent byte was changed");
+    if (!painted(beside, BESIDE))
+        stop("a byte beside the ends was changed");
+    if (call.refused && !painted(ends, ENDS))
+        stop("the ends were written on a refusal");
+    answer.rated = call.rated;
+    answer.refused = call.refused;
+    memcpy(answer.ends, ends, ENDS);
+    return answer;
 }
 
-/* One system of a file, at both places: one answer, and the bytes as they were. */
-static uint64_t answer_at(const uint8_t *file, size_t length, uint64_t system) {
-    uint8_t *upper = page + PAGE - length;
-    uint64_t high, low;
+/* The same with all of it against the page behind, and against the page before: one answer. */
+static struct answer answer_of(const uint8_t *file, size_t length, struct asked asked) {
+    uint8_t *last = ends_page + PAGE - ENDS;
+    struct answer upper = answer_at(file_page + PAGE - length, last, last - BESIDE, file, length, asked);
+    struct answer lower = answer_at(file_page, ends_page, ends_page + ENDS, file, length, asked);
 
-    memcpy(upper, file, length);
-    high = rate(upper, length, system);
-    if (memcmp(upper, file, length))
-        stop("a lent byte was changed");
-    memcpy(page, file, length);
-    low = rate(page, length, system);
-    if (memcmp(page, file, length))
-        stop("a lent byte was changed");
-    if (low != high)
+    if (memcmp(&upper, &lower, sizeof lower))
         stop("the two places are answered differently");
-    return low;
+    return lower;
 }
 
-static void print_file(const uint8_t *file, size_t length) {
-    uint64_t count = asked(file, length);
-    uint64_t place;
-
-    for (place = 0; place < count + 2; place++)
-        printf("%s%llx", place ? " " : "", (unsigned long long)answer_at(file, length, number(place, count)));
-    putchar('\n');
+static void print_answer(struct asked asked, struct answer answer) {
+    printf("system %" PRIu64 " %" PRIx64 " fan %" PRIu64, asked.system, answer.rated, asked.fan);
+    if (answer.refused)
+        printf(" refused %" PRIu64 "\n", answer.refused);
+    else
+        printf(" lower %" PRId64 " upper %" PRId64 "\n", answer.ends[0], answer.ends[1]);
 }
 
-static int read_length(size_t *length) {
-    uint8_t bytes[4];
+/* A number of so many bytes; 0 at the end of the input. */
+static int read_number(unsigned size, uint64_t *number) {
+    uint8_t bytes[8];
 
-    if (fread(bytes, 1, 4, stdin) != 4)
+    *number = 0;
+    if (fread(bytes, 1, size, stdin) != size)
         return 0;
-    *length = bytes[0] + 256u * bytes[1] + 65536u * bytes[2];
-    if (bytes[3] || *length > PAGE)
-        stop("a file is longer than a page");
+    while (size > 0)
+        *number = *number * 256 + bytes[--size];
     return 1;
 }
 
-int main(void) {
-    size_t length;
+/* The answers to all that is asked of a file. */
+static void print_file(size_t length) {
+    uint64_t count;
+    struct asked asked;
 
-    make_page();
+    if (fread(before, 1, length, stdin) != length || !read_number(4, &count))
+        stop("the file is cut short");
+    for (; count > 0; count--) {
+        if (!read_number(8, &asked.system) || !read_number(8, &asked.fan))
+            stop("what is asked is cut short");
+        print_answer(asked, answer_of(before, length, asked));
+    }
+}
+
+int main(void) {
+    uint64_t length;
+
+    file_page = make_page();
+    ends_page = make_page();
+    memset(ends_page, PAINT, PAGE);
     make_stack();
-    if (!guarded(page - 1) || !guarded(page + PAGE))
-        stop("the guard pages can be read");
-    while (read_length(&length)) {
-        if (fread(before, 1, length, stdin) != length)
-            stop("the file is cut short");
-        print_file(before, length);
+    while (read_number(4, &length)) {
+        if (length > PAGE)
+            stop("a file is longer than a page");
+        print_file(length);
     }
     printf("stack %zu\n", deepest());
     return 0;

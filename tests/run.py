@@ -1,36 +1,53 @@
-"""The loading computer's call and decklist against the second program, byte for byte.
+"""The library's calls, decklist and deckworth against the second program, byte for byte.
 
-5,200 random deck files, sound and damaged by turns, go through a C program linked with libfoambeetle.a, with guard pages on either side of the
-lent bytes and a stack that shows how deep a call goes; some of them, and inputs of odd lengths, through decklist; the samples through decklist
-and through the C sample.
+5,200 random deck files, sound and damaged by turns, go through a C program linked with libfoambeetle.a, which rates their systems and asks for
+the worth of a fan under each, with guard pages on either side of what it lends and a stack that shows how deep a call goes; some of them, and
+inputs of odd lengths, through the programs; the samples through the programs and through the C samples.
 """
 
+import random
+import struct
 import sys
 
-from common import compare, decks, make, root, run, static
+from common import PROGRAMS, SAMPLES, compare, compare_samples, make, prove, root, run, sample, started, static
 
 from files import random_files
-from foambeetle import UNIT, Deck, Rule, System, deck_bytes, decklist_output, rate
+from foambeetle import Deck, Refusal, Rule, System, deck_bytes, rate, worth_of_file
 
 FILES = 5200
 PRINTED = 150  # a process each, so fewer
 MOST_ASKED = 33
+HUGE = (2 ** 63, 2 ** 64 - 1)
 MOST_STACK = 70000  # of which the working table takes 62,400
 
 
-def asked(data):
-    """The system numbers that the C program asks for."""
-    most = min(int.from_bytes(data[6:8], "little"), MOST_ASKED) if len(data) >= 8 else 1
-    return [*range(most + 2), 2 ** 63, 2 ** 64 - 1]
+def count_at(data, at):
+    """A count of the header; 1 where the file is too short for one."""
+    return int.from_bytes(data[at:at + 2], "little") if len(data) >= 8 else 1
 
 
-def answers(data):
-    return " ".join(f"{rate(data, system):x}" for system in asked(data))
+def asked(rng, data):
+    """The system numbers that are asked of a file, from 0 to past the last, each with the number of a fan, most of them on the deck."""
+    n, m = count_at(data, 4), min(count_at(data, 6), MOST_ASKED)
+    for system in (*range(m + 2), *HUGE):
+        yield system, rng.choice((1, n, *(rng.randint(0, n + 1) for _ in range(6)), 2 ** 32 + 1, *HUGE))
+
+
+def to_ask(data, pairs):
+    """A file and what is asked of it, as tests/loading_test.c reads them."""
+    return struct.pack("<I", len(data)) + data + struct.pack("<I", len(pairs)) + b"".join(struct.pack("<QQ", *pair) for pair in pairs)
+
+
+def answered(data, system, fan):
+    """The line that tests/loading_test.c prints."""
+    worth = worth_of_file(data, system, fan)
+    text = f"refused {worth.number}" if isinstance(worth, Refusal) else f"lower {worth[0]} upper {worth[1]}"
+    return f"system {system} {rate(data, system):x} fan {fan} {text}"
 
 
 def largest():
-    """A sound file of the greatest length, 724 bytes."""
-    return deck_bytes(Deck([UNIT] * 64, [1] * 64, [System(Rule(1, 1, 0), 1, 64)] * 32))
+    """A sound file of the greatest length, 724 bytes, and of the longest lines: all fans are sure to fail, and one that did not would be the end."""
+    return deck_bytes(Deck([0] * 64, [1] * 64, [System(Rule(3, 63, 63), 1, 64)] * 32))
 
 
 def odd_inputs():
@@ -50,25 +67,27 @@ def compare_stack(line):
     return depth <= MOST_STACK
 
 
+def compare_calls(files):
+    """Every file through the C program."""
+    rng = random.Random(6)
+    pairs = [(data, list(asked(rng, data))) for data in files]
+    said = run(static(root / "tests/loading_test.c", "loading_test"), b"".join(to_ask(*pair) for pair in pairs)).decode().splitlines()
+    good = compare_stack(said.pop())
+    return good & compare(f"calls on {len(files)} files", said, [answered(data, *one) for data, asks in pairs for one in asks])
+
+
 def main():
-    make("lib", "target/stamp/decklist")
-    test, sample = static(root / "tests/loading_test.c", "loading_test"), static(root / "samples/rate.c", "rate")
-
+    make("lib")
+    prove()
     files = list(random_files(2026, FILES))
-    cases = b"".join(len(data).to_bytes(4, "little") + data for data in files)
-    called = run(test, cases).decode().splitlines()
-    good = compare_stack(called.pop())
-    good &= compare("files through the loading computer's call", called, [answers(data) for data in files])
-
+    good = compare_calls(files)
     inputs = files[:PRINTED] + list(odd_inputs())
-    decklist = [root / "tests/run-program", "decklist"]
-    printed = [run(decklist, data).decode() for data in inputs]
-    good &= compare("inputs through decklist", printed, [decklist_output(data) for data in inputs])
-
-    wanted = [decklist_output(deck.read_bytes()) for deck in decks()]
-    good &= compare("samples through decklist", [run(decklist, deck.read_bytes()).decode() for deck in decks()], wanted)
-    by_call = [run([*sample, deck]).decode() for deck in decks()]
-    good &= compare("samples through the C sample", by_call, [text.split("\n", 1)[1] for text in wanted])
+    for program, output in PROGRAMS.items():
+        printed = [run(started(program), data).decode() for data in inputs]
+        good &= compare(f"inputs through {program}", printed, [output(data) for data in inputs])
+        good &= compare_samples(program, started(program), output)
+    for name, output in SAMPLES.items():
+        good &= compare_samples(f"the C sample {name}", static(sample(name), name), output, by_name=True)
     return 0 if good else 1
 
 

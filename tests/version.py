@@ -1,11 +1,9 @@
-"""The file VERSION, the header, the man pages and decklist name one version; tests/install.py sees to the pkg-config file."""
+"""The file VERSION, the header, the man pages and the programs name one version; tests/install.py sees to the pkg-config file."""
 
 import re
 import sys
 
-from common import make, reported, root, run
-
-from foambeetle import decklist_output
+from common import PROGRAMS, prove, reported, root, run, started
 
 
 def named():
@@ -14,12 +12,9 @@ def named():
     yield "include/foambeetle.h", re.findall(r'^#define FOAMBEETLE_VERSION "(.*)"$', header, re.M)
     for page in sorted((root / "man").iterdir()):
         yield f"man/{page.name}", re.findall(r'^\.TH .* "Foambeetle (.*)"$', page.read_text(), re.M)
-    make("target/stamp/decklist")
-    said = run([root / "tests/run-program", "decklist", "--version"]).decode()
-    if said == decklist_output(b""):
-        print("skipped: decklist does not answer --version")
-    else:
-        yield "decklist --version", re.findall(r"\d+\.\d+\.\d+", said)
+    prove()
+    for program in PROGRAMS:
+        yield f"{program} --version", re.findall(rf"^{program} (.*)$", run(started(program, "--version")).decode(), re.M)
 
 
 def main():

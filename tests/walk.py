@@ -1,17 +1,23 @@
-"""samples/README.md is true as printed: its Python stands in samples/make.py, which writes the sample decks; its make command and its C program,
-built as printed, print what it says."""
+"""samples/README.md is true as printed: its Python stands in samples/make.py, which writes the sample decks; its make command, its C program, built
+as printed, and its deckworth command print what it says."""
 
 import importlib.util
 import re
 import sys
 
-from common import decks, held, make, room, root, run, static
+from common import decks, held, make, prove, room, root, run, started, static
 
 from foambeetle import deck_bytes
 
 
 def blocks(kind):
     return re.findall(rf"^```{kind}\n(.*?)^```$", (root / "samples/README.md").read_text(), re.S | re.M)
+
+
+def command(first):
+    """The one shell line that begins with this word."""
+    line, = (line for block in blocks("sh") for line in block.splitlines() if line.startswith(first + " "))
+    return line
 
 
 def sample_decks():
@@ -30,23 +36,28 @@ def made_as_said():
 
 
 def printed_as_said():
-    command, = (line.split() for block in blocks("sh") for line in block.splitlines() if line.startswith("make run "))
-    make("lib", "target/stamp/decklist")
-    return make(*command[1:]).decode() == blocks("text")[0]
+    return make(*command("make").split()[1:]).decode() == blocks("text")[0]
 
 
 def called_as_said():
     """The command is for x86-64; the tests' own compiler stands in for it. Its last word is the deck."""
     program, = blocks("c")
-    build, = (line.split() for block in blocks("sh") for line in block.splitlines() if line.startswith("cc "))
     source = room / "walk.c"
     room.mkdir(parents=True, exist_ok=True)
     source.write_text(program)
-    return run(static(source, "walk"), (root / build[-1]).read_bytes()).decode() == blocks("text")[1]
+    return run(static(source, "walk"), (root / command("cc").split()[-1]).read_bytes()).decode() == blocks("text")[1]
+
+
+def worth_as_said():
+    """The program that rt built stands in for the installed one."""
+    line = command("deckworth").removeprefix("deckworth")
+    return run(["sh", "-c", f'"$0" "$@" {line}', *started("deckworth")], cwd=root).decode() == blocks("text")[2]
 
 
 def main():
-    return 0 if held(made_as_said, printed_as_said, called_as_said) else 1
+    make("lib")
+    prove()
+    return 0 if held(made_as_said, printed_as_said, called_as_said, worth_as_said) else 1
 
 
 if __name__ == "__main__":
