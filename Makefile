@@ -52,7 +52,7 @@ install: lib $(linked) ## programs, library, header and man pages to PREFIX (/us
 uninstall: ## takes away what install put there
 	@rm -f $(foreach file,$(installed),"$(place)/$(file)")
 
-bench: ## the cost of a rating beside peers (docs/BENCH.md); no part of the tests
+bench: ## the cost of a rating beside peers, and of a worth (docs/BENCH.md); no part of the tests
 	@bench/run
 
 # rt's mark on a program that is proved and ran as it should; it says nothing of a program that is no longer there

@@ -22,6 +22,11 @@ class Case(NamedTuple):
     def line(self):
         return " ".join(map(str, (*self.rule, len(self.survivals), *self.survivals, *self.weights)))
 
+    def with_middle(self, survival):
+        """The same with another survival number of the middle fan, whose worth is asked for (bench/peers/worth.c)."""
+        middle = len(self.survivals) // 2
+        return self._replace(survivals=(*self.survivals[:middle - 1], survival, *self.survivals[middle:]))
+
 
 def drawn(n):
     """Survival numbers from a twentieth of the unit up, odd, so that no fraction is shortened."""

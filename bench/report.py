@@ -7,7 +7,7 @@ import sys
 from datetime import date
 from typing import NamedTuple
 
-from cases import KINDS, SIZES, agreed_cases, longest_cases, steps, weights, worst_cases
+from cases import KINDS, SIZES, UNIT, agreed_cases, longest_cases, steps, weights, worst_cases
 
 # A double that has gone through n rounded steps is this near, in units of 2^-30.
 NEAR = 0.001
@@ -111,6 +111,7 @@ class Results:
         self.measure()
         self.measure_figure1()
         self.measure_dearest()
+        self.measure_worths()
 
     def measure(self):
         """The peers must agree on all cases; the costs are kept of the worst."""
@@ -136,6 +137,16 @@ class Results:
         places = [max((p for p, case in enumerate(cases) if case.rule.kind == kind), key=costs.__getitem__) for kind in KINDS]
         self.dearest = [cases[place] for place in places]
         self.dearest_costs = {way: counted(self.room, way, self.dearest).costs for way in ("library", "plain", "directed")}
+
+    def measure_worths(self):
+        """Each worth beside the two ratings whose difference it is, with the fan sure to work and with it sure to fail."""
+        cases = [self.cases[self.at[kind, SIZES[-1]]] for kind in KINDS]
+        worths = counted(self.room, "worth", cases)
+        works, fails = (counted(self.room, "library", [case.with_middle(p) for case in cases]) for p in (UNIT, 0))
+        for case, ends, first, second in zip(cases, worths.answers, works.answers, fails.answers):
+            if ends != (first[0] - second[1], first[1] - second[0]):
+                fail("the worth is", ends, "and the ratings are", first, second, "of", case.line())
+        self.worths = {case.rule.kind: costs for case, *costs in zip(cases, worths.costs, works.costs, fails.costs)}
 
     def cost(self, way, kind, n=SIZES[-1]):
         return self.costs[way][self.at[kind, n]]
@@ -171,6 +182,10 @@ class Results:
         rows = [[str(kind), comma(self.cost("whole", kind)), comma(self.cost("library", kind)), comma(self.over(kind))] for kind in KINDS]
         return table(["kind", "whole call", "library", "over it"], rows)
 
+    def worths_table(self):
+        rows = [[str(kind), asked(self.rule(kind)), *map(comma, costs), comma(costs[0] - costs[1] - costs[2])] for kind, costs in self.worths.items()]
+        return table(["kind", "rule", "worth", "rating, fan works", "rating, fan fails", "over both"], rows)
+
     def over(self, kind):
         return self.cost("whole", kind) - self.cost("library", kind)
 
@@ -194,6 +209,8 @@ class Results:
             yield f"the same at its dearest rule, {asked(case.rule)}", ours, 2 * steps(case.rule, case.weights) * self.a_step()
         for kind in KINDS if "whole" in self.ways else ():
             yield f"kind {kind}: whole call 20,000 over the rating", self.over(kind), 20000
+        for kind, (worth, works, fails) in self.worths.items():
+            yield f"kind {kind}: a worth 1,000 over its two ratings", worth, works + fails + 1000
 
     def goals_table(self):
         rows = []
@@ -220,6 +237,8 @@ class Results:
             self.dearest_table(),
             "The whole call from a file's bytes, at n = 64:\n",
             self.whole_table(),
+            "The worth of fan 32, at n = 64:\n",
+            self.worths_table(),
             "Goals:\n",
             self.goals_table(),
             self.times_table(),
