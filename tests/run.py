@@ -76,11 +76,18 @@ def compare_calls(files):
     return good & compare(f"calls on {len(files)} files", said, [answered(data, *one) for data, asks in pairs for one in asks])
 
 
+def compare_stored():
+    """The files that rt runs the programs on, and what it holds them to."""
+    crates = {root / "crates" / program: output for program, output in PROGRAMS.items()}
+    stored = [(crate / "stdout").read_text() for crate in crates]
+    return compare("programs' stored answers", stored, [output((crate / "stdin").read_bytes()) for crate, output in crates.items()])
+
+
 def main():
     make("lib")
     prove()
     files = list(random_files(2026, FILES))
-    good = compare_calls(files)
+    good = compare_stored() & compare_calls(files)
     inputs = files[:PRINTED] + list(odd_inputs())
     for program, output in PROGRAMS.items():
         printed = [run(started(program), data).decode() for data in inputs]
