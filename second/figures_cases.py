@@ -126,21 +126,25 @@ def weight_cases(rng):
             yield part(rng, Rule(2, 1, 0), 1, rng.randint(1, n), random_survivals(rng, n), weights)
 
 
-def stretch_cases(rng):
-    """Stretches inside, whole and of a single fan; what stands outside must not be read."""
+def stretch_case(rng, n):
+    """A stretch of a list of n fans; what stands outside must not be read."""
     # document 01, 'Stretches': "Components and weights outside it are not read"
+    a, b = random_stretch(rng, n)
+    kind = rng.choice(KINDS)
+    survivals = random_survivals(rng, n)
+    weights = random_weights(rng, n) if kind == 2 else unread_weights(rng)
+    rule = random_rule(rng, kind, b - a + 1, sum(weights[a - 1:b])) or Rule(4, 1, 0)
+    for outside in [*range(a - 1), *range(b, n)]:
+        survivals[outside] = rng.choice(OVER_UNIT + (7,))
+        if kind == 2:
+            weights[outside] = rng.choice((0, 121, 65535))
+    return part(rng, rule, a, b, survivals, weights)
+
+
+def stretch_cases(rng):
+    """Stretches inside, whole and of a single fan."""
     for place in range(420):
-        n = rng.randint(1, 14) if place % 10 else rng.choice((40, 63, 64))
-        a, b = random_stretch(rng, n)
-        kind = rng.choice(KINDS)
-        survivals = random_survivals(rng, n)
-        weights = random_weights(rng, n) if kind == 2 else unread_weights(rng)
-        rule = random_rule(rng, kind, b - a + 1, sum(weights[a - 1:b])) or Rule(4, 1, 0)
-        for outside in [*range(a - 1), *range(b, n)]:
-            survivals[outside] = rng.choice(OVER_UNIT + (7,))
-            if kind == 2:
-                weights[outside] = rng.choice((0, 121, 65535))
-        yield part(rng, rule, a, b, survivals, weights)
+        yield stretch_case(rng, rng.randint(1, 14) if place % 10 else rng.choice((40, 63, 64)))
 
 
 def rule_cases(rng):

@@ -4,7 +4,7 @@ import random
 from typing import NamedTuple
 
 from figures_cases import Case as Asked
-from figures_cases import part, spoil, whole
+from figures_cases import part, spoil, stretch_case, whole
 from foambeetle import KINDS, MOST_WEIGHT, TABLE_CELLS, UNIT, Rule, worth
 from samples import (
     EDGE_SURVIVALS, HUGE, OVER_UNIT, all_rules, edge_rules, random_rule, random_stretch, random_survivals, random_weights, rules_in_range,
@@ -101,21 +101,12 @@ def harmful_fan_cases(rng):
 
 
 def stretch_cases(rng):
-    """Stretches inside a list: the fans at both ends of each, those just outside, and any; what stands outside must not be read."""
+    """Stretches inside a list: the fans at both ends of each, those just outside, and any."""
     # document 02, request 06: "17, fan number outside the stretch"
     for _ in range(110):
         n = rng.randint(1, 9)
-        a, b = random_stretch(rng, n)
-        kind = rng.choice(KINDS)
-        survivals = random_survivals(rng, n)
-        weights = random_weights(rng, n) if kind == 2 else unread_weights(rng)
-        rule = random_rule(rng, kind, b - a + 1, sum(weights[a - 1:b])) or Rule(4, 1, 0)
-        for outside in [*range(a - 1), *range(b, n)]:
-            survivals[outside] = rng.choice(OVER_UNIT + (7,))
-            if kind == 2:
-                weights[outside] = rng.choice((0, 121, 65535))
-        asked = part(rng, rule, a, b, survivals, weights)
-        yield from (Case(asked, fan) for fan in sorted({a, b, a - 1, b + 1, rng.randint(1, n)}))
+        asked = stretch_case(rng, n)
+        yield from (Case(asked, fan) for fan in sorted({asked.a, asked.b, asked.a - 1, asked.b + 1, rng.randint(1, n)}))
 
 
 def outside_cases(rng):
