@@ -1,6 +1,6 @@
-// Runs the cases of standard input and writes a rating and the checksum of the lent table a line. All of the input is words of 64 bits, lowest
-// byte first: the number of cases, then each case: kind, first, second, a, b, room, seed, the number of survival numbers, the
-// survival numbers, the number of weights, the weights. A case that is cut short ends the run.
+// Runs the cases of standard input and writes an answer and the checksum of the lent table a line. All of the input is words of 64 bits, lowest
+// byte first: the number of cases, then each case: the call (1 the worth of a fan, else the figures), kind, first, second, a, b, the fan, room, seed,
+// the number of survival numbers, the survival numbers, the number of weights, the weights. A case that is cut short ends the run.
 mod size; // size.rt: how long a case is
 
 ghost use Prim.Native.Nat.{_+_, _≤_};
@@ -14,27 +14,39 @@ use casefile::words;
 use libc::STDIN_FILENO;
 use libc::STDOUT_FILENO;
 use rules::Rating;
+use rules::Worth;
+use text::lines;
 
-// Where a case has its rule, a, b, the cells of the table, the seed and the number of survival numbers.
-const RULE: usize = 0;
+// Where a case has its call, rule, a, b, the fan, the cells of the table, the seed and the number of survival numbers.
+const CALL: usize = 0;
 
-const A: usize = 3;
+const RULE: usize = 1;
 
-const B: usize = 4;
+const A: usize = 4;
 
-const CELLS: usize = 5;
+const B: usize = 5;
 
-const SEED: usize = 6;
+const FAN: usize = 6;
 
-const FANS: usize = 7;
+const CELLS: usize = 7;
+
+const SEED: usize = 8;
+
+const FANS: usize = 9;
 
 // The words before the survival numbers, and those of a case beside its lists.
-const HEAD: usize = 8;
+const HEAD: usize = 10;
 
-const OTHERS: usize = 9;
+const OTHERS: usize = 11;
+
+// The call for the worth of a fan.
+const WORTH: u64 = 1;
 
 // The cells of a table, at most.
 const MOST_CELLS: usize = 8000;
+
+// The bytes that the two ends of a worth take with their names, at most.
+const ENDS: usize = 55;
 
 // How many survival numbers, weights and cells a case has, and whether it is whole.
 pub struct Sizes {
@@ -44,18 +56,28 @@ pub struct Sizes {
     pub whole: bool,
 }
 
-// The rating that the case at `at` asks of its lists.
-fn asked(bytes: &[u8], at: usize, survival: &[u32], weights: &[u16], table: &mut [u64]) -> Rating
+// What a call answers.
+enum Answer {
+    Rated(Rating),
+    Weighed(Worth),
+}
+
+// The answer that the case at `at` asks of its lists.
+fn asked(bytes: &[u8], at: usize, survival: &[u32], weights: &[u16], table: &mut [u64]) -> Answer
     requires { ⌜ at + headWords ≤ length (now bytes) ⌝ }
 {
     let rule = cases::rule_at(bytes, at + RULE);
     let a = words::word(bytes, at + A);
     let b = words::word(bytes, at + B);
-    figures::figures(rule, a, b, survival, weights, table)
+    if words::word(bytes, at + CALL) == WORTH {
+        let fan = words::word(bytes, at + FAN);
+        return Answer::Weighed(worth::worth(rule, a, b, fan, survival, weights, table));
+    }
+    Answer::Rated(figures::figures(rule, a, b, survival, weights, table))
 }
 
 // The same, with the lists read from the case.
-fn answered(bytes: &[u8], at: usize, s: Sizes, table: &mut [u64]) -> Rating
+fn answered(bytes: &[u8], at: usize, s: Sizes, table: &mut [u64]) -> Answer
     requires { ⌜ Whole (now bytes) at s ⌝ }
 {
     let n = s.fans;
@@ -81,12 +103,45 @@ fn put_rating(rating: Rating, out: &mut [u8], at: usize) -> usize
     }
 }
 
-// Puts a case's line, likewise.
-fn put_line(rating: Rating, cells: u64, out: &mut [u8], at: usize) -> usize
+// Puts a worth's two ends, likewise; nothing where there is no room.
+fn put_ends(lower: i64, upper: i64, out: &mut [u8], at: usize) -> usize
     requires { ⌜ at ≤ length (now out) ⌝ }
     ensures { λ r. ⌜ r ≤ length (now (out .exit)) ⌝ }
 {
-    let answered = put_rating(rating, out, at);
+    if out.len() - at < ENDS {
+        return at;
+    }
+    lines::put_signed_pair(b"lower ", lower, b" upper ", upper, out, at)
+}
+
+// Puts a worth, likewise.
+fn put_worth(worth: Worth, out: &mut [u8], at: usize) -> usize
+    requires { ⌜ at ≤ length (now out) ⌝ }
+    ensures { λ r. ⌜ r ≤ length (now (out .exit)) ⌝ }
+{
+    match worth {
+        Worth::Ends { lower, upper } => put_ends(lower, upper, out, at),
+        Worth::Refused(number) => text::put_named(b"refused ", number, out, at),
+    }
+}
+
+// Puts an answer, likewise.
+fn put_answer(answer: Answer, out: &mut [u8], at: usize) -> usize
+    requires { ⌜ at ≤ length (now out) ⌝ }
+    ensures { λ r. ⌜ r ≤ length (now (out .exit)) ⌝ }
+{
+    match answer {
+        Answer::Rated(rating) => put_rating(rating, out, at),
+        Answer::Weighed(worth) => put_worth(worth, out, at),
+    }
+}
+
+// Puts a case's line, likewise.
+fn put_line(answer: Answer, cells: u64, out: &mut [u8], at: usize) -> usize
+    requires { ⌜ at ≤ length (now out) ⌝ }
+    ensures { λ r. ⌜ r ≤ length (now (out .exit)) ⌝ }
+{
+    let answered = put_answer(answer, out, at);
     let end = text::put_named(b" cells ", cells, out, answered);
     text::put(out, end, b"\n")
 }
@@ -105,8 +160,8 @@ fn run_over(
     ensures { λ r. ⌜ r ≤ length (now (out .exit)) ⌝ }
 {
     tables::rubbish(words::word(bytes, at + SEED), table);
-    let rating = answered(bytes, at, s, table);
-    put_line(rating, tables::checksum(table), out, end)
+    let answer = answered(bytes, at, s, table);
+    put_line(answer, tables::checksum(table), out, end)
 }
 
 // The same, with a table of as many cells as the case says.

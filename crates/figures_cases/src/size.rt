@@ -1,4 +1,4 @@
-// How long a figures case is.
+// How long a case is.
 ghost use mathlib.Core.Path.{_≡_};
 ghost use mathlib.Core.Bool.{true, false};
 ghost use Prim.Native.Nat.{_+_, _≤_};
