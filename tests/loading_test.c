@@ -3,8 +3,8 @@
  * bytes, its bytes, the number of systems in 4 bytes, and for each its number and the fan's in 8 bytes, all lowest byte first.
  *
  * Every call is made twice, with what it is lent ending at a page that may not be touched and beginning behind another, so that a step past either
- * end stops the program. The two answers must be one, the file's bytes as they were, and the ends untouched where the call refuses. The last line is
- * the deepest stack that a call used. */
+ * end stops the program. The two answers must be one, the file's bytes as they were, and the ends untouched where the call refuses. The last two
+ * lines are the deepest stack that each call used. */
 #define _GNU_SOURCE
 #include <inttypes.h>
 #include <signal.h>
@@ -28,9 +28,15 @@
 #define BESIDE 256u
 
 static uint8_t *file_page, *ends_page;
-static uint8_t *stack;
 static uint8_t before[PAGE];
 static ucontext_t caller, callee;
+
+/* A painted stack, and where a call on it begins. */
+struct stack {
+    uint8_t *bytes, *top;
+};
+
+static struct stack of_rate, of_worth;
 
 /* What is asked of a file, and what is answered. */
 struct asked {
@@ -42,14 +48,13 @@ struct answer {
     int64_t ends[2];
 };
 
-/* The calls that run on the painted stack. */
+/* What the calls on the painted stacks are lent, and what they answer. */
 static struct {
     const uint8_t *file;
     size_t length;
     struct asked asked;
     int64_t *ends;
     uint64_t rated, refused;
-    uint8_t *top;
 } call;
 
 static void stop(const char *why) {
@@ -89,41 +94,50 @@ static uint8_t *make_page(void) {
     return page;
 }
 
-static void run_calls(void) {
-    call.top = __builtin_frame_address(0);
+static void run_rate(void) {
+    of_rate.top = __builtin_frame_address(0);
     call.rated = foambeetle_rate(call.file, call.length, call.asked.system);
+}
+
+static void run_worth(void) {
+    of_worth.top = __builtin_frame_address(0);
     call.refused = foambeetle_worth(call.file, call.length, call.asked.system, call.asked.fan, call.ends);
 }
 
-static void make_stack(void) {
-    stack = malloc(STACK);
-    if (!stack)
+static void make_stack(struct stack *stack) {
+    stack->bytes = malloc(STACK);
+    if (!stack->bytes)
         stop("no memory for the stack");
-    memset(stack, PAINT, STACK);
+    memset(stack->bytes, PAINT, STACK);
 }
 
-/* The calls, on the painted stack. */
+static void run_on(struct stack *stack, void (*run)(void)) {
+    if (getcontext(&callee))
+        stop("no context");
+    callee.uc_stack.ss_sp = stack->bytes;
+    callee.uc_stack.ss_size = STACK;
+    callee.uc_link = &caller;
+    makecontext(&callee, run, 0);
+    if (swapcontext(&caller, &callee))
+        stop("cannot change stacks");
+}
+
+static size_t deepest(const struct stack *stack) {
+    size_t lowest = 0;
+
+    while (lowest < STACK && stack->bytes[lowest] == PAINT)
+        lowest++;
+    return (size_t)(stack->top - (stack->bytes + lowest));
+}
+
+/* Each call, on its painted stack. */
 static void make_calls(const uint8_t *file, size_t length, struct asked asked, uint8_t *ends) {
     call.file = file;
     call.length = length;
     call.asked = asked;
     call.ends = (int64_t *)ends;
-    if (getcontext(&callee))
-        stop("no context");
-    callee.uc_stack.ss_sp = stack;
-    callee.uc_stack.ss_size = STACK;
-    callee.uc_link = &caller;
-    makecontext(&callee, run_calls, 0);
-    if (swapcontext(&caller, &callee))
-        stop("cannot change stacks");
-}
-
-static size_t deepest(void) {
-    size_t lowest = 0;
-
-    while (lowest < STACK && stack[lowest] == PAINT)
-        lowest++;
-    return (size_t)(call.top - (stack + lowest));
+    run_on(&of_rate, run_rate);
+    run_on(&of_worth, run_worth);
 }
 
 static int painted(const uint8_t *from, size_t length) {
@@ -204,12 +218,13 @@ int main(void) {
     file_page = make_page();
     ends_page = make_page();
     memset(ends_page, PAINT, PAGE);
-    make_stack();
+    make_stack(&of_rate);
+    make_stack(&of_worth);
     while (read_number(4, &length)) {
         if (length > PAGE)
             stop("a file is longer than a page");
         print_file(length);
     }
-    printf("stack %zu\n", deepest());
+    printf("foambeetle_rate %zu\nfoambeetle_worth %zu\n", deepest(&of_rate), deepest(&of_worth));
     return 0;
 }
