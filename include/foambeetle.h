@@ -3,7 +3,7 @@
  * Link with libfoambeetle.a or libfoambeetle.so (x86-64), which need nothing but memcpy and memset. Each call reads a
  * deck file's bytes: foambeetle_rate rates one of its systems and answers one 64-bit number, foambeetle_worth tells what
  * one of its fans is worth to a system. A call writes nothing of the caller's but the two ends of a worth, keeps nothing
- * between calls, and may run in several threads at once. It uses up to 70,000 bytes of stack, 62,400 of them its working
+ * between calls, and may run in several threads at once. It uses up to 65,000 bytes of stack, 62,400 of them its working
  * table.
  *
  * Figures are parts of FOAMBEETLE_UNIT: the exact chance that the system works lies between low / 2^30 and

@@ -30,11 +30,11 @@ front-replaced copy xs fan p e h = take-set-lt (length xs) copy (fan - 1) p h �
 
 module _ (q : Asked) (table : List ℕ) (fan : ℕ) (none : figuresRefusal q table ≡ 0) where
   -- a fan of the stretch is one of the list
-  pub placed : badFan q fan ≡ false → (1 ≤ fan) × (fan ≤ lengthOf q)
+  pub placed : badFan q fan ≡ false → (1 ≤ q .a) × (q .a ≤ fan) × (fan ≤ q .b) × (q .b ≤ lengthOf q)
   placed e =
       let inside = within-true (q .a) fan (q .b) (not-false _ e) in
       let h = in-stretch (q .a) (q .b) (lengthOf q) (figures-ratable q table none .0) in
-      (omega arith, omega arith)
+      (h .0, inside .0, inside .1, h .2)
 
   pub listed : lengthOf q ≤ most
   unfolding figuresRefusal

@@ -1,5 +1,6 @@
 -- `loading::tell` meets its contract: both ends are written where the worth is answered, and nothing else. Assumes nothing.
 use mathlib.Core.Path.{refl}
+use mathlib.Core.List.{[], _∷_}
 use mir.Syntax.{w64}
 use mir.ValLaws.{toZ-ofZ}
 use borrow.Author.Needs.{needs}
@@ -15,8 +16,9 @@ enum-known-worth-2 c = search needs
 returns : tie.Need-returns
 returns c =
     let fits = c .before .known-told .given in
+    let ends = c .before .before .worth .given .0 in
     rw (c .before .before .worth .given .1)
-    (refl, rw (toZ-ofZ w64 _ (record { sfits = fits .0 .1 }), toZ-ofZ w64 _ (record { sfits = fits .1 .0 .1 })))
+    (refl, λ i. toZ-ofZ w64 (ends .0) (record { sfits = fits .0 .1 }) i ∷ toZ-ofZ w64 (ends .1 .0) (record { sfits = fits .1 .0 .1 }) i ∷ [])
 
 returns-2 : tie.Need-returns-2
 returns-2 c = rw (c .before .worth2 .given .1) (refl, refl)
