@@ -1,6 +1,6 @@
 -- What a file and a system number answer: the file's refusal, then 14, and past both the system's own answer, figures or worth alike. By the cases of
 -- the two refusals. Assumes nothing.
-use mathlib.Core.Path.{_≡_, refl, sym, _∙_}
+use mathlib.Core.Path.{_≡_, refl}
 use mathlib.Core.Bool.{Bool, true, false, cond}
 use mathlib.Core.List.{List}
 use Prim.Native.Nat.{ℕ, zero, suc, _-_, _≤_}

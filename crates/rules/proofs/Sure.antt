@@ -9,21 +9,20 @@ use Prim.Native.Nat.{ℕ, zero, suc, _+_, _*_, _-_, _^_, _≤_, _<_}
 use native.Mathlib.Omega.{arith}
 use native.Mathlib.Decide.{decLt}
 use lib.Dec.{ltb}
-use lib.IntN.{ℤ, pos, subℕ}
+use lib.IntN.{ℤ, subℕ}
 use lib.ListN.{length, getD, take, drop, set, length-set, length-take, List·getD-eq-default}
 use lib.Seq.{getD-take, getD-drop}
 use borrow.Author.Tests.{le-ltb}
 use Rattle.rules.specs.declared.Worth.{Worth}
 use Rattle.rules.specs.declared.Worth.the-variants.{Ends, Refused}
-use Rattle.rules.specs.declared.Rating.the-variants.{Range}
 use Rattle.rules.specs.Below.{some}
 use Rattle.rules.specs.State.{S}
 use Rattle.rules.specs.Figure.{figure, Third}
 use Rattle.rules.specs.Stretch.{stretch}
 use Rattle.rules.specs.Asked.{Asked, lengthOf, sizeOf, partOf, weightsOf, lowOf, highOf, ThirdOf}
 use Rattle.rules.specs.Refusal.{after, aboveUnit, badWeights, badSize, badStretch, figuresRefusal}
-use Rattle.rules.specs.Answer.{unless, Given, figuresOf}
-use Rattle.rules.specs.Worth.{sure, working, failing, lowerOf, upperOf, badFan, worthRefusal, Weighs, worthOf, Signed, Between, BetweenOf}
+use Rattle.rules.specs.Answer.{unless, figuresOf}
+use Rattle.rules.specs.Worth.{sure, lowerOf, upperOf, Weighs, worthOf, Signed, Between, BetweenOf}
 use Rattle.rules.proofs.Unless.{unless-none}
 use Rattle.rules.proofs.Answer.{given-is, none-is}
 use Rattle.rules.proofs.Windows.{some-none}

@@ -1,6 +1,6 @@
 -- A fan's number replaced at the front of a longer copy, and the second rating on the table that the first has cleared: as long as it was, so
 -- refused as little, and cleared once more the same. Assumes nothing.
-use Prim.Native.Nat.{ℕ, suc, _+_, _-_, _≤_, _<_}
+use Prim.Native.Nat.{ℕ, _+_, _-_, _≤_, _<_}
 use mathlib.Core.Path.{_≡_, refl, sym, ap, _∙_}
 use mathlib.Core.Bool.{Bool, true, false, cond}
 use mathlib.Core.List.{List, _++_}

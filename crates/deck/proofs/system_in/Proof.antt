@@ -2,7 +2,6 @@
 use mathlib.Core.Path.{ap, _∙_}
 use Prim.Native.Nat.{_+_, _*_}
 use native.Mathlib.Omega.{arith}
-use borrow.Author.Needs.{needs}
 use Rattle.rules.specs.File.{systemBytes, systemsOffset, systemAt}
 use Rattle.deck.proofs.Sound.{sound}
 use Rattle.deck.proofs.system_in.Statement.{statement}
