@@ -7,21 +7,27 @@ use lib.Dec.{eqb}
 use lib.ListN.{length}
 use Rattle.rules.specs.declared.Rule.{Rule}
 use Rattle.rules.specs.declared.Rating.{Rating}
+use Rattle.rules.specs.declared.Rating.the-variants.{Range}
 use Rattle.rules.specs.Stretch.{stretch}
 use Rattle.rules.specs.Asked.{Asked, lowOf, highOf}
 use Rattle.rules.specs.Refusal.{figuresRefusal}
-use Rattle.rules.specs.Answer.{Rates, cleared, tableAfter}
+use Rattle.rules.specs.Answer.{Rates, tableAfter}
 use Rattle.places.specs.declared.Ends.{Ends}
+use Rattle.places.specs.Cells.{Kept}
 
 -- the weights of the components rated: kind 2's, where it has as many as there are components, and no others
 unfoldable pub ratedOf : Rule → (n : ℕ) (weights : List ℕ) (a b : ℕ) → List ℕ
 ratedOf rule n weights a b = cond (eqb (rule .kind) 2) (cond (eqb (length weights) n) (stretch a b weights) []) []
 
--- what is worked of a rating that is not refused
+-- what is worked of a rating that is not refused, in a table of which no more is known than what lies past it
 pub record Worked (q : Asked) (t₀ t : List ℕ) (r : Ends) : Type 0 where
   pub low : r .low ≡ lowOf q
   pub high : r .high ≡ highOf q
-  pub table : t ≡ cleared t₀
+  pub kept : Kept t₀ t
+
+pub record Ranged (q : Asked) (t₀ t : List ℕ) (r : Rating) : Type 0 where
+  pub range : r ≡ Range (lowOf q) (highOf q)
+  pub kept : Kept t₀ t
 
 -- the outcome of the figures
 pub record Rated (q : Asked) (t₀ t : List ℕ) (r : Rating) : Type 0 where

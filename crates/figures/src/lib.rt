@@ -1,30 +1,14 @@
 // Low and high: the figures of a stretch of a list.
 ghost use mathlib.Core.Path.{_≡_};
 ghost use mathlib.Core.Bool.{false};
-ghost use Rattle.rules.specs.State.{S};
-ghost use Rattle.rules.specs.Figure.{figure};
 ghost use Rattle.rules.specs.Asked.{askedOf};
 ghost use Rattle.rules.specs.Refusal.{badStretch, aboveUnit, figuresRefusal};
-ghost use Rattle.rules.specs.Accepted.{Ratable};
-ghost use Rattle.rules.specs.Answer.{cleared};
-ghost use Rattle.places.specs.Cells.{Both};
-ghost use Rattle.figures.specs.Outcome.{ratedOf, Worked, Rated};
+ghost use Rattle.figures.specs.Outcome.{ratedOf, Worked, Ranged, Rated};
 use cells::CELLS;
 use places::Ends;
 use rules::Rating;
 use rules::Rule;
 use units::UNIT;
-
-// Low and high of a list that can be rated, and the table cleared.
-fn worked(rule: Rule, survival: &[u32], weights: &[u16], table: &mut [u64]) -> Ends
-    requires { ⌜ Ratable rule (now survival) (now weights) (now table) ⌝ }
-    ensures figure { λ r. ⌜ Both (λ up. figure up S rule (now (survival .entry)) (now (weights .entry))) r ⌝ }
-    ensures table { λ r. ⌜ now (table .exit) ≡ cleared (now (table .entry)) ⌝ }
-{
-    let ends = engine::rate(rule, survival, weights, table);
-    cells::zero(table, CELLS);
-    ends
-}
 
 // Refusal 3.
 fn stretch_out(a: u64, b: u64, n: u64) -> bool
@@ -106,8 +90,8 @@ pub fn refusal(rule: Rule, a: u64, b: u64, survival: &[u32], weights: &[u16], ta
     0
 }
 
-// Low and high of a stretch that is not refused, worked on that part of the lent lists where it stands.
-pub fn rate(
+// Low and high of a stretch that is not refused, worked on that part of the lent lists where it stands. The table is left as it was worked.
+pub fn work(
     rule: Rule,
     a: u64,
     b: u64,
@@ -121,7 +105,25 @@ pub fn rate(
     let start = a as usize - 1;
     let end = b as usize;
     let rated = rated_weights(rule, survival.len(), weights, a, b);
-    worked(rule, &survival[start..end], rated, table)
+    engine::rate(rule, &survival[start..end], rated, table)
+}
+
+// The figures of a stretch that is not refused, likewise.
+pub fn rate(
+    rule: Rule,
+    a: u64,
+    b: u64,
+    survival: &[u32],
+    weights: &[u16],
+    table: &mut [u64],
+) -> Rating
+    requires { ⌜ figuresRefusal (askedOf rule a b (now survival) (now weights)) (now table) ≡ 0 ⌝ }
+    ensures { λ r. ⌜ Ranged (askedOf rule a b (now (survival .entry)) (now (weights .entry))) (now (table .entry)) (now (table .exit)) r ⌝ }
+{
+    let ends = work(rule, a, b, survival, weights, table);
+    let low = ends.low;
+    let high = ends.high;
+    Rating::Range { low, high }
 }
 
 // The figures of the stretch from component a to component b; of a whole list, from 1 to n.
@@ -140,8 +142,7 @@ pub fn figures(
     if refused != 0 {
         return Rating::Refused(refused);
     }
-    let ends = rate(rule, a, b, survival, weights, table);
-    let low = ends.low;
-    let high = ends.high;
-    Rating::Range { low, high }
+    let rating = rate(rule, a, b, survival, weights, table);
+    cells::zero(table, CELLS);
+    rating
 }

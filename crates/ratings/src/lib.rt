@@ -1,8 +1,20 @@
 // The figures and the worth for C, in a working table that C lends: what the benchmark times.
+ghost use mathlib.Core.Path.{_≡_};
 ghost use Rattle.ratings.specs.Outcome.{Timed, TimedWorth};
 ghost use Rattle.rules.specs.Asked.{askedOf};
 ghost use Rattle.rules.specs.State.{ruleOf};
 use rules::Rule;
+
+// The rule by its numbers.
+fn rule_of(kind: u64, first: u64, second: u64) -> Rule
+    ensures { λ r. ⌜ r ≡ ruleOf kind first second ⌝ }
+{
+    Rule {
+        kind,
+        first,
+        second,
+    }
+}
 
 // In C: `uint64_t foambeetle_figures(uint64_t kind, uint64_t first, uint64_t second, uint64_t a, uint64_t b,
 // const uint32_t *survival, size_t n, const uint16_t *weights, size_t weighed, uint64_t *table, size_t cells)`.
@@ -19,11 +31,7 @@ pub extern "C" fn foambeetle_figures(
 ) -> u64
     ensures { λ r. ⌜ Timed (askedOf (ruleOf kind first second) a b (now (survival .entry)) (now (weights .entry))) (now (table .entry)) (now (table .exit)) r ⌝ }
 {
-    let rule = Rule {
-        kind,
-        first,
-        second,
-    };
+    let rule = rule_of(kind, first, second);
     loading::pack(figures::figures(rule, a, b, survival, weights, table))
 }
 
@@ -44,11 +52,7 @@ pub extern "C" fn foambeetle_worth_of(
 ) -> u64
     ensures { λ r. ⌜ TimedWorth (askedOf (ruleOf kind first second) a b (now (survival .entry)) (now (weights .entry))) fan (now (table .entry)) (now (table .exit)) (now (ends .entry)) (now (ends .exit)) r ⌝ }
 {
-    let rule = Rule {
-        kind,
-        first,
-        second,
-    };
+    let rule = rule_of(kind, first, second);
     loading::tell(
         worth::worth(rule, a, b, fan, survival, weights, table),
         ends,

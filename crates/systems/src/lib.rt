@@ -14,13 +14,19 @@ use rules::Rating;
 use rules::System;
 use rules::Worth;
 
-// A system's figures over a deck's lists, in a working table of the call's own.
+// A system's figures over a deck's lists, in a working table of the call's own, which nobody sees after it and nobody clears.
 fn rate_lists(system: System, survival: &[u32], weights: &[u16]) -> Rating
     ensures { λ r. ⌜ r ≡ figuresOf (askedOf (system .rule) (system .a) (system .b) (now (survival .entry)) (now (weights .entry))) (replicate cells 0) ⌝ }
 {
     let mut table = [0u64; CELLS];
     let rule = system.rule;
-    figures::figures(rule, system.a, system.b, survival, weights, &mut table)
+    let a = system.a;
+    let b = system.b;
+    let refused = figures::refusal(rule, a, b, survival, weights, &table);
+    if refused != 0 {
+        return Rating::Refused(refused);
+    }
+    figures::rate(rule, a, b, survival, weights, &mut table)
 }
 
 // The figures of the system at a place of a deck, counted from 0.
@@ -41,15 +47,13 @@ fn weigh_lists(system: System, fan: u64, survival: &[u32], weights: &[u16]) -> W
 {
     let mut working = [0u64; CELLS];
     let rule = system.rule;
-    worth::worth(
-        rule,
-        system.a,
-        system.b,
-        fan,
-        survival,
-        weights,
-        &mut working,
-    )
+    let a = system.a;
+    let b = system.b;
+    let refused = worth::refusal(rule, a, b, fan, survival, weights, &working);
+    if refused != 0 {
+        return Worth::Refused(refused);
+    }
+    worth::weigh(rule, a, b, fan, survival, weights, &mut working)
 }
 
 // The worth of a fan to the system at a place of a deck, counted from 0.

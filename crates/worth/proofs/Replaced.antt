@@ -1,14 +1,14 @@
--- A fan's number replaced at the front of a longer copy, and the second rating on the table that the first has cleared: as long as it was, so
--- refused as little, and cleared once more the same. Assumes nothing.
-use Prim.Native.Nat.{ℕ, _+_, _-_, _≤_, _<_}
+-- A fan's number replaced at the front of a longer copy, and the second rating on the table that the first has worked in: as long as it was, so
+-- refused as little. Assumes nothing.
+use Prim.Native.Nat.{ℕ, _-_, _≤_, _<_}
 use mathlib.Core.Path.{_≡_, refl, sym, ap, _∙_}
 use mathlib.Core.Bool.{Bool, true, false, cond}
-use mathlib.Core.List.{List, _++_}
+use mathlib.Core.List.{List}
 use native.Mathlib.Omega.{arith}
 use lib.Dec.{ltb}
 use lib.IntN.{subℕ}
-use lib.ListN.{length, take, drop, set, replicate, length-append, length-drop, length-replicate}
-use lib.Seq.{take-set-lt, drop-append-seam}
+use lib.ListN.{length, take, set}
+use lib.Seq.{take-set-lt}
 use mir.Syntax.{w64}
 use mir.Val.{SFits}
 use borrow.Author.Tests.{not-false}
@@ -16,7 +16,7 @@ use Rattle.rules.specs.State.{S}
 use Rattle.rules.specs.Figure.{figure}
 use Rattle.rules.specs.Asked.{Asked, lengthOf, partOf, weightsOf}
 use Rattle.rules.specs.Refusal.{most, cells, figuresRefusal}
-use Rattle.rules.specs.Answer.{cleared}
+use Rattle.places.specs.Cells.{Kept}
 use Rattle.rules.specs.Worth.{working, failing, badFan, worthRefusal}
 use Rattle.rules.proofs.Seven.{within-true}
 use Rattle.rules.proofs.Accepted.{first-same, none-first, in-stretch, figures-ratable}
@@ -40,21 +40,12 @@ module _ (q : Asked) (table : List ℕ) (fan : ℕ) (none : figuresRefusal q tab
   unfolding figuresRefusal
   listed = within-true 1 (lengthOf q) most (not-false _ (none-first 1 _ _ (none-first 0 _ _ none .1) .0)) .1
 
-  abbrev room : cells ≤ length table
-  room = figures-ratable q table none .2 .room
-
-  cleared-length : length (cleared table) ≡ length table
-  cleared-length = simp (length-append, length-replicate, length-drop) (omega (arith, room))
-
-  pub cleared-accepted : figuresRefusal q (cleared table) ≡ 0
+  pub kept-accepted : (later : List ℕ) → Kept table later → figuresRefusal q later ≡ 0
   unfolding figuresRefusal
-  cleared-accepted =
+  kept-accepted later k =
       first-same 1 _ _ _ _ refl (λ one. first-same 2 _ _ _ _ refl (λ two. first-same 3 _ _ _ _ refl (λ three. first-same 4 _ _ _ _ refl (λ four.
-      first-same 5 _ _ _ _ refl (λ five. first-same 6 _ _ _ _ refl (λ six. first-same 7 _ _ _ _ (ap (λ n. ltb n cells) cleared-length) (λ seven. refl)))))))
+      first-same 5 _ _ _ _ refl (λ five. first-same 6 _ _ _ _ refl (λ six. first-same 7 _ _ _ _ (ap (λ n. ltb n cells) (k .long)) (λ seven. refl)))))))
       ∙ none
-
-pub cleared-again : (table : List ℕ) → cleared (cleared table) ≡ cleared table
-cleared-again table = ap (λ rest. replicate cells 0 ++ rest) (ap (λ n. drop n (cleared table)) (sym (length-replicate {A = ℕ} cells 0)) ∙ drop-append-seam (replicate cells 0) (drop cells table))
 
 -- ---- a worth that is not refused: neither rating is, and all four figures are within the unit
 
@@ -69,8 +60,11 @@ module _ (q : Asked) (fan : ℕ) (table : List ℕ) (none : worthRefusal q fan t
       go true e = absurd (omega arith)
       go false e = refl
 
-  pub second-accepted : figuresRefusal q (cleared table) ≡ 0
-  second-accepted = cleared-accepted q table fan accepted
+  pub second-accepted : (later : List ℕ) → Kept table later → figuresRefusal q later ≡ 0
+  second-accepted = kept-accepted q table fan accepted
+
+  pub room : cells ≤ length table
+  room = figures-ratable q table accepted .2 .room
 
   pub works-within : (up : Bool) → figure up S (q .rule) (partOf (working fan q)) (weightsOf q) ≤ S
   works-within = sure-within q table fan S accepted (omega arith)

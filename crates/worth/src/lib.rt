@@ -8,7 +8,8 @@ ghost use Rattle.rules.specs.Asked.{askedOf};
 ghost use Rattle.rules.specs.Refusal.{most};
 ghost use Rattle.rules.specs.Worth.{sure, worthRefusal};
 ghost use Rattle.figures.specs.Outcome.{Worked};
-ghost use Rattle.worth.specs.Outcome.{Replaceable, Weighed};
+ghost use Rattle.worth.specs.Outcome.{Replaceable, Found, Weighed};
+use cells::CELLS;
 use places::Ends;
 use rules::Rule;
 use rules::Worth;
@@ -18,7 +19,7 @@ use units::UNIT;
 const MOST: usize = 64;
 
 // The refusals of the figures, then 17: the fan is outside the stretch.
-fn refusal(
+pub fn refusal(
     rule: Rule,
     a: u64,
     b: u64,
@@ -72,7 +73,7 @@ fn rate_sure(
     let n = survival.len();
     let mut numbers = copied(survival);
     numbers[fan as usize - 1] = p;
-    figures::rate(rule, a, b, &numbers[..n], weights, table)
+    figures::work(rule, a, b, &numbers[..n], weights, table)
 }
 
 // The difference of two figures.
@@ -81,6 +82,26 @@ fn less(a: u64, b: u64) -> i64
     ensures { λ r. ⌜ r ≡ subℕ a b ⌝ }
 {
     a as i64 - b as i64
+}
+
+// The worth of a fan that is not refused. The table is left as it was worked.
+pub fn weigh(
+    rule: Rule,
+    a: u64,
+    b: u64,
+    fan: u64,
+    survival: &[u32],
+    weights: &[u16],
+    table: &mut [u64],
+) -> Worth
+    requires { ⌜ worthRefusal (askedOf rule a b (now survival) (now weights)) fan (now table) ≡ 0 ⌝ }
+    ensures { λ r. ⌜ Found (askedOf rule a b (now (survival .entry)) (now (weights .entry))) fan (now (table .entry)) (now (table .exit)) r ⌝ }
+{
+    let works = rate_sure(rule, a, b, fan, UNIT as u32, survival, weights, table);
+    let fails = rate_sure(rule, a, b, fan, 0, survival, weights, table);
+    let lower = less(works.low, fails.high);
+    let upper = less(works.high, fails.low);
+    Worth::Ends { lower, upper }
 }
 
 // The worth of a fan of the stretch from component a to component b. The exact difference lies between its ends: `worth-between` of
@@ -100,9 +121,7 @@ pub fn worth(
     if refused != 0 {
         return Worth::Refused(refused);
     }
-    let works = rate_sure(rule, a, b, fan, UNIT as u32, survival, weights, table);
-    let fails = rate_sure(rule, a, b, fan, 0, survival, weights, table);
-    let lower = less(works.low, fails.high);
-    let upper = less(works.high, fails.low);
-    Worth::Ends { lower, upper }
+    let worth = weigh(rule, a, b, fan, survival, weights, table);
+    cells::zero(table, CELLS);
+    worth
 }

@@ -7,6 +7,9 @@ use Rattle.loading.proofs.Packed.{figures-packable}
 use Rattle.ratings.proofs.foambeetle_figures.Statement.{statement}
 use Rattle.ratings.proofs.foambeetle_figures.Tie as tie
 
+rule-of-requires : tie.Need-rule-of-requires
+rule-of-requires c κs = search needs
+
 figures-requires : tie.Need-figures-requires
 figures-requires c κs = search needs
 
@@ -18,8 +21,8 @@ same-length c = search needs
 
 returns : tie.Need-returns
 returns c =
-    let e = c .before .before .before .figures .ensures in
+    let e = rw (c .before .before .before .before .before .rule-of .ensures) at (c .before .before .before .figures .ensures) in
     record { answer = c .pack .ensures ∙ ap packed (figures-are e); table = e .table }
 
 pub foambeetle-figures-spec : {M : Type 1} → statement M
-foambeetle-figures-spec = tie.close (tie.spec figures-requires pack-requires same-length returns)
+foambeetle-figures-spec = tie.close (tie.spec rule-of-requires figures-requires pack-requires same-length returns)

@@ -6,6 +6,9 @@ use Rattle.loading.specs.Outcome.{numberOf, endsAfter}
 use Rattle.ratings.proofs.foambeetle_worth_of.Statement.{statement}
 use Rattle.ratings.proofs.foambeetle_worth_of.Tie as tie
 
+rule-of-requires : tie.Need-rule-of-requires
+rule-of-requires c κs = search needs
+
 worth-requires : tie.Need-worth-requires
 worth-requires c κs = search needs
 
@@ -17,10 +20,10 @@ same-length c = search needs
 
 returns : tie.Need-returns
 returns c =
-    let e = c .before .before .before .before .worth .ensures in
+    let e = rw (c .before .before .before .before .before .before .rule-of .ensures) at (c .before .before .before .before .worth .ensures) in
     let told = c .tell .ensures in
-    let x = c .before .before .before .before .before .before .before .before .before .args in
+    let x = c .before .before .before .before .before .before .before .before .before .before .args in
     record { number = told .0 ∙ ap numberOf (worth-is e); table = e .table; ends = told .1 ∙ ap (λ w. endsAfter w (x .ends .now)) (worth-is e) }
 
 pub foambeetle-worth-of-spec : {M : Type 1} → statement M
-foambeetle-worth-of-spec = tie.close (tie.spec worth-requires tell-requires same-length returns)
+foambeetle-worth-of-spec = tie.close (tie.spec rule-of-requires worth-requires tell-requires same-length returns)

@@ -1,17 +1,43 @@
--- `systems::rate_lists` meets its contract: the answer by its cases is the definitions' over a table of zeros. Assumes nothing.
+-- `systems::rate_lists` meets its contract: refused, or rated, over a table of zeros. Assumes nothing.
+use mathlib.Core.Path.{sym, ap, _∙_}
 use borrow.Author.Needs.{needs}
-use Rattle.figures.proofs.Outcome.{figures-are}
+use Rattle.rules.specs.declared.Rating.the-variants.{Refused}
+use Rattle.rules.specs.Answer.{figuresOf}
+use Rattle.rules.proofs.Unless.{unless-none, unless-some}
 use Rattle.systems.proofs.rate_lists.Statement.{statement}
 use Rattle.systems.proofs.rate_lists.Tie as tie
 
-slice-aggregate-figures : tie.Need-slice-aggregate-figures
-slice-aggregate-figures c = search needs
+slice-aggregate-refusal : tie.Need-slice-aggregate-refusal
+slice-aggregate-refusal c = search needs
 
-figures-requires : tie.Need-figures-requires
-figures-requires c κs = search needs
+refusal-requires : tie.Need-refusal-requires
+refusal-requires c κs = search needs
 
 returns : tie.Need-returns
-returns c = figures-are (c .before .figures .ensures)
+unfolding figuresOf
+returns c =
+    let e = c .before .refusal .ensures in
+    ap Refused e ∙ sym (unless-some _ _ _ (λ z. c .if1 .taken (e ∙ z)))
+
+slice-aggregate-rate : tie.Need-slice-aggregate-rate
+slice-aggregate-rate c = search needs
+
+rate-requires : tie.Need-rate-requires
+rate-requires c κs = sym (c .before .before .refusal .ensures) ∙ c .before .if1 .left
+
+returns-2 : tie.Need-returns-2
+unfolding figuresOf
+returns-2 c =
+    let none = sym (c .before .before .before .before .refusal .ensures) ∙ c .before .before .before .if1 .left in
+    c .before .rate .ensures .range ∙ sym (unless-none _ _ _ none)
 
 pub rate-lists-spec : {M : Type 1} → statement M
-rate-lists-spec = tie.close (tie.spec slice-aggregate-figures figures-requires returns)
+rate-lists-spec =
+    tie.close
+    (tie.spec
+    slice-aggregate-refusal
+    refusal-requires
+    returns
+    slice-aggregate-rate
+    rate-requires
+    returns-2)

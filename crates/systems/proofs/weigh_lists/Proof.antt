@@ -1,17 +1,43 @@
--- `systems::weigh_lists` meets its contract: the worth by its cases is the definitions' over a table of zeros. Assumes nothing.
+-- `systems::weigh_lists` meets its contract: refused, or weighed, over a table of zeros. Assumes nothing.
+use mathlib.Core.Path.{sym, ap, _∙_}
 use borrow.Author.Needs.{needs}
-use Rattle.worth.proofs.Outcome.{worth-is}
+use Rattle.rules.specs.declared.Worth.the-variants.{Refused}
+use Rattle.rules.specs.Worth.{worthOf}
+use Rattle.rules.proofs.Unless.{unless-none, unless-some}
 use Rattle.systems.proofs.weigh_lists.Statement.{statement}
 use Rattle.systems.proofs.weigh_lists.Tie as tie
 
-slice-aggregate-worth : tie.Need-slice-aggregate-worth
-slice-aggregate-worth c = search needs
+slice-aggregate-refusal : tie.Need-slice-aggregate-refusal
+slice-aggregate-refusal c = search needs
 
-worth-requires : tie.Need-worth-requires
-worth-requires c κs = search needs
+refusal-requires : tie.Need-refusal-requires
+refusal-requires c κs = search needs
 
 returns : tie.Need-returns
-returns c = worth-is (c .before .worth .ensures)
+unfolding worthOf
+returns c =
+    let e = c .before .refusal .ensures in
+    ap Refused e ∙ sym (unless-some _ _ _ (λ z. c .if1 .taken (e ∙ z)))
+
+slice-aggregate-weigh : tie.Need-slice-aggregate-weigh
+slice-aggregate-weigh c = search needs
+
+weigh-requires : tie.Need-weigh-requires
+weigh-requires c κs = sym (c .before .before .refusal .ensures) ∙ c .before .if1 .left
+
+returns-2 : tie.Need-returns-2
+unfolding worthOf
+returns-2 c =
+    let none = sym (c .before .before .before .before .refusal .ensures) ∙ c .before .before .before .if1 .left in
+    c .before .weigh .ensures .ends ∙ sym (unless-none _ _ _ none)
 
 pub weigh-lists-spec : {M : Type 1} → statement M
-weigh-lists-spec = tie.close (tie.spec slice-aggregate-worth worth-requires returns)
+weigh-lists-spec =
+    tie.close
+    (tie.spec
+    slice-aggregate-refusal
+    refusal-requires
+    returns
+    slice-aggregate-weigh
+    weigh-requires
+    returns-2)

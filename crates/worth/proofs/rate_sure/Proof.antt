@@ -33,11 +33,11 @@ array-write-numbers c =
 array-share-prefix-numbers : tie.Need-array-share-prefix-numbers
 array-share-prefix-numbers c = simp length-set (omega (arith, listed _ _ 0 (c .before .before .before .before .pre .accepted)))
 
-slice-aggregate-rate : tie.Need-slice-aggregate-rate
-slice-aggregate-rate c = sym (length-take-le _ _ (array-share-prefix-numbers (c .before)))
+slice-aggregate-work : tie.Need-slice-aggregate-work
+slice-aggregate-work c = sym (length-take-le _ _ (array-share-prefix-numbers (c .before)))
 
-rate-requires : tie.Need-rate-requires
-rate-requires c κs =
+work-requires : tie.Need-work-requires
+work-requires c κs =
     let start = c .before .before .before .before .before .before in
     let x = start .args in
     let place = placed _ _ (x .fan) (start .pre .accepted) (start .pre .inside) in
@@ -52,7 +52,7 @@ returns c =
     let start = c .before .before .before .before .before .before .before .before .before in
     let x = start .args in
     let place = placed _ _ (x .fan) (start .pre .accepted) (start .pre .inside) in
-    rw (front-replaced _ (x .survival .now) (x .fan) (x .p) (c .before .before .before .before .before .copied .ensures) (omega (arith, place))) at (c .before .before .rate .ensures)
+    rw (front-replaced _ (x .survival .now) (x .fan) (x .p) (c .before .before .before .before .before .copied .ensures) (omega (arith, place))) at (c .before .before .work .ensures)
 
 pub rate-sure-spec : {M : Type 1} → statement M
 rate-sure-spec =
@@ -63,7 +63,7 @@ rate-sure-spec =
     mul-numbers
     array-write-numbers
     array-share-prefix-numbers
-    slice-aggregate-rate
-    rate-requires
+    slice-aggregate-work
+    work-requires
     same-length
     returns)
