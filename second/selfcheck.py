@@ -305,14 +305,19 @@ def worths_by_words():
                 yield (lower, upper), (ends[0][0] - ends[1][1], ends[0][1] - ends[1][0])
 
 
+def between_others(rng, survivals, weights, most):
+    """The fans with up to so many more on either side, which no answer may read, and how many stand before them."""
+    before, after = rng.randint(0, most), rng.randint(0, most)
+    longer = [2 ** 32 - 1] * before + survivals + [2 ** 32 - 1] * after
+    return before, longer, [65535] * before + weights + [65535] * after
+
+
 def worths_of_parts():
     """A stretch's worths are those of a list of its fans alone, and the fan's own number changes none of them."""
     # document 01, 'Stretches': "answers as a list of those components alone would"
     rng = random.Random(15)
     for rule, survivals, weights in random_systems(16, 70, 8):
-        before, after = rng.randint(0, 4), rng.randint(0, 4)
-        longer = [2 ** 32 - 1] * before + survivals + [2 ** 32 - 1] * after
-        heavier = [65535] * before + weights + [65535] * after
+        before, longer, heavier = between_others(rng, survivals, weights, 4)
         a, b = before + 1, before + len(survivals)
         for fan in range(1, len(survivals) + 1):
             alone = worth(rule, 1, len(survivals), fan, survivals, weights)
@@ -390,9 +395,7 @@ def stretches_read_inside_only():
     # document 01, 'Stretches': what stands outside changes no answer
     rng = random.Random(7)
     for rule, survivals, weights in random_systems(8, 140, 8):
-        before, after = rng.randint(0, 5), rng.randint(0, 5)
-        longer = [2 ** 32 - 1] * before + survivals + [2 ** 32 - 1] * after
-        heavier = [65535] * before + weights + [65535] * after
+        before, longer, heavier = between_others(rng, survivals, weights, 5)
         a, b = before + 1, before + len(survivals)
         yield figures(rule, a, b, longer, heavier), low_and_high_by_words(rule, survivals, weights)
 
