@@ -3,13 +3,17 @@
 mod listing; // listing.rt: the lines
 mod task; // task.rt: what the program's words ask for
 
+use libc::STDERR_FILENO;
+use libc::STDOUT_FILENO;
 use program::Input;
 use program::words::WORD;
 use task::Task;
 
-// Writes a text to standard output.
+// Writes a text to standard output; what cannot be written is told.
 fn write_text(text: &[u8]) {
-    program::write_output(b"decklist: standard output", text)
+    if !io::write_all(STDOUT_FILENO, text) {
+        os::fail(b"decklist: standard output");
+    }
 }
 
 // Lists the file on standard input; nothing is listed where it cannot be read.
@@ -33,8 +37,11 @@ fn main() {
             b"usage: decklist [--percent] < FILE\n       decklist --help\n       decklist --version\n",
         ),
         Task::Version => write_text(b"decklist 1.0.0\n"),
-        Task::Unknown => program::write_error(
-            b"decklist: takes no word, or one of --percent, --help and --version\n",
-        ),
+        Task::Unknown => {
+            io::write_all(
+                STDERR_FILENO,
+                b"decklist: takes no word, or one of --percent, --help and --version\n",
+            );
+        }
     }
 }

@@ -2,14 +2,18 @@
 
 mod listing; // listing.rt: the lines
 
+use libc::STDERR_FILENO;
+use libc::STDOUT_FILENO;
 use program::Input;
 use program::words;
 use program::words::WORD;
 use program::words::Words;
 
-// Writes a text to standard output.
+// Writes a text to standard output; what cannot be written is told.
 fn write_text(text: &[u8]) {
-    program::write_output(b"deckworth: standard output", text)
+    if !io::write_all(STDOUT_FILENO, text) {
+        os::fail(b"deckworth: standard output");
+    }
 }
 
 // Lists the file on standard input; nothing is listed where it cannot be read.
@@ -33,8 +37,11 @@ fn main() {
             b"usage: deckworth < FILE\n       deckworth --help\n       deckworth --version\n",
         ),
         Words::Version => write_text(b"deckworth 1.0.0\n"),
-        Words::Other | Words::Many => program::write_error(
-            b"deckworth: takes no word, or one of --help and --version\n",
-        ),
+        Words::Other | Words::Many => {
+            io::write_all(
+                STDERR_FILENO,
+                b"deckworth: takes no word, or one of --help and --version\n",
+            );
+        }
     }
 }

@@ -1,12 +1,10 @@
-// What every program does at its edges: it looks at its words, reads its input and writes its output, or says on standard error what failed.
+// What every program does at its edges: it looks at its words, and reads its input or says on standard error what failed.
 pub mod words; // words.rt: what its words ask for
 
 ghost use mathlib.Core.Path.{_≡_};
 ghost use lib.ListN.{length};
 ghost use Rattle.program.specs.Edges.{sameText, FitsIn};
-use libc::STDERR_FILENO;
 use libc::STDIN_FILENO;
-use libc::STDOUT_FILENO;
 
 // What reading gave: so many bytes at the buffer's front, up to the input's end or the buffer's; or a read that failed.
 pub enum Input {
@@ -58,16 +56,4 @@ pub fn read_input(name: &[u8], buffer: &mut [u8]) -> Input
         filled += more;
     }
     Input::Filled(filled)
-}
-
-// Writes a text to standard output; what cannot be written is told, by the name that the output is given.
-pub fn write_output(name: &[u8], text: &[u8]) {
-    if !io::write_all(STDOUT_FILENO, text) {
-        os::fail(name);
-    }
-}
-
-// Writes a text to standard error, where nothing is left to do if it cannot be written.
-pub fn write_error(text: &[u8]) {
-    io::write_all(STDERR_FILENO, text);
 }
