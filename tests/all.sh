@@ -14,6 +14,7 @@ others=(
     "the published figures are what the proved programs print: python3 tests/published.py"
     "each must-fail edit is refused for a fact: python3 tests/edits.py"
     "the library's calls and the programs against the second program: python3 tests/run.py"
+    "the library's calls hold within the stack that the ship grants: python3 tests/stack.py"
     "the programs' words, percents and failures: python3 tests/program.py"
     "the walk through a deck is true as printed: python3 tests/walk.py"
     "the library links every way, and exports its calls alone: python3 tests/library.py"

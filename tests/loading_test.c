@@ -3,8 +3,10 @@
  * bytes, its bytes, the number of systems in 4 bytes, and for each its number and the fan's in 8 bytes, all lowest byte first.
  *
  * Every call is made twice, with what it is lent ending at a page that may not be touched and beginning behind another, so that a step past either
- * end stops the program. The two answers must be one, the file's bytes as they were, and the ends untouched where the call refuses. The last two
- * lines are the deepest stack that each call used. */
+ * end stops the program. The two answers must be one, the file's bytes as they were, and the ends untouched where the call refuses.
+ *
+ * Each call has a stack of its own, of just the bytes that the older ship's loading computer grants, above a page that may not be touched either. The
+ * last two lines are the deepest that each call went. */
 #define _GNU_SOURCE
 #include <inttypes.h>
 #include <signal.h>
@@ -21,7 +23,8 @@
 
 /* As large as a page can be on the machines that this runs on, emulated or not. */
 #define PAGE 65536u
-#define STACK (4 * PAGE)
+/* Document 02, request 07. */
+#define STACK 70000u
 #define PAINT 0xa5
 #define ENDS (2 * sizeof(int64_t))
 /* The bytes of the ends' page that are looked at beside the ends. */
@@ -80,18 +83,18 @@ static int guarded(const uint8_t *byte) {
     return WIFSIGNALED(status) && WTERMSIG(status) == SIGSEGV;
 }
 
-/* A page that may be read and written, between two that may not. */
-static uint8_t *make_page(void) {
-    uint8_t *all = mmap(NULL, 4 * PAGE, PROT_NONE, MAP_PRIVATE | MAP_ANONYMOUS, -1, 0);
-    uint8_t *page = all + (PAGE - (uintptr_t)all % PAGE) % PAGE + PAGE;
+/* So many pages that may be read and written, between two that may not. */
+static uint8_t *make_pages(size_t count) {
+    uint8_t *all = mmap(NULL, (count + 3) * PAGE, PROT_NONE, MAP_PRIVATE | MAP_ANONYMOUS, -1, 0);
+    uint8_t *pages = all + (PAGE - (uintptr_t)all % PAGE) % PAGE + PAGE;
 
     if (all == MAP_FAILED)
         stop("no memory for the guard pages");
-    if (mprotect(page, PAGE, PROT_READ | PROT_WRITE))
-        stop("the page cannot be made readable");
-    if (!guarded(page - 1) || !guarded(page + PAGE))
+    if (mprotect(pages, count * PAGE, PROT_READ | PROT_WRITE))
+        stop("the pages cannot be made readable");
+    if (!guarded(pages - 1) || !guarded(pages + count * PAGE))
         stop("the guard pages can be read");
-    return page;
+    return pages;
 }
 
 static void run_rate(void) {
@@ -105,9 +108,7 @@ static void run_worth(void) {
 }
 
 static void make_stack(struct stack *stack) {
-    stack->bytes = malloc(STACK);
-    if (!stack->bytes)
-        stop("no memory for the stack");
+    stack->bytes = make_pages(STACK / PAGE + 1);
     memset(stack->bytes, PAINT, STACK);
 }
 
@@ -215,8 +216,8 @@ static void print_file(size_t length) {
 int main(void) {
     uint64_t length;
 
-    file_page = make_page();
-    ends_page = make_page();
+    file_page = make_pages(1);
+    ends_page = make_pages(1);
     memset(ends_page, PAINT, PAGE);
     make_stack(&of_rate);
     make_stack(&of_worth);

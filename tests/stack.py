@@ -1,0 +1,87 @@
+"""The stack that each of the library's calls can need: the frames of the compiled code, added up along the deepest chain of calls.
+
+tests/run.py runs the calls on a stack of just the bytes that are granted; here the paths that no case takes are counted too. What moves the stack in
+a way that is not known here, or is called where the code does not say whom, is a failure.
+"""
+
+import re
+import sys
+from functools import lru_cache
+
+from common import make, reported, root, run, tools
+
+MOST_STACK = 70000  # document 02, request 07
+CALLS = ("foambeetle_rate", "foambeetle_worth")
+OUTSIDE = {"memcpy": 256, "memset": 256}  # of a C library, whose own code is not ours to read
+RED_ZONE = 128  # what a function that calls nothing may use below its frame
+WORD = 8
+
+FUNCTION = re.compile(r"^[0-9a-f]+ <(\S+)>:$")
+INSTRUCTION = re.compile(r"^\s+[0-9a-f]+:\s+([a-z]\S*)\s*(.*)$")
+TARGET = re.compile(r"^\s+[0-9a-f]+: R_X86_64_PLT32\s+(?:\.text\.)?([^\s+-]+)")
+BELOW = re.compile(r"^\$(0x[0-9a-f]+|\d+),%(rsp|r11)$")
+PAGE = 0x1000
+
+
+def disassembled():
+    """The archive's code, a list of lines for each function."""
+    compiler = tools()[0]
+    text = run([compiler.replace("gcc", "objdump"), "-dr", "--no-show-raw-insn", root / "target/lib/libfoambeetle.a"]).decode()
+    functions, lines = {}, []
+    for line in text.splitlines():
+        if found := FUNCTION.match(line):
+            functions[found[1]] = lines = []
+        lines.append(line)
+    return functions
+
+
+def moved(code, wrong, name):
+    """How far a function's instructions move the stack down: pushes, and what is subtracted. A frame of more than a page is made page by page up to
+    a mark that is worked out first; the mark is what counts."""
+    depth, marked = 0, False
+    for word, rest in code:
+        below = BELOW.match(rest)
+        if word.startswith("push"):
+            depth += WORD
+        elif word.startswith("sub") and below and below[2] == "r11":
+            depth, marked = depth + int(below[1], 0), True
+        elif word.startswith("sub") and below:
+            depth += 0 if marked and int(below[1], 0) == PAGE else int(below[1], 0)
+        elif rest.endswith(",%rsp") and not word.startswith(("add", "cmp", "test")):
+            wrong.append(f"{name}: {word} {rest} moves the stack in a way that is not known")
+    return depth
+
+
+def read(lines, wrong):
+    """A function's frame, with the place that it returns to, and whom it calls."""
+    name = FUNCTION.match(lines[0])[1]
+    code, called = [], set()
+    for line in lines[1:]:
+        if found := TARGET.match(line):
+            called.add(found[1])
+        elif found := INSTRUCTION.match(line):
+            code.append((found[1], found[2]))
+            if found[1].startswith("call") and found[2].startswith("*"):
+                wrong.append(f"{name}: {found[1]} {found[2]} does not say whom")
+    return WORD + moved(code, wrong, name), called
+
+
+def main():
+    make("lib")
+    wrong = []
+    functions = {name: read(lines, wrong) for name, lines in disassembled().items()}
+
+    @lru_cache(maxsize=None)
+    def deepest(name):
+        if name in OUTSIDE:
+            return OUTSIDE[name]
+        frame, called = functions[name]
+        return frame + max(map(deepest, called), default=RED_ZONE)
+
+    depths = {call: deepest(call) for call in CALLS}
+    wrong += [f"{call} can need {depth} bytes" for call, depth in depths.items() if depth > MOST_STACK]
+    return reported(wrong, f"stacks by the frames: {depths}, at most {MOST_STACK} bytes")
+
+
+if __name__ == "__main__":
+    sys.exit(main())
