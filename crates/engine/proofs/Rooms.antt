@@ -21,7 +21,7 @@ module _ {rule : Rule} {survival weights t : List ℕ} (y : Ratable rule surviva
   pub in-runs : One (rule .first) (length survival) (rule .second) → runs.Asked (rule .first) survival t
   in-runs h = record { some = h .low; fits = h .high; list = workable }
 
-  pub in-gaps : Two (rule .first) (rule .second) (length survival) → gaps.Asked (rule .second) survival t
+  pub in-gaps : {most : ℕ} → Two (rule .first) (rule .second) most → gaps.Asked (rule .second) survival t
   in-gaps h = record { two = h .low; list = workable }
 
 -- a room's figure is the rule's where the table has the room's row at the rule's kind

@@ -11,7 +11,7 @@ use lib.ListN.{length}
 use Rattle.rules.specs.declared.Rule.{Rule}
 use Rattle.rules.specs.Below.{total}
 use Rattle.rules.specs.State.{ruleOf}
-use Rattle.rules.specs.Refusal.{after, rangeOne, rangeTwo, badKind, badSize, badWeights, ranged, inRange, firstOf, highOne, shortTable, shortRoom, verdictRefusal, countRefusal}
+use Rattle.rules.specs.Refusal.{after, rangeOne, badKind, badSize, badWeights, ranged, inRange, firstOf, highOne, shortTable, shortRoom, verdictRefusal, countRefusal}
 use Rattle.rules.specs.Accepted.{Accepted}
 use Rattle.rules.proofs.Seven.{range-kind}
 use Rattle.rules.proofs.Accepted.{none-first, rule-accepted}
@@ -79,10 +79,6 @@ module _ (rule : Rule) (n t : ℕ) where
   unfolding ranged
   range-one (inl e) = rw e
   range-one (inr h) = one-of-two (λ k. at k ≡ rangeOne (rule .first) n (rule .second)) 4 (rule .kind) refl refl (h .0) (h .1)
-
-  pub range-two : 6 ≤ rule .kind → rule .kind ≤ 7 → ranged rule n t ≡ rangeTwo (rule .first) (rule .second) n
-  unfolding ranged
-  range-two = one-of-two (λ k. at k ≡ rangeTwo (rule .first) (rule .second) n) 6 (rule .kind) refl refl
 
   -- a kind that has no row
   pub range-none : (1 ≤ rule .kind → 7 < rule .kind) → ranged rule n t ≡ false

@@ -62,14 +62,14 @@ fn one_out(k: u64, most: u64, second: u64) -> bool
     second != 0
 }
 
-// Kinds 6 and 7: first 2, second from 2 to n.
-fn two_out(first: u64, r: u64, n: u64) -> bool
-    ensures { λ a. ⌜ a ≡ not (rangeTwo first r n) ⌝ }
+// Kinds 6 and 7: first 2, second from 2 to `most`.
+fn two_out(first: u64, r: u64, most: u64) -> bool
+    ensures { λ a. ⌜ a ≡ not (rangeTwo first r most) ⌝ }
 {
     if first != 2 {
         return true;
     }
-    outside(2, r, n)
+    outside(2, r, most)
 }
 
 // Refusal 6, over the total weight of the components rated; only kind 2 asks for it.
@@ -81,7 +81,8 @@ pub fn range_out(rule: Rule, n: u64, total: u64) -> bool
         1 | 4 | 5 => one_out(rule.first, n, rule.second),
         2 => one_out(rule.first, total, rule.second),
         3 => outside(rule.first, rule.second, n),
-        6 | 7 => two_out(rule.first, rule.second, n),
+        6 => two_out(rule.first, rule.second, MOST),
+        7 => two_out(rule.first, rule.second, n),
         _ => true,
     }
 }

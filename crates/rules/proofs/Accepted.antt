@@ -15,7 +15,7 @@ use Rattle.rules.specs.declared.Rating.the-variants.{Range, Refused}
 use Rattle.rules.specs.Below.{total, within}
 use Rattle.rules.specs.Stretch.{stretch}
 use Rattle.rules.specs.Asked.{Asked, lengthOf, sizeOf, partOf, weightsOf, lowOf, highOf, ThirdOf}
-use Rattle.rules.specs.Refusal.{badKind, badSize, badStretch, heaviest, weightsOut, badWeights, rangeOne, rangeTwo, ranged, inRange, firstOf, figuresRefusal}
+use Rattle.rules.specs.Refusal.{most, badKind, badSize, badStretch, heaviest, weightsOut, badWeights, rangeOne, rangeTwo, ranged, inRange, firstOf, figuresRefusal}
 use Rattle.rules.specs.Accepted.{Accepted, One, Two, Ratable}
 use Rattle.rules.specs.Answer.{unless, figuresOf}
 use Rattle.rules.proofs.Tests.{both, neither}
@@ -76,10 +76,10 @@ one-true k most second e =
     let i = within-true 1 k most (h .0) in
     record { low = i .0; high = i .1; none = eqb-true second 0 (h .1) }
 
-two-true : (first r n : ℕ) → rangeTwo first r n ≡ true → Two first r n
-two-true first r n e =
-    let h = both (eqb first 2) (within 2 r n) e in
-    let i = within-true 2 r n (h .1) in
+two-true : (first r most : ℕ) → rangeTwo first r most ≡ true → Two first r most
+two-true first r most e =
+    let h = both (eqb first 2) (within 2 r most) e in
+    let i = within-true 2 r most (h .1) in
     record { two = eqb-true first 2 (h .0); low = i .0; high = i .1 }
 
 -- the column "range", kind by kind
@@ -100,7 +100,7 @@ module _ {rule : Rule} {n : ℕ} {weights : List ℕ} (ok : Accepted rule n weig
   unfolding ranged
   range5 e = one-true _ _ _ (rw e at (ok .in-range))
 
-  pub range6 : rule .kind ≡ 6 → Two (rule .first) (rule .second) n
+  pub range6 : rule .kind ≡ 6 → Two (rule .first) (rule .second) most
   unfolding ranged
   range6 e = two-true _ _ _ (rw e at (ok .in-range))
 

@@ -1,19 +1,21 @@
--- Kinds 6 and 7: reading through the memory is the verdict "some r in a row hold two or more failed ones", on the line and on the ring.
--- No window holds two exactly if any two failed ones are r places apart, on the ring also around its end; the memory (x, g) with i components
--- left says that of the places below i, with g places at the top that must work and x clean ones before the first failure.
--- The line is the ring past its lead, at (r - 1, 0). Assumes nothing.
+-- Kinds 6 and 7: reading through the memory is the verdict, "two failed components' numbers differ by less than r" on the line and "some r in a row
+-- hold two or more failed ones" on the ring. Both say that any two failed ones are r places apart, on the ring also around its end; the memory
+-- (x, g) with i components left says that of the places below i, with g places at the top that must work and x clean ones before the first
+-- failure. The line is the ring past its lead, at (r - 1, 0). On the line windows say the same, no longer than it is. Assumes nothing.
 use mathlib.Core.Path.{_≡_, refl, sym, _∙_}
 use mathlib.Core.Logic.{_↔_, Iff·trans}
-use mathlib.Core.Bool.{Bool, true, false, false≢true, not}
+use mathlib.Core.Bool.{Bool, true, false, true≢false, false≢true, not, _&&_}
 use Prim.Native.Nat.{ℕ, zero, suc, min, _+_, _-_, _%_, _≤_, _<_}
 use native.Mathlib.Omega.{arith}
 use native.Mathlib.Decide.{decLt}
-use borrow.Author.Tests.{leb-true, le-leb}
-use Rattle.rules.specs.Below.{held}
+use lib.Dec.{ltb}
+use borrow.Author.Tests.{leb-true, le-leb, ltb-true, lt-ltb}
+use Rattle.rules.specs.Below.{held, some}
 use Rattle.rules.specs.State.{down, window, starts}
-use Rattle.rules.specs.Verdict.{someWindow}
+use Rattle.rules.specs.Verdict.{someWindow, twoNear}
 use Rattle.rules.specs.Memory.{run, Memory, live, dead, moved, ended, machineOf, Ring, lead, pair, failing6, working7, failing7, end7, row6, row7}
-use Rattle.rules.proofs.Windows.{opposite, last, held-fewer, no-window, not-lt, at, turned}
+use Rattle.rules.proofs.Tests.{both}
+use Rattle.rules.proofs.Windows.{opposite, last, some-none, some-found, held-fewer, no-window, not-lt, at, turned}
 use Rattle.rules.proofs.Reading.{step, gone}
 use Rattle.rules.proofs.Simulation.{Alike, Same, alike-same}
 
@@ -171,31 +173,58 @@ module _ (f : ℕ → Bool) (n r : ℕ) (fits : r ≤ n) where
                 (sym (turned f n _ _ (omega arith) (omega arith)) ∙ t),
           )
 
--- some window of the line fails exactly if two failed ones are nearer than r
-pub line-apart : (n r w : ℕ) → r ≤ n → (someWindow false n r 2 w ≡ false) ↔ Apart (λ p. down p w) r n
-line-apart n r w fits = Iff·trans (clear false n r w) (line-clear (λ p. down p w) n r fits .1, line-clear (λ p. down p w) n r fits .0)
+-- no two failed ones are nearer than r exactly if any two are r apart
+module _ (n r w : ℕ) where
+  abbrev nearBelow : ℕ → ℕ → Bool
+  nearBelow j i = down i w && down j w && ltb (j - i) r
 
-module _ (n r w : ℕ) (low : 2 ≤ r) (fits : r ≤ n) where
-  pub kind7 : run (machineOf (row7 r)) n (live (lead 0)) w ≡ not (someWindow true n r 2 w)
-  kind7 = opposite _ _ (Iff·trans (clean-ok w r (omega arith) n 0) (ring-clear (λ p. down p w) n r fits)) (clear true n r w)
+  pub near-apart : (twoNear n r w ≡ false) ↔ Apart (λ p. down p w) r n
+  unfolding twoNear
+  near-apart = (
+    λ e q l s p m t. not-lt _ _ (λ g.
+        some-none (λ j. some (nearBelow j) j) n .0 e q l (some-found (nearBelow q) q p m (rw (t, s) (lt-ltb (q - p) r (omega arith))))),
+    λ h. some-none (λ j. some (nearBelow j) j) n .1 (λ q l e. true≢false (sym e ∙ some-none (nearBelow q) q .1 (far h q l))),
+  )
+    where
+      far : Apart (λ p. down p w) r n → (q : ℕ) → q < n → (p : ℕ) → p < q → nearBelow q p ≡ true → ⊥
+      far h q l p m b =
+          let u = both (down p w && down q w) (ltb (q - p) r) b in
+          let v = both (down p w) (down q w) (u .0) in
+          omega (arith, h q l (v .1) p m (v .0), ltb-true (q - p) r (u .1))
+
+  -- the same by windows of r components, or of all n where that is fewer
+  pub near-window : twoNear n r w ≡ someWindow false n (min r n) 2 w
+  near-window = same _ _ (Iff·trans near-apart (Iff·trans shorter (line-clear (λ p. down p w) n (min r n) (omega arith)))) (clear false n (min r n) w)
+    where
+      shorter : Apart (λ p. down p w) r n ↔ Apart (λ p. down p w) (min r n) n
+      shorter = (λ h q l s p m t. omega (arith, h q l s p m t), λ h q l s p m t. omega (arith, h q l s p m t))
+
+      same : (a b : Bool) {P : Type 0} → ((a ≡ false) ↔ P) → ((b ≡ false) ↔ P) → a ≡ b
+      same true true h k = refl
+      same true false h k = absurd (true≢false (h .1 (k .0 refl)))
+      same false true h k = absurd (true≢false (k .1 (h .0 refl)))
+      same false false h k = refl
 
   -- the line: a ring on which r - 1 components work before the first
-  past-line : run (machineOf (row7 r)) n (live (pair (r - 1) 0)) w ≡ not (someWindow false n r 2 w)
-  past-line =
+  past-line : 2 ≤ r → run (machineOf (row7 r)) n (live (pair (r - 1) 0)) w ≡ not (twoNear n r w)
+  past-line low =
       opposite _ _
       (Iff·trans (past-ok w r (omega arith) n (r - 1) 0)
       (λ h. h .apart, λ h. record { apart = h; low = λ p l a. omega arith; high = λ p l a. omega arith; wrap = omega arith }))
-      (line-apart n r w fits)
+      near-apart
+
+pub kind7 : (n r w : ℕ) → 2 ≤ r → r ≤ n → run (machineOf (row7 r)) n (live (lead 0)) w ≡ not (someWindow true n r 2 w)
+kind7 n r w low fits = opposite _ _ (Iff·trans (clean-ok w r (omega arith) n 0) (ring-clear (λ p. down p w) n r fits)) (clear true n r w)
 
 -- the line's number g beside the ring's (r - 1, g)
 data Beside (r : ℕ) : Memory ℕ → Memory Ring → Type 0 where
-  both : {g : ℕ} → g < r → Beside r (live g) (live (pair (r - 1) g))
+  level : {g : ℕ} → g < r → Beside r (live g) (live (pair (r - 1) g))
   none : Beside r dead dead
 
 module _ (r : ℕ) (pos : 0 < r) where
   failed : (g : ℕ) → Beside r (failing6 r g) (failing7 r (pair (r - 1) g))
   unfolding failing6 failing7
-  failed zero = both {g = r - 1} (omega arith)
+  failed zero = level {g = r - 1} (omega arith)
   failed (suc g) = none
 
   alike : Alike (machineOf (row6 r)) (machineOf (row7 r)) (λ i. Beside r)
@@ -203,20 +232,20 @@ module _ (r : ℕ) (pos : 0 < r) where
   alike = record { works = λ i m m'. on-working; fails = λ i m m'. on-failed; last = λ m m'. at-end }
     where
       on-working : {m : Memory ℕ} {m' : Memory Ring} → Beside r m m' → Beside r (moved (λ g. live (g - 1)) m) (moved (working7 r) m')
-      on-working (both {g = g} l) = both {g = g - 1} (omega arith)
+      on-working (level {g = g} l) = level {g = g - 1} (omega arith)
       on-working none = none
 
       on-failed : {m : Memory ℕ} {m' : Memory Ring} → Beside r m m' → Beside r (moved (failing6 r) m) (moved (failing7 r) m')
-      on-failed (both {g = g} l) = failed g
+      on-failed (level {g = g} l) = failed g
       on-failed none = none
 
       at-end : {m : Memory ℕ} {m' : Memory Ring} → Beside r m m' → ended (λ g. true) m ≡ ended end7 m'
-      at-end (both {g = g} l) = sym (le-leb g (r - 1) (omega arith))
+      at-end (level {g = g} l) = sym (le-leb g (r - 1) (omega arith))
       at-end none = refl
 
 -- the line reads as the ring past its lead
 pub line-gap : (n r : ℕ) → 0 < r → Same (machineOf (row6 r)) (live 0) (machineOf (row7 r)) (live (pair (r - 1) 0)) n
-line-gap n r pos = alike-same (alike r pos) n _ _ (both {g = 0} pos)
+line-gap n r pos = alike-same (alike r pos) n _ _ (level {g = 0} pos)
 
-pub kind6 : (n r w : ℕ) → 2 ≤ r → r ≤ n → run (machineOf (row6 r)) n (live 0) w ≡ not (someWindow false n r 2 w)
-kind6 n r w low fits = line-gap n r (omega arith) .runs w ∙ past-line n r w low fits
+pub kind6 : (n r w : ℕ) → 2 ≤ r → run (machineOf (row6 r)) n (live 0) w ≡ not (twoNear n r w)
+kind6 n r w low = line-gap n r (omega arith) .runs w ∙ past-line n r w low

@@ -17,7 +17,7 @@ use Rattle.rules.specs.Verdict.{fails, works}
 use Rattle.rules.specs.Count.{countIf, countOf}
 use Rattle.rules.specs.Memory.{run, readingOf, machine}
 use Rattle.rules.specs.Figure.{figure, low, high, exact, Third}
-use Rattle.rules.specs.Refusal.{ranged, inRange, aboveUnit}
+use Rattle.rules.specs.Refusal.{most, ranged, inRange, aboveUnit}
 use Rattle.rules.proofs.Seven.{seven, within-true, range-kind}
 use Rattle.rules.proofs.Tests.{both}
 use Rattle.rules.proofs.Windows.{some-none, not-lt}
@@ -43,7 +43,7 @@ module _ (n : ℕ) (weights : List ℕ) (w : ℕ) (small : w < 2 ^ n) (first sec
       (λ e. kind3 n first second w small)
       (λ e. let h = within-true 1 first n (both _ _ e .0) in kind4 n first w (h .0) (h .1))
       (λ e. let h = within-true 1 first n (both _ _ e .0) in kind5 n first w (h .0) (h .1))
-      (λ e. let h = within-true 2 second n (both (eqb first 2) _ e .1) in kind6 n second w (h .0) (h .1))
+      (λ e. kind6 n second w (within-true 2 second most (both (eqb first 2) _ e .1) .0))
       (λ e. let h = within-true 2 second n (both (eqb first 2) _ e .1) in kind7 n second w (h .0) (h .1))
 
 pub reading-is-verdict : (rule : Rule) (n : ℕ) (weights : List ℕ) (w : ℕ) → inRange rule n weights ≡ true → w < 2 ^ n

@@ -14,7 +14,7 @@ use Rattle.rules.specs.declared.Worth.the-variants as worth
 use Rattle.rules.specs.declared.Worth.the-variants.{Ends}
 use Rattle.rules.specs.Below.{sumBelow, held, some, listBelow, total}
 use Rattle.rules.specs.State.{S, ruleOf, numberOf}
-use Rattle.rules.specs.Verdict.{weightDown, someWindow, fails}
+use Rattle.rules.specs.Verdict.{weightDown, someWindow, twoNear, fails}
 use Rattle.rules.specs.Count.{countIf, countsOf}
 use Rattle.rules.specs.Memory.{moved, ended, readingOf}
 use Rattle.rules.specs.Figure.{rounded, value}
@@ -74,9 +74,9 @@ pub worths : (weighed (ruleOf 1 1 0) 2 3 four 2 ≡ Ends (pos (2 ^ 29)) (pos (2 
     × (weighed (ruleOf 1 1 0) 2 4 four 4 ≡ worth.Refused 4)
     × (weighed (ruleOf 1 3 0) 2 3 four 4 ≡ worth.Refused 6)
     × (weighed (ruleOf 3 0 0) 1 1 four 1 ≡ Ends (negℤ (pos S)) (negℤ (pos S)))
-unfolding sumBelow held some listBelow total numberOf someWindow fails weightDown ones moved ended readingOf rounded value stretch aboveUnit weightsOut ranged firstOf after figuresRefusal unless worthOf
+unfolding sumBelow held some listBelow total numberOf someWindow twoNear fails weightDown ones moved ended readingOf rounded value stretch aboveUnit weightsOut ranged firstOf after figuresRefusal unless worthOf
 worths = (refl, refl, refl, refl, refl, refl, refl)
 
 pub examples : All table
-unfolding All Holds table sumBelow held some listBelow total numberOf someWindow fails weightDown ones countIf countsOf moved ended readingOf rounded value stretch aboveUnit weightsOut ranged firstOf verdictRefusal figuresRefusal unless verdictOf figuresOf
+unfolding All Holds table sumBelow held some listBelow total numberOf someWindow twoNear fails weightDown ones countIf countsOf moved ended readingOf rounded value stretch aboveUnit weightsOut ranged firstOf verdictRefusal figuresRefusal unless verdictOf figuresOf
 examples = (refl, (refl, (refl, (refl, (refl, (refl, (refl, (refl, (refl, (refl, (refl, (refl, (refl, tt)))))))))))))

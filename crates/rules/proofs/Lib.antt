@@ -21,6 +21,7 @@ pub mod Adding
 pub mod Seven
 pub mod Conditions
 pub mod Accepted
+pub mod Shorter
 pub mod Unread
 pub mod Differences
 pub mod Sure

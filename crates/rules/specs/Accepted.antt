@@ -24,11 +24,11 @@ pub record One (k most second : ℕ) : Type 0 where
   pub high : k ≤ most
   pub none : second ≡ 0
 
--- kinds 6 and 7: first 2, second from 2 to n
-pub record Two (first r n : ℕ) : Type 0 where
+-- kinds 6 and 7: first 2, second from 2 to `most`
+pub record Two (first r most : ℕ) : Type 0 where
   pub two : first ≡ 2
   pub low : 2 ≤ r
-  pub high : r ≤ n
+  pub high : r ≤ most
 
 -- a list with an accepted rule, numbers within the unit, and a table to work in
 pub record Ratable (rule : Rule) (survival weights table : List ℕ) : Type 0 where

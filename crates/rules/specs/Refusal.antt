@@ -38,12 +38,12 @@ weightsOut rule n listed total = eqb (rule .kind) 2 && (not (eqb listed n) || lt
 abbrev pub badWeights : Rule → (n : ℕ) (weights rated : List ℕ) → Bool
 badWeights rule n weights rated = weightsOut rule n (length weights) (total rated)
 
--- 6: first or second out of range: the table's column "range"
+-- 6: first or second out of range: the table's column "range"; request 03: "6 for kind 6 only when first is not 2 or r is outside 2..64"
 abbrev pub rangeOne : (k most second : ℕ) → Bool
 rangeOne k most second = within 1 k most && eqb second 0
 
-abbrev pub rangeTwo : (first r n : ℕ) → Bool
-rangeTwo first r n = eqb first 2 && within 2 r n
+abbrev pub rangeTwo : (first r most : ℕ) → Bool
+rangeTwo first r most = eqb first 2 && within 2 r most
 
 unfoldable pub ranged : Rule → (n total : ℕ) → Bool
 ranged rule n total =
@@ -55,7 +55,7 @@ ranged rule n total =
     ∷ (leb first second && leb second n)
     ∷ rangeOne first n second
     ∷ rangeOne first n second
-    ∷ rangeTwo first second n
+    ∷ rangeTwo first second most
     ∷ rangeTwo first second n
     ∷ [])
 

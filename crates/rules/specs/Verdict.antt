@@ -1,8 +1,8 @@
 -- Document 01, "The seven verdicts": the system fails exactly if ..
-use mathlib.Core.Bool.{Bool, true, false, cond, not}
+use mathlib.Core.Bool.{Bool, true, false, cond, not, _&&_}
 use mathlib.Core.List.{List, [], _∷_}
-use Prim.Native.Nat.{ℕ, suc}
-use lib.Dec.{leb}
+use Prim.Native.Nat.{ℕ, suc, _-_}
+use lib.Dec.{ltb, leb}
 use lib.Count.{ones}
 use Rattle.rules.specs.declared.Rule.{Rule}
 use Rattle.rules.specs.Below.{sumBelow, some, within, rowOf}
@@ -23,11 +23,15 @@ fails2 k n weights w = leb k (weightDown n weights w)
 abbrev pub fails3 : (l h w : ℕ) → Bool
 fails3 l h w = within l (ones w) h
 
--- rows 4 to 7: some `width` components in a row hold `need` failed ones or more
+-- rows 4, 5 and 7: some `width` components in a row hold `need` failed ones or more
 unfoldable pub someWindow : (ring : Bool) (n width need w : ℕ) → Bool
 someWindow ring n width need w = some (λ a. leb need (heldIn n a w width)) (starts ring n width)
 
--- the table: kinds 4 and 5 want all k of k in a row, kinds 6 and 7 two or more of r; 4 and 6 on the line, 5 and 7 on the ring
+-- row 6, as request 03 mends it: "two failed components' numbers differ by less than r"
+unfoldable pub twoNear : (n r w : ℕ) → Bool
+twoNear n r w = some (λ j. some (λ i. down i w && down j w && ltb (j - i) r) j) n
+
+-- the table: kinds 4 and 5 want all k of k in a row, on the line and on the ring; kind 7 two or more of r on the ring
 unfoldable pub fails : Rule → (n : ℕ) (weights : List ℕ) (w : ℕ) → Bool
 fails rule n weights w =
     let first = rule .first in
@@ -38,7 +42,7 @@ fails rule n weights w =
     ∷ fails3 first second w
     ∷ someWindow false n first first w
     ∷ someWindow true n first first w
-    ∷ someWindow false n second 2 w
+    ∷ twoNear n second w
     ∷ someWindow true n second 2 w
     ∷ [])
 

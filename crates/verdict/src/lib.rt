@@ -1,6 +1,6 @@
 // Document 01, "The seven verdicts": the verdict on one state.
 ghost use mathlib.Core.Path.{_≡_};
-ghost use Prim.Native.Nat.{_+_, _-_, _/_, _%_, _^_, _<_, _≤_};
+ghost use Prim.Native.Nat.{_+_, _-_, _/_, _%_, _^_, _<_, _≤_, min};
 ghost use lib.Count.{ones};
 ghost use lib.ListN.{length};
 ghost use Rattle.rules.specs.State.{heldIn};
@@ -76,6 +76,16 @@ fn some_window(ring: bool, n: u64, width: u64, need: u64, w: u64) -> bool
     first_window(n, width, need, w, starts) < starts
 }
 
+// Kind 6: a window no longer than the line, which it then holds whole.
+fn fitting(r: u64, n: u64) -> u64
+    ensures { λ width. ⌜ width ≡ min r n ⌝ }
+{
+    if r < n {
+        return r;
+    }
+    n
+}
+
 // Kind 2: the weights of the failed components, each component a window of one.
 fn weighed(n: u64, weights: &[u16], w: u64) -> u64
     requires { ⌜ (length (now weights) ≡ n) × (n ≤ most) ⌝ }
@@ -111,7 +121,7 @@ fn fails_on(rule: Rule, n: u64, weights: &[u16], w: u64) -> bool
         3 => rule.first <= failed && failed <= rule.second,
         4 => some_window(false, n, rule.first, rule.first, w),
         5 => some_window(true, n, rule.first, rule.first, w),
-        6 => some_window(false, n, rule.second, 2, w),
+        6 => some_window(false, n, fitting(rule.second, n), 2, w),
         _ => some_window(true, n, rule.second, 2, w),
     }
 }

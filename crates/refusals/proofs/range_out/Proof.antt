@@ -5,7 +5,7 @@ use mathlib.Core.Logic.{inl, inr, ⊎-elim}
 use native.Mathlib.Omega.{arith}
 use borrow.Author.Needs.{needs}
 use Rattle.rules.specs.Refusal.{ranged}
-use Rattle.refusals.proofs.Laws.{range-one, range-two, range-none}
+use Rattle.refusals.proofs.Laws.{range-one, range-none}
 use Rattle.refusals.proofs.range_out.Statement.{statement}
 use Rattle.refusals.proofs.range_out.Tie as tie
 
@@ -17,6 +17,9 @@ outside-requires c κs = search needs
 
 two-out-requires : tie.Need-two-out-requires
 two-out-requires c κs = search needs
+
+two-out-requires-2 : tie.Need-two-out-requires-2
+two-out-requires-2 c κs = search needs
 
 one-out-requires-2 : tie.Need-one-out-requires-2
 one-out-requires-2 c κs = search needs
@@ -30,16 +33,21 @@ unfolding ranged
 returns-2 c = rw (c .before .match .keys3) (c .outside .ensures)
 
 returns-3 : tie.Need-returns-3
-returns-3 c = c .two-out .ensures ∙ ap not (sym (range-two _ _ _ (omega arith) (omega arith)))
+unfolding ranged
+returns-3 c = rw (c .before .match .keys4) (c .two-out .ensures)
 
 returns-4 : tie.Need-returns-4
-returns-4 c = ap not (sym (range-none _ _ _ (λ l. omega arith)))
+unfolding ranged
+returns-4 c = rw (c .before .match .keys5) (c .two-out2 .ensures)
 
 returns-5 : tie.Need-returns-5
 returns-5 c = ap not (sym (range-none _ _ _ (λ l. omega arith)))
 
 returns-6 : tie.Need-returns-6
-returns-6 c =
+returns-6 c = ap not (sym (range-none _ _ _ (λ l. omega arith)))
+
+returns-7 : tie.Need-returns-7
+returns-7 c =
     c .one-out2 .ensures
     ∙ ap not (sym (range-one _ _ _ (⊎-elim (λ w. inl (w .keys1)) (λ w. inr (omega arith, omega arith)) (c .before .match .came))))
 
@@ -50,10 +58,12 @@ range-out-spec =
     one-out-requires
     outside-requires
     two-out-requires
+    two-out-requires-2
     one-out-requires-2
     returns
     returns-2
     returns-3
     returns-4
     returns-5
-    returns-6)
+    returns-6
+    returns-7)

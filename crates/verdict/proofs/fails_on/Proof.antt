@@ -1,17 +1,20 @@
--- `verdict::fails_on` meets its contract: each arm is the row of its kind, and that the rule was accepted tells what the row's windows need.
+-- `verdict::fails_on` meets its contract: each arm is the row of its kind, kind 6's by windows that fit the line (`near-window`), and that the rule was
+-- accepted tells what the row's windows need.
 -- Assumes nothing.
-use mathlib.Core.Path.{_≡_, ap}
+use mathlib.Core.Path.{_≡_, sym, ap, _∙_}
+use mathlib.Core.Bool.{false}
 use mathlib.Core.List.{List}
-use Prim.Native.Nat.{ℕ, _≤_, _<_, _^_}
+use Prim.Native.Nat.{ℕ, min, _≤_, _<_, _^_}
 use native.Mathlib.Omega.{arith}
 use lib.Dec.{leb}
 use borrow.Author.Needs.{needs}
 use borrow.Author.Tests.{le-leb, lt-leb}
 use Rattle.rules.specs.declared.Rule.{Rule}
 use Rattle.rules.specs.Below.{within}
-use Rattle.rules.specs.Verdict.{fails}
+use Rattle.rules.specs.Verdict.{someWindow, twoNear, fails}
 use Rattle.rules.specs.Refusal.{most}
 use Rattle.rules.specs.Accepted.{Accepted, One, Two}
+use Rattle.rules.proofs.Apart.{near-window}
 use Rattle.rules.proofs.Accepted.{range4, range5, range6, range7}
 use Rattle.verdict.proofs.fails_on.Statement.{statement}
 use Rattle.verdict.proofs.fails_on.Tie as tie
@@ -24,6 +27,10 @@ one-window pre o = (o .low, o .high, pre .0 .size-high, pre .1)
 two-window : {rule : Rule} {n : ℕ} {ws : List ℕ} {w first r : ℕ} → (Accepted rule n ws) × (w < 2 ^ n) → Two first r n
     → (1 ≤ r) × (r ≤ n) × (n ≤ most) × (w < 2 ^ n)
 two-window pre t = (omega arith, t .high, pre .0 .size-high, pre .1)
+
+-- kind 6 by windows
+line-window : (n r w width : ℕ) → width ≡ min r n → someWindow false n width 2 w ≡ twoNear n r w
+line-window n r w width e = rw e (sym (near-window n r w))
 
 -- kind 3's two tests
 reached : (l h x o : ℕ) → x ≡ o → l ≤ x → leb x h ≡ within l o h
@@ -54,10 +61,14 @@ some-window-requires-2 c κs =
     let pre = c .before .before .before .pre in
     one-window pre (range5 (pre .0) (c .match .keys5))
 
+fitting-requires : tie.Need-fitting-requires
+fitting-requires c κs = search needs
+
 some-window-requires-3 : tie.Need-some-window-requires-3
 some-window-requires-3 c κs =
-    let pre = c .before .before .before .pre in
-    two-window pre (range6 (pre .0) (c .match .keys6))
+    let pre = c .before .before .before .before .pre in
+    let r = range6 (pre .0) (c .before .match .keys6) in
+    (omega (arith, c .fitting .ensures, pre .0 .size-low), omega (arith, c .fitting .ensures), pre .0 .size-high, pre .1)
 
 some-window-requires-4 : tie.Need-some-window-requires-4
 some-window-requires-4 c κs =
@@ -94,7 +105,9 @@ returns-6 c = rw (c .before .match .keys5) (c .some-window2 .ensures)
 
 returns-7 : tie.Need-returns-7
 unfolding fails
-returns-7 c = rw (c .before .match .keys6) (c .some-window3 .ensures)
+returns-7 c =
+    let a = c .before .before .before .before .before .args in
+    rw (c .before .before .match .keys6) (c .some-window3 .ensures ∙ line-window (a .n) (a .rule .second) (a .w) _ (c .before .fitting .ensures))
 
 returns-8 : tie.Need-returns-8
 unfolding fails
@@ -108,6 +121,7 @@ fails-on-spec =
     weighed-requires
     some-window-requires
     some-window-requires-2
+    fitting-requires
     some-window-requires-3
     some-window-requires-4
     returns
