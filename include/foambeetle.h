@@ -17,7 +17,7 @@
  *    3  stretch: a = 0, b < a, or b above the number of fans
  *    4  a survival number above 2^30 in the stretch
  *    5  kind 2: the stretch's weights add up to more than 120
- *    6  first or second out of range
+ *    6  first or second out of range; kind 6 takes a window of 2 to 64 over a stretch of any length
  *   10  file under 20 bytes
  *   11  version not 1, or the zero field not 0
  *   12  number of systems not 1..32

@@ -8,7 +8,7 @@ from foambeetle import (
     KINDS, MOST_WEIGHT, TABLE_CELLS, Refusal, Rule, count_slots_after, count_table, working_table_after,
 )
 from samples import (
-    all_rules, edge_rules, random_rule, random_weights, spoil_rule, unread_weights, weights_for,
+    all_rules, edge_rules, random_rule, random_weights, short_lines, spoil_rule, unread_weights, weights_for,
     weights_of_total, wrong_rules,
 )
 from words import checksum, rubbish
@@ -127,7 +127,13 @@ def refused_cases(rng):
         yield case
 
 
+def short_line_cases(rng):
+    """Lines no longer than the window."""
+    for n, rule in short_lines():
+        yield Case(rule, n, *lent(rng, n), unread_weights(rng))
+
+
 def make_cases():
     rng = random.Random(202)
     return [*published_cases(), *run_only_cases(rng), *small_cases(rng), *long_cases(rng),
-            *rule_cases(rng), *slot_cases(rng), *refused_cases(rng)]
+            *rule_cases(rng), *slot_cases(rng), *refused_cases(rng), *short_line_cases(rng)]

@@ -11,7 +11,7 @@ import published
 from foambeetle import KINDS, MOST_WEIGHT, TABLE_CELLS, UNIT, Refusal, Rule, figures, working_table_after
 from samples import (
     EDGE_SURVIVALS, HUGE, OVER_UNIT, all_rules, edge_rules, random_rule, random_stretch,
-    random_survivals, random_weights, rules_in_range, unread_weights, weights_for, weights_of_total,
+    random_survivals, random_weights, rules_in_range, short_lines, unread_weights, weights_for, weights_of_total,
     wrong_rules,
 )
 from words import checksum, rubbish
@@ -248,9 +248,17 @@ def refused_cases(rng):
         yield case if inside else case._replace(b=len(case.survivals))
 
 
+def short_line_cases(rng):
+    """Lines no longer than the window, by themselves and between other fans; a stretch of three under a window of four."""
+    for n, rule in short_lines():
+        case = whole(rng, rule, random_survivals(rng, n), unread_weights(rng))
+        yield case if rng.random() < 0.5 else between_others(case)
+    yield part(rng, Rule(6, 2, 4), 2, 4, [UNIT // 2] * 5, [])
+
+
 def make_cases():
     rng = random.Random(303)
     makers = (small_cases, alike_cases, every_length_cases, long_cases, sound_fan_cases, weight_cases,
               stretch_cases, rule_cases, room_cases, wrong_stretch_cases, survival_cases, length_cases,
-              refused_cases)
+              refused_cases, short_line_cases)
     return [*published_cases(), *(case for maker in makers for case in maker(rng))]

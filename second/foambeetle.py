@@ -7,6 +7,7 @@ proved programs that this one checks.
 
 from collections import Counter
 from functools import lru_cache
+from itertools import combinations
 from math import prod
 from typing import Any, Callable, NamedTuple
 
@@ -53,7 +54,7 @@ def mask(window):
 
 @lru_cache(maxsize=None)
 def line_windows(n, length):
-    # document 01, 'The seven verdicts', rows 4 and 6: "in a row, on the line"
+    # document 01, 'The seven verdicts', row 4: "in a row, on the line"
     return [mask(range(start, start + length)) for start in range(1, n - length + 2)]
 
 
@@ -69,14 +70,18 @@ def failed_weight(state, weights):
 
 
 def window_rule(rule, n):
-    # document 01, 'The seven verdicts', rows 4 to 7: which windows, and how many failed in one
+    # document 01, 'The seven verdicts', rows 4, 5 and 7: which windows, and how many failed in one
     if rule.kind == 4:
         return line_windows(n, rule.first), rule.first
     if rule.kind == 5:
         return ring_windows(n, rule.first), rule.first
-    if rule.kind == 6:
-        return line_windows(n, rule.second), 2
     return ring_windows(n, rule.second), 2
+
+
+def two_near(r, state):
+    # document 02, request 03: "the system fails exactly if two failed components' numbers differ by less than r"
+    failed = [component for component in range(1, MOST_FANS + 1) if state >> component - 1 & 1]
+    return any(later - earlier < r for earlier, later in combinations(failed, 2))
 
 
 def fails(rule, n, state, weights):
@@ -87,6 +92,8 @@ def fails(rule, n, state, weights):
         return failed_weight(state, weights) >= rule.first
     if rule.kind == 3:
         return rule.first <= state.bit_count() <= rule.second
+    if rule.kind == 6:
+        return two_near(rule.second, state)
     windows, least = window_rule(rule, n)
     return any((state & window).bit_count() >= least for window in windows)
 
@@ -359,12 +366,12 @@ def bad_weights(rule, n, weights, rated):
 
 
 def bad_rule(rule, n, rated_weights):
-    # document 01, 'Refusal numbers', row 6, with the ranges of 'The seven verdicts'
+    # document 01, 'Refusal numbers', row 6, with the ranges of 'The seven verdicts'; kind 6 as document 02, request 03, mends it
     kind, first, second = rule
     if kind == 3:
         return not 0 <= first <= second <= n
     if kind in (6, 7):
-        return not (first == 2 and 2 <= second <= n)
+        return not (first == 2 and 2 <= second <= (MOST_FANS if kind == 6 else n))
     most = sum(rated_weights) if kind == 2 else n
     return not (1 <= first <= most and second == 0)
 

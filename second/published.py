@@ -8,7 +8,7 @@ table and figures of wider windows; document 000 prints no number beside its equ
 from fractions import Fraction
 from typing import Any, NamedTuple
 
-from foambeetle import FAILS, UNIT, WORKS, Refusal, Rule
+from foambeetle import FAILS, MOST_FANS, UNIT, WORKS, Refusal, Rule
 
 ACCEPTED = "accepted"  # the document says no more than that it is no refusal
 
@@ -157,7 +157,9 @@ def refused_or_accepted(entry):
     for kind in (6, 7):
         for n in MANY:
             yield entry(f"kind {kind}, r = n = {n}", Rule(kind, 2, n), n, [], ACCEPTED)
-            yield entry(f"kind {kind}, r = n + 1 = {n + 1}", Rule(kind, 2, n + 1), n, [], Refusal(6))
+            # document 02, request 03: "the example that refuses r = n + 1 now holds for kind 7"; r is at most 64
+            refused = kind == 7 or n == MOST_FANS
+            yield entry(f"kind {kind}, r = n + 1 = {n + 1}", Rule(kind, 2, n + 1), n, [], Refusal(6) if refused else ACCEPTED)
     yield entry("weights adding to 120", Rule(2, 120, 0), 2, [100, 20], ACCEPTED)
     yield entry("weights adding to 121", Rule(2, 120, 0), 2, [100, 21], Refusal(5))
 

@@ -2,7 +2,7 @@
 
 from collections.abc import Sequence
 
-from foambeetle import KINDS, MOST_WEIGHT, UNIT, Rule
+from foambeetle import KINDS, MOST_FANS, MOST_WEIGHT, UNIT, Rule
 
 HUGE = (2 ** 16, 2 ** 32, 2 ** 63, 2 ** 64 - 1)
 OVER_UNIT = (UNIT + 1, 2 ** 31, 2 ** 32 - 1)
@@ -27,7 +27,7 @@ class Rules(Sequence):
 
 
 def rules_in_range(kind, n, total):
-    """Every rule of the kind that n components of this total weight accept."""
+    """Every rule of the kind that n components of this total weight accept, of kind 6 with a window no longer than the line."""
     # document 01, 'The seven verdicts', column "range"
     if kind == 3:
         return [Rule(3, low, high) for high in range(n + 1) for low in range(high + 1)]
@@ -35,6 +35,12 @@ def rules_in_range(kind, n, total):
         return Rules(lambda r: Rule(kind, 2, r), lambda rule: rule.second, range(2, n + 1))
     most = total if kind == 2 else n
     return Rules(lambda k: Rule(kind, k, 0), lambda rule: rule.first, range(1, most + 1))
+
+
+def longer_windows(n):
+    """Kind 6 with windows longer than the line."""
+    # document 02, request 03: "for r from 2 to 64 and n from 1"
+    return [Rule(6, 2, r) for r in range(max(n + 1, 2), MOST_FANS + 1)]
 
 
 def all_rules(n, total):
@@ -55,7 +61,7 @@ def edge_rules(kind, n, total):
 
 
 def wrong_rules(kind, n, total):
-    """Rules just out of range for the kind, n and total weight."""
+    """Rules just out of range for the kind, n and total weight; of kind 6 one that request 03 let in."""
     # document 01, 'Refusal numbers', row 6
     if kind == 3:
         pairs = ((0, n + 1), (n + 1, n + 1), (n, n - 1), (1, 0), (n + 1, 0))
@@ -65,6 +71,17 @@ def wrong_rules(kind, n, total):
         most = total if kind == 2 else n
         pairs = ((0, 0), (most + 1, 0), (1, 1), (most, 2 ** 32), (0, 1))
     return [Rule(kind, *pair) for pair in pairs]
+
+
+def short_lines():
+    """Kind 6 over lines about as long as the window and shorter, and windows of 64 and 65: n and the rule."""
+    # document 02, request 03
+    for rule in longer_windows(1):
+        yield 1, rule
+    for n in range(2, 11):
+        for r in (n - 1, n, n + 1, MOST_FANS, MOST_FANS + 1):
+            yield n, Rule(6, 2, r)
+        yield n, Rule(7, 2, n + 1)
 
 
 def random_rule(rng, kind, n, total):

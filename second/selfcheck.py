@@ -15,11 +15,11 @@ from files import DAMAGES, random_deck, random_files
 from foambeetle import (
     DEAD, FAILS, KINDS, ROWS, TABLE_CELLS, UNIT, WORKS, Deck, Refusal, Rule, System, bad_rule,
     count_slots_after, count_table, counts_by_choice, counts_by_reading, counts_by_words, deck_bytes,
-    decklist_output, deckworth_output, exact_sum, exact_sum_by_words, fails, figures, file_refusal, low_and_high,
+    decklist_output, deckworth_output, exact_sum, exact_sum_by_words, fails, figures, file_refusal, line_windows, low_and_high,
     low_and_high_by_words, pascal_row, rate, read_deck, verdict, working_table_after, worth, worth_of_file,
 )
 from published import DECK_FILE, DECK_LINES
-from samples import all_rules, random_rule, random_survivals, random_weights, rules_in_range
+from samples import all_rules, longer_windows, random_rule, random_survivals, random_weights, rules_in_range, short_lines
 
 SMALL_WEIGHTS = ([], [3], [2, 1], [2, 1, 1], [0, 3, 1, 2], [1, 0, 4, 0, 2], [1, 2, 0, 1, 3, 1],
                  [1, 1, 1, 1, 1, 1, 1], [2, 0, 1, 3, 0, 1, 1, 2], [1, 3, 0, 0, 2, 1, 1, 0, 2])
@@ -216,13 +216,32 @@ def figures_two_ways():
         yield exact_sum(rule, survivals, weights), exact_sum_by_words(rule, survivals, weights)
 
 
+def lines_no_longer_than_the_window():
+    """Kind 6 as windows that fit the line, and, where the line is no longer than the window, as document 000's 2-out-of-n system."""
+    rng = random.Random(23)
+    for n, rule in short_lines():
+        if bad_rule(rule, n, []):
+            continue
+        width = min(rule.second, n)
+        for state in range(2 ** n):
+            yield fails(rule, n, state, []), any((state & window).bit_count() >= 2 for window in line_windows(n, width))
+        survivals = random_survivals(rng, n)
+        works = exact_sum_by_words(rule, survivals, [])
+        yield exact_sum(rule, survivals, []), works
+        yield sources.line_window_works(rule.second, [Fraction(p, UNIT) for p in survivals]), Fraction(works, UNIT ** n)
+        yield counts_by_choice(rule, n, []), counts_by_words(rule, n, [])
+        yield counts_by_reading(rule, n, []), counts_by_words(rule, n, [])
+        if n <= rule.second:
+            yield works, exact_sum_by_words(Rule(1, 2, 0), survivals, [])
+
+
 def rules_accepted():
     # document 01, 'The seven verdicts', column "range", listed against the test of refusal 6
     for n in (1, 2, 3, 5, 64):
         weights = [2] + [1] * (n - 1)
         numbers = (*range(8), 63, 64, 65, 66, 2 ** 32, 2 ** 64 - 1)
         for kind in KINDS:
-            listed = set(rules_in_range(kind, n, sum(weights)))
+            listed = {*rules_in_range(kind, n, sum(weights)), *(longer_windows(n) if kind == 6 else ())}
             for first in numbers:
                 for second in numbers:
                     rule = Rule(kind, first, second)
@@ -251,7 +270,7 @@ def refusals_of_calls():
         (Rule(1, 1, 0), 2 ** 63, 2 ** 64 - 1, three, [], 7800, 3),
         (Rule(2, 0, 0), 2, 2, over, [], 0, 4), (Rule(2, 0, 0), 3, 3, over, [1], 0, 5),
         (Rule(2, 1, 0), 1, 2, three, [60, 61, 1], 0, 5), (Rule(1, 2, 0), 3, 3, over, [], 0, 6),
-        (Rule(2, 2, 0), 2, 3, three, [9, 1, 0], 7800, 6), (Rule(6, 2, 3), 1, 2, three, [], 0, 6),
+        (Rule(2, 2, 0), 2, 3, three, [9, 1, 0], 7800, 6), (Rule(7, 2, 3), 1, 2, three, [], 0, 6),
         (Rule(1, 1, 0), 3, 3, over, [], 7799, 7),
     )
     for rule, a, b, survivals, weights, room, number in parts:
@@ -466,7 +485,7 @@ def lent_tables():
 
 GROUPS = (
     published_figures, table_1_exactly, example_file, traps, source_equations, pascal, verdicts_three_ways, long_verdicts_three_ways,
-    counts_three_ways, enclosure, figures_two_ways, rules_accepted, refusals_of_calls,
+    counts_three_ways, enclosure, figures_two_ways, lines_no_longer_than_the_window, rules_accepted, refusals_of_calls,
     refusals_of_states_and_counts, stretches_read_inside_only, deck_files, printed_and_packed,
     header_damage, lent_tables, worths_by_words, worths_of_parts, plain_worths, refusals_of_worths, worths_of_files,
 )

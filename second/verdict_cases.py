@@ -6,7 +6,7 @@ from typing import NamedTuple
 import published
 from foambeetle import FAILS, KINDS, WORKS, Refusal, Rule, fails, verdict
 from samples import (
-    random_rule, random_weights, rules_in_range, spoil_rule, unread_weights, weights_of_total, wrong_rules,
+    random_rule, random_weights, rules_in_range, short_lines, spoil_rule, unread_weights, weights_of_total, wrong_rules,
 )
 
 ANSWERS_WANTED = {WORKS, FAILS} | {f"refused {number}" for number in (1, 2, 5, 6, 9)}
@@ -161,7 +161,14 @@ def refused_cases(rng):
         yield case
 
 
+def short_line_cases(rng):
+    """Lines no longer than the window: no failed one, one, two at either end and next to each other, all."""
+    for n, rule in short_lines():
+        for state in sorted({0, 1, 1 << n - 1, 1 | 1 << n - 1, 3 if n > 1 else 1, 2 ** n - 1, rng.getrandbits(n)}):
+            yield Case(rule, n, state, unread_weights(rng))
+
+
 def make_cases():
     rng = random.Random(101)
     return [*published_cases(), *small_cases(rng), *long_cases(rng), *full_window_cases(), *stray_bit_cases(rng),
-            *weight_cases(rng), *refused_cases(rng)]
+            *weight_cases(rng), *refused_cases(rng), *short_line_cases(rng)]

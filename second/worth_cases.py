@@ -8,7 +8,7 @@ from figures_cases import part, spoil, stretch_case, whole
 from foambeetle import KINDS, MOST_WEIGHT, TABLE_CELLS, UNIT, Rule, worth
 from samples import (
     EDGE_SURVIVALS, HUGE, OVER_UNIT, all_rules, edge_rules, random_rule, random_stretch, random_survivals, random_weights, rules_in_range,
-    unread_weights, weights_for, weights_of_total, wrong_rules,
+    short_lines, unread_weights, weights_for, weights_of_total, wrong_rules,
 )
 
 WORTH = 1  # the word `call`
@@ -162,8 +162,14 @@ def refused_cases(rng):
         yield Case(asked, fan)
 
 
+def short_line_cases(rng):
+    """Lines no longer than the window: a fan at an end, or any."""
+    for n, rule in short_lines():
+        yield Case(whole(rng, rule, random_survivals(rng, n), unread_weights(rng)), rng.choice((1, n, rng.randint(1, n))))
+
+
 def make_cases():
     rng = random.Random(606)
     makers = (small_cases, own_number_cases, long_cases, sound_fan_cases, no_weight_cases, harmful_fan_cases, stretch_cases, outside_cases,
-              room_cases, rule_cases, length_cases, refused_cases)
+              room_cases, rule_cases, length_cases, refused_cases, short_line_cases)
     return [case for maker in makers for case in maker(rng)]

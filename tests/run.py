@@ -1,6 +1,6 @@
 """The library's calls, decklist and deckworth against the second program, byte for byte.
 
-5,200 random deck files, sound and damaged by turns, go through a C program linked with libfoambeetle.a, which rates their systems and asks for
+5,200 random deck files, sound and damaged by turns, and one of lines shorter than their window, go through a C program linked with libfoambeetle.a, which rates their systems and asks for
 the worth of a fan under each, with guard pages on either side of what it lends and a stack that shows how deep a call goes; some of them, and
 inputs of odd lengths, through the programs; the samples through the programs and through the C samples.
 """
@@ -50,6 +50,13 @@ def largest():
     return deck_bytes(Deck([0] * 64, [1] * 64, [System(Rule(3, 63, 63), 1, 64)] * 32))
 
 
+def short_lines():
+    """A file whose stretches of three stand under windows of two to five, on the line and on the ring."""
+    # document 02, request 03: "A stretch of three fans under a window of four"
+    systems = [System(Rule(kind, 2, r), 2, 4) for kind in (6, 7) for r in (2, 3, 4, 5, 64, 65)]
+    return deck_bytes(Deck([2 ** 29] * 5, [0] * 5, systems))
+
+
 def odd_inputs():
     """Empty input, input that stops early, and files, sound or not, with more behind them than any file has."""
     sound = next(random_files(11, 1))
@@ -86,7 +93,7 @@ def compare_stored():
 def main():
     make("lib")
     prove()
-    files = list(random_files(2026, FILES))
+    files = [short_lines(), *random_files(2026, FILES)]
     good = compare_stored() & compare_calls(files)
     inputs = files[:PRINTED] + list(odd_inputs())
     for program, output in PROGRAMS.items():
