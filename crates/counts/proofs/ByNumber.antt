@@ -13,7 +13,7 @@ use Rattle.rules.specs.Verdict.{fails}
 use Rattle.rules.specs.Count.{countIf, countOf}
 use Rattle.rules.proofs.Sums.{held-same}
 use Rattle.rules.proofs.Words.{held-none}
-use Rattle.counts.specs.Number.{failsAt, entryOf}
+use Rattle.counts.specs.Ways.{failsAt, entryOf}
 
 -- a test that goes with a number is the test at that number
 at-number : (p : ℕ → Bool) (x j : ℕ) → p x && eqb x j ≡ p j && eqb x j

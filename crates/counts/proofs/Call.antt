@@ -1,9 +1,8 @@
--- The public call: which kinds are lines, what a call that is not refused is known by, and that either way ends as document 01 has it.
+-- The public call: what a call that is not refused is known by, and that either way ends as document 01 has it.
 -- Assumes nothing.
 use mathlib.Core.Path.{_≡_, refl, sym, ap, _∙_}
-use mathlib.Core.Logic.{_⊎_, inl, inr}
 use mathlib.Core.List.{List, [], _∷_, _++_}
-use Prim.Native.Nat.{ℕ, zero, suc, _≤_}
+use Prim.Native.Nat.{ℕ, zero, suc}
 use native.Mathlib.Omega.{arith}
 use lib.ListN.{length, drop, replicate}
 use borrow.Author.Tests.{ltb-false}
@@ -12,27 +11,14 @@ use Rattle.rules.specs.declared.Counting.the-variants as counting
 use Rattle.rules.specs.Count.{countsOf}
 use Rattle.rules.specs.Refusal.{after, cells, shortTable, shortRoom, firstOf, countRefusal}
 use Rattle.rules.specs.Answer.{unless, roomAfter}
-use Rattle.rules.proofs.Seven.{seven}
 use Rattle.rules.proofs.Accepted.{none-first}
 use Rattle.refusals.specs.Shared.{ruleRefusal}
 use Rattle.rules.proofs.Unless.{unless-none, unless-some}
 use Rattle.rules.proofs.Answer.{counts}
 use Rattle.refusals.proofs.Laws.{count-after, accepted}
-use Rattle.counts.specs.Tally.{refusalOf, Countable, Tallied, OnLine}
+use Rattle.counts.specs.Tally.{refusalOf, Countable, Tallied}
 use Rattle.counts.specs.Outcome.{Outcome}
 use Rattle.counts.proofs.Cells.{outside-drop, stored-list}
-
--- the kinds that are left
-pub line-left : (kind : ℕ) → 1 ≤ kind → kind ≤ 7 → ((kind ≡ 1) ⊎ (kind ≡ 3) → ⊥) → ((kind ≡ 5) ⊎ (kind ≡ 7) → ⊥) → OnLine kind
-line-left =
-    seven (λ k. ((k ≡ 1) ⊎ (k ≡ 3) → ⊥) → ((k ≡ 5) ⊎ (k ≡ 7) → ⊥) → OnLine k)
-    (λ a b. absurd (a (inl refl)))
-    (λ a b. inl refl)
-    (λ a b. absurd (a (inr refl)))
-    (λ a b. inr (inl refl))
-    (λ a b. absurd (b (inl refl)))
-    (λ a b. inr (inr refl))
-    (λ a b. absurd (b (inr refl)))
 
 none-of-both : (r next : ℕ) → after r next ≡ 0 → (r ≡ 0) × (next ≡ 0)
 unfolding after

@@ -1,9 +1,11 @@
 -- The laws that the functions' proofs share, and `Outcome`: the contract allows one outcome.
-pub mod Columns
 pub mod Cells
+pub mod From
 pub mod ByNumber
-pub mod Turning
-pub mod Lines
-pub mod Rings
+pub mod Apart
+pub mod InARow
+pub mod Filling
+pub mod Adding
+pub mod Entries
 pub mod Call
 pub mod Outcome

@@ -3,16 +3,16 @@ use mathlib.Core.Path.{_≡_}
 use mathlib.Core.Bool.{cond}
 use mathlib.Core.Logic.{_⊎_}
 use mathlib.Core.List.{List}
-use Prim.Native.Nat.{ℕ, suc, _+_, _*_, _≤_, _<_}
-use lib.Dec.{ltb}
+use Prim.Native.Nat.{ℕ, suc, _+_, _-_, _*_, _^_, _≤_, _<_}
+use lib.Dec.{eqb, ltb}
 use lib.ListN.{length, getD}
 use Rattle.rules.specs.declared.Rule.{Rule}
 use Rattle.rules.specs.Count.{countOf}
 use Rattle.rules.specs.Refusal.{after, most, heaviest, cells}
 use Rattle.rules.specs.Accepted.{Accepted}
 use Rattle.refusals.specs.Shared.{ruleRefusal}
-use Rattle.counts.specs.Cells.{Cells, Outside, Stored}
-use Rattle.counts.specs.Ring.{openOf}
+use Rattle.counts.specs.Cells.{Outside, Stored}
+use Rattle.counts.specs.Bins.{width, aroundAt}
 
 -- the call's refusal, by the lengths of the lent tables
 abbrev pub refusalOf : Rule → (n : ℕ) (weights : List ℕ) (lent slots : ℕ) → ℕ
@@ -30,34 +30,30 @@ pub record Tallied (rule : Rule) (n : ℕ) (weights table room tableExit roomExi
   pub used : Outside 0 cells table tableExit
   pub counts : Stored (countOf rule n weights) 0 0 (suc n) room roomExit
 
--- the kinds that are read from one start, and those that are read one lead at a time
-abbrev pub OnLine : ℕ → Type 0
-OnLine kind = (kind ≡ 2) ⊎ ((kind ≡ 4) ⊎ (kind ≡ 6))
+-- kinds 2, 4 and 5: where entry j stands in the working table, or what it comes to there
+unfoldable pub entryAt : Rule → (n : ℕ) (table : List ℕ) (j : ℕ) → ℕ
+entryAt rule n table j =
+    cond (eqb (rule .kind) 2)
+    (getD table (j * heaviest) 0)
+    (cond (eqb (rule .kind) 4)
+    (getD table ((n + 1 - j) * width + j) 0)
+    (cond (eqb j n) 0 (aroundAt (rule .first) ((n - 1 - j) * width + j) j table)))
 
-abbrev pub OnRing : ℕ → Type 0
-OnRing kind = (kind ≡ 5) ⊎ (kind ≡ 7)
+-- the kinds that are worked in the table
+abbrev pub OnTable : ℕ → Type 0
+OnTable kind = (kind ≡ 2) ⊎ ((kind ≡ 4) ⊎ (kind ≡ 5))
 
--- a line starts with the memory 0: the first cell of each row
-abbrev pub firstCells : (size : ℕ) (table : List ℕ) (j : ℕ) → ℕ
-firstCells size table j = getD table (j * size) 0
+pub record Workable (rule : Rule) (n : ℕ) (weights table : List ℕ) : Type 0 where
+  pub kind : OnTable (rule .kind)
+  pub accepted : Accepted rule n weights
+  pub long : cells ≤ length table
 
-pub record Copyable (size n : ℕ) (table room : List ℕ) : Type 0 where
-  pub some : 0 < size
-  pub small : size ≤ heaviest
+-- the table is worked so that its entries are the counts
+pub record Worked (rule : Rule) (n : ℕ) (weights before after : List ℕ) : Type 0 where
+  pub is : (j : ℕ) → j ≤ n → entryAt rule n after j ≡ countOf rule n weights j
+  pub rest : Outside 0 cells before after
+
+pub record Layable (rule : Rule) (n : ℕ) (table : List ℕ) : Type 0 where
   pub most : n ≤ most
   pub long : cells ≤ length table
-  pub slots : n < length room
-
--- the ring on the way, with the components 1 to `left` left: the room holds the counts from the open memory
-pub record Open (rule : Rule) (n : ℕ) (weights : List ℕ) (left : ℕ) (table room : List ℕ) : Type 0 where
-  pub call : Countable rule n weights table room
-  pub kind : OnRing (rule .kind)
-  pub near : left ≤ n
-  pub five : rule .kind ≡ 5 → n ≤ left + rule .first
-  pub row : Cells (openOf rule n left) 0 0 (suc n) room
-
--- and with one component more
-pub record Wider (rule : Rule) (n : ℕ) (weights : List ℕ) (left : ℕ) (table room tableExit roomExit : List ℕ) : Type 0 where
-  pub state : Open rule n weights (suc left) tableExit roomExit
-  pub used : Outside 0 cells table tableExit
-  pub rest : Outside 0 (suc n) room roomExit
+  pub fits : (j : ℕ) → j ≤ n → entryAt rule n table j < 2 ^ 64

@@ -1,10 +1,9 @@
 // Document 01's count table: "Entry j is the number of working states with exactly j failed, 0 included."
-mod column; // column.rt: the number by which a column of the working table stands for a memory
-mod line; // line.rt: kinds 2, 4 and 6, read from the one start of a line
-mod number; // number.rt: kinds 1 and 3, which Pascal's row answers
-mod ring; // ring.rt: kinds 5 and 7, one lead at a time
-mod sweep; // sweep.rt: the working table over so many components
-mod turn; // turn.rt: the working table with one component more
+mod bins; // bins.rt: kinds 4 and 5, failed ones laid into the bins between working ones
+mod cut; // cut.rt: the smaller of two numbers, and a difference that is cut at 0
+mod lay; // lay.rt: kinds 2, 4 and 5, the working table and the entries that it holds
+mod sums; // sums.rt: kind 2, a row of sums for each number failed
+mod ways; // ways.rt: kinds 1, 3, 6 and 7, which Pascal's table answers
 
 ghost use mathlib.Core.Path.{_≡_};
 ghost use Rattle.counts.specs.Tally.{refusalOf, Countable, Tallied};
@@ -36,9 +35,8 @@ fn tally(rule: Rule, n: usize, weights: &[u16], table: &mut [u64], room: &mut [u
 {
     let kind = rule.kind;
     match kind {
-        1 | 3 => number::by_number(rule, n, room),
-        5 | 7 => ring::ring(rule, n, weights, table, room),
-        _ => line::line(rule, n, weights, table, room),
+        1 | 3 | 6 | 7 => ways::by_ways(rule, n, room),
+        _ => lay::by_table(rule, n, weights, table, room),
     }
 }
 

@@ -1,0 +1,144 @@
+-- The bins in the working table: what a row is made of, what fits 64 bits, that rows stay, and what a ring's entry comes to. Assumes nothing.
+use mathlib.Core.Path.{_≡_, refl, sym, ap, _∙_}
+use mathlib.Core.Bool.{cond}
+use mathlib.Core.Logic.{⊎-elim}
+use mathlib.Core.List.{List, _++_}
+use Prim.Native.Nat.{ℕ, zero, suc, _+_, _-_, _*_, _^_, _≤_, _<_, min}
+use native.Mathlib.Omega.{arith}
+use lib.Dec.{ltb}
+use lib.ListN.{length, getD, set, drop, replicate}
+use lib.Seq.{getD-set-same, getD-set-other}
+use borrow.Author.Tests.{lt-ltb, le-ltb}
+use Rattle.rules.specs.Below.{sumBelow}
+use Rattle.rules.specs.Memory.{live, row4}
+use Rattle.rules.proofs.Sums.{sum-same}
+use Rattle.pascal.specs.Ways.{waysOf}
+use Rattle.pascal.proofs.Triangle.{ways-sum, ways-fit}
+use Rattle.counts.specs.From.{line4, bins, shift}
+use Rattle.counts.specs.Cells.{Outside, Stored}
+use Rattle.counts.specs.Bins.{width, Sized, Bins, Made, goneAt, term, aroundAt, Around}
+use Rattle.counts.proofs.Cells.{below-or, outside-set, outside-wider, zero-cell, zero-outside}
+use Rattle.counts.proofs.From.{from-le}
+use Rattle.counts.proofs.InARow.{shift-at, shift-past, bins-first, bins-slide}
+
+-- ---- what fits
+
+bins-le : (k b j : ℕ) → bins k b (suc j) ≤ waysOf (b + j) (suc j)
+unfolding bins
+bins-le k zero j = omega arith
+bins-le k (suc v) j = let a : suc v + j ≡ v + suc j = omega arith in rw a (from-le (row4 k) (live 0) (v + suc j) (suc j))
+
+slide-fits : (k b j : ℕ) → 0 < k → b + j ≤ 64 → bins k b j + shift (bins k (suc b)) 1 j < 2 ^ 64
+unfolding bins shift
+slide-fits k b zero some h = omega (arith, bins-first k some b)
+slide-fits k b (suc j) some h =
+    omega (arith, bins-le k b j, from-le (row4 k) (live 0) (b + j) j, ways-sum (b + j) j, ways-fit (suc (b + j)) (suc j) (omega arith))
+
+-- ---- rows of the table
+
+pub rows-fewer : {k n rows fewer : ℕ} {t : List ℕ} → fewer ≤ rows → Bins k n rows t → Bins k n fewer t
+rows-fewer l h = record { is = λ b j p m. h .is b j p (omega arith) }
+
+pub sized-same : {k n : ℕ} {a b : List ℕ} → length b ≡ length a → Sized k n a → Sized k n b
+sized-same e s = record { some = s .some; most = s .most; long = omega (arith, s .long) }
+
+pub first-row : {k n : ℕ} {a b : List ℕ} → Sized k n a → b ≡ replicate width 0 ++ drop width a → Made k n 1 a (set b 0 1)
+unfolding bins
+first-row {k} {n} {a} {b} s e =
+    record { filled = record { is = go }; rest = outside-set 0 1 (omega arith) (omega arith) (outside-wider (omega arith) (omega arith) z) }
+  where
+    z : Outside 0 width a b
+    z = zero-outside a width (omega (arith, s .long)) e
+
+    go : (r j p : ℕ) → r < 1 → r + j ≤ n + 1 → p ≡ r * width + j → getD (set b 0 1) p 0 ≡ bins k r j
+    go zero zero p l h q = let d : p ≡ 0 = omega arith in rw d (getD-set-same b 0 1 0 (omega (arith, z .long, s .long)))
+    go zero (suc j) p l h q =
+        getD-set-other b 0 p 1 0 (λ d. omega arith) ∙ zero-cell a width (omega (arith, s .long)) e p (omega (arith, s .most))
+    go (suc r) j p l h q = absurd (omega arith)
+
+-- row b + 1 on the way, made up to column j
+module _ {k n b off : ℕ} (j : ℕ) {before t : List ℕ} (s : Sized k n before) (h : Bins k n (suc b) before) (o : off ≡ b * width)
+    (w : Stored (bins k (suc b)) (off + width) 0 j before t) (l : b + j ≤ n) where
+  -- row b is as it was
+  row-kept : (i p : ℕ) → i ≤ j → p ≡ off + i → getD t p 0 ≡ bins k b i
+  row-kept i p m e = w .rest .low p (omega (arith, s .most)) ∙ h .is b i p (omega arith) (omega arith) (omega arith)
+
+  lets-go : goneAt k off j t ≡ shift (bins k b) k j
+  unfolding goneAt
+  lets-go = ⊎-elim few many (below-or j k)
+    where
+      few : j < k → goneAt k off j t ≡ shift (bins k b) k j
+      few m = rw (lt-ltb j k m) (sym (shift-past (bins k b) k j m))
+
+      many : k ≤ j → goneAt k off j t ≡ shift (bins k b) k j
+      many m = rw (le-ltb j k m) (row-kept (j - k) _ (omega arith) refl ∙ sym (shift-at (bins k b) k j m))
+
+  -- the next number of the row, and that its sum fits before the term goes
+  pub slid : {held x g : ℕ} → held ≡ shift (bins k (suc b)) 1 j → x ≡ getD t (off + j) 0 → g ≡ goneAt k off j t
+      → (held + x ≡ bins k (suc b) j + g) × (held + x < 2 ^ 64)
+  slid e d f =
+      let c = d ∙ row-kept j _ (omega arith) refl in
+      (omega (arith, c, bins-slide k (s .some) b j, lets-go), omega (arith, c, slide-fits k b j (s .some) (omega (arith, s .most))))
+
+-- a row more
+pub rows-more : {k n b off : ℕ} {before after : List ℕ} → Sized k n before → b ≤ n → Bins k n (suc b) before → off ≡ b * width
+    → Stored (bins k (suc b)) (off + width) 0 (suc (n - b)) before after → Made k n (suc (suc b)) before after
+rows-more {k} {n} {b} {off} {before} {after} s low h o w =
+    record {
+      filled = record { is = λ r j p l m q. ⊎-elim (old r j p m q) (new r j p l m q) (below-or r (suc b)) };
+      rest = outside-wider (omega arith) (omega (arith, s .most)) (w .rest);
+    }
+  where
+    old : (r j p : ℕ) → r + j ≤ n + 1 → p ≡ r * width + j → r < suc b → getD after p 0 ≡ bins k r j
+    old r j p m q l = w .rest .low p (omega (arith, s .most)) ∙ h .is r j p l m q
+
+    new : (r j p : ℕ) → r < suc (suc b) → r + j ≤ n + 1 → p ≡ r * width + j → suc b ≤ r → getD after p 0 ≡ bins k r j
+    new r j p l m q g = let a : r ≡ suc b = omega arith in rw a (w .row .is j p (omega arith) (omega arith) (omega arith))
+
+-- ---- a ring's sum
+
+-- a part of a sum is no more than the whole, and terms that are none may be left out
+sum-le : (a b : ℕ) (f : ℕ → ℕ) → a ≤ b → sumBelow a f ≤ sumBelow b f
+unfolding sumBelow
+sum-le a zero f l = let e : a ≡ 0 = omega arith in rw e (omega arith)
+sum-le a (suc b) f l = ⊎-elim (λ (h : a < suc b). omega (arith, sum-le a b f (omega arith))) whole (below-or a (suc b))
+  where
+    whole : suc b ≤ a → sumBelow a f ≤ sumBelow (suc b) f
+    whole h = let e : a ≡ suc b = omega arith in rw e (omega arith)
+
+sum-past : (a d : ℕ) (f : ℕ → ℕ) → ((m : ℕ) → a ≤ m → f m ≡ 0) → sumBelow (a + d) f ≡ sumBelow a f
+unfolding sumBelow
+sum-past a zero f e = let o : a + 0 ≡ a = omega arith in rw o
+sum-past a (suc d) f e =
+    let o : a + suc d ≡ suc (a + d) = omega arith in
+    rw o (omega (arith, sum-past a d f e, e (a + d) (omega arith)))
+
+-- the sum with one term more
+pub sum-step : {k top j : ℕ} {t : List ℕ} (m : ℕ) {s : ℕ} → Around k top j t → m < min k (suc j) → s ≡ sumBelow m (term top t)
+    → (s + (m + 1) * getD t (top - m) 0 ≡ sumBelow (m + 1) (term top t)) × (s + (m + 1) * getD t (top - m) 0 < 2 ^ 64)
+unfolding sumBelow
+sum-step {k} {top} {j} {t} m {s} a l d =
+    let o : m + 1 ≡ suc m = omega arith in
+    let z : s + (m + 1) * getD t (top - m) 0 ≡ sumBelow (suc m) (term top t) = rw (d, o) in
+    (rw o (rw o at z), omega (arith, z, sum-le (suc m) (min k (suc j)) (term top t) (omega arith), a .fits))
+
+pub around-is : {k n rows : ℕ} {t : List ℕ} (v j : ℕ) → Bins k n rows t → v < rows → v + j ≤ n + 1
+    → aroundAt k (v * width + j) j t ≡ sumBelow k (λ m. suc m * shift (bins k v) m j)
+around-is {k} {n} {rows} {t} v j h l m =
+    sum-same (min k (suc j)) (term (v * width + j) t) _ (λ u g. ap (λ x. suc u * x) (cell u (omega arith)))
+    ∙ sym (⊎-elim few many (below-or (suc j) k))
+  where
+    f : ℕ → ℕ
+    f = λ m. suc m * shift (bins k v) m j
+
+    cell : (u : ℕ) → u ≤ j → getD t (v * width + j - u) 0 ≡ shift (bins k v) u j
+    cell u g = h .is v (j - u) _ l (omega arith) (omega arith) ∙ sym (shift-at (bins k v) u j g)
+
+    few : suc j < k → sumBelow k f ≡ sumBelow (min k (suc j)) f
+    few g =
+        let a : min k (suc j) ≡ suc j = omega arith in
+        let b : suc j + (k - suc j) ≡ k = omega arith in
+        rw a (rw b at (sum-past (suc j) (k - suc j) f (λ m p. ap (λ x. suc m * x) (shift-past (bins k v) m j (omega arith)) ∙ omega arith)))
+
+    many : k ≤ suc j → sumBelow k f ≡ sumBelow (min k (suc j)) f
+    many g = let a : min k (suc j) ≡ k = omega arith in rw a

@@ -1,0 +1,81 @@
+-- `around` adds up, over the failed ones around the end, the ways to lay them and the others. Assumes nothing.
+use mathlib.Core.Path.{_≡_, refl, sym, ap, _∙_}
+use Prim.Native.Nat.{suc, _+_, _-_, _*_, _≤_, _<_, min}
+use native.Mathlib.Omega.{arith}
+use Rattle.rules.specs.Below.{sumBelow}
+use Rattle.counts.specs.Bins.{term, Around}
+use Rattle.counts.proofs.Filling.{sum-step}
+use borrow.Author.Needs.{needs}
+use Rattle.counts.proofs.bins.around.Statement.{statement}
+use Rattle.counts.proofs.bins.around.Tie as tie
+
+abbrev Inv-loop : tie.InvT-loop
+Inv-loop k top j table ends sum₀ m₀ sum m = (m ≤ ends) × (ends ≡ min k (suc j)) × Around k top j table × (sum ≡ sumBelow m (term top table))
+
+abbrev μ-loop : tie.MeasureT-loop
+μ-loop k top j table ends sum₀ m₀ sum m = ends - m
+
+add-least : tie.Need-add-least Inv-loop μ-loop
+add-least c = search needs
+
+least-requires : tie.Need-least-requires Inv-loop μ-loop
+least-requires c κs = search needs
+
+loop-holds : tie.Need-loop-holds Inv-loop μ-loop
+unfolding sumBelow
+loop-holds c = (search needs, c .least .ensures ∙ omega arith, c .before .before .pre, refl)
+
+add-sum : tie.Need-add-sum Inv-loop μ-loop
+add-sum c = search needs
+
+sub-sum : tie.Need-sub-sum Inv-loop μ-loop
+sub-sum c = search needs
+
+mul-sum : tie.Need-mul-sum Inv-loop μ-loop
+mul-sum c = search needs
+
+shared-slice-read-sum : tie.Need-shared-slice-read-sum Inv-loop μ-loop
+shared-slice-read-sum c = search needs
+
+mul-sum-2 : tie.Need-mul-sum-2 Inv-loop μ-loop
+mul-sum-2 c = let v = c .before .before .loop .inv in omega (arith, sum-step _ (v .2) (omega arith) (v .3) .1)
+
+add-sum-2 : tie.Need-add-sum-2 Inv-loop μ-loop
+add-sum-2 c = let v = c .before .before .loop .inv in omega (arith, sum-step _ (v .2) (omega arith) (v .3) .1)
+
+add-m : tie.Need-add-m Inv-loop μ-loop
+add-m c = search needs
+
+loop-less : tie.Need-loop-less Inv-loop μ-loop
+loop-less c = search needs
+
+loop-again : tie.Need-loop-again Inv-loop μ-loop
+loop-again c =
+    let v = c .before .before .loop .inv in
+    (omega arith, v .1, v .2, sum-step _ (v .2) (omega arith) (v .3) .0)
+
+returns : tie.Need-returns Inv-loop μ-loop
+returns c =
+    let v = c .before .loop .inv in
+    let e : c .before .loop .m ≡ min (c .before .before .before .before .args .k) (suc (c .before .before .before .before .args .j)) = omega arith in
+    rw e at (v .3)
+
+pub around-spec : {M : Type 1} → statement M
+around-spec =
+    tie.close
+    (tie.spec
+    Inv-loop
+    μ-loop
+    add-least
+    least-requires
+    loop-holds
+    add-sum
+    sub-sum
+    mul-sum
+    shared-slice-read-sum
+    mul-sum-2
+    add-sum-2
+    add-m
+    loop-less
+    loop-again
+    returns)

@@ -1,0 +1,65 @@
+-- `fill` makes the rows one by one. Assumes nothing.
+use mathlib.Core.Path.{_≡_, refl, sym, ap, _∙_}
+use Prim.Native.Nat.{suc, _+_, _-_, _*_, _≤_, _<_}
+use native.Mathlib.Omega.{arith}
+use Rattle.counts.specs.Bins.{Sized, Made}
+use Rattle.counts.proofs.Cells.{outside-none, outside-then}
+use Rattle.counts.proofs.Filling.{rows-fewer, sized-same}
+use borrow.Author.Needs.{needs}
+use Rattle.counts.proofs.bins.fill.Statement.{statement}
+use Rattle.counts.proofs.bins.fill.Tie as tie
+
+abbrev Inv-loop : tie.InvT-loop
+Inv-loop k n table₀ b₀ table b = (b ≤ n + 1) × Sized k n table₀ × Made k n (suc b) table₀ table
+
+abbrev μ-loop : tie.MeasureT-loop
+μ-loop k n table₀ b₀ table b = n + 1 - b
+
+first-requires : tie.Need-first-requires Inv-loop μ-loop
+first-requires c κs = search needs
+
+loop-holds : tie.Need-loop-holds Inv-loop μ-loop
+loop-holds c =
+    let p = c .before .before .before .before .before .pre in
+    let m = c .before .before .first .ensures in
+    (search needs, sized-same (m .rest .long) p, record { filled = m .filled; rest = outside-none })
+
+next-requires : tie.Need-next-requires Inv-loop μ-loop
+next-requires c κs =
+    let v = c .before .before .loop .inv in
+    (sized-same (v .2 .rest .long) (v .1), omega arith, v .2 .filled)
+
+add-b : tie.Need-add-b Inv-loop μ-loop
+add-b c = search needs
+
+loop-less : tie.Need-loop-less Inv-loop μ-loop
+loop-less c = search needs
+
+loop-again : tie.Need-loop-again Inv-loop μ-loop
+loop-again c =
+    let v = c .before .before .before .before .before .loop .inv in
+    let m = c .before .before .next .ensures in
+    (omega arith, v .1, record { filled = rows-fewer (omega arith) (m .filled); rest = outside-then (v .2 .rest) (m .rest) })
+
+same-length : tie.Need-same-length Inv-loop μ-loop
+same-length c = c .before .loop .inv .2 .rest .long ∙ c .before .before .before .before .first .ensures .rest .long
+
+returns : tie.Need-returns Inv-loop μ-loop
+returns c =
+    let v = c .before .loop .inv in
+    record { filled = rows-fewer (omega arith) (v .2 .filled); rest = outside-then (c .before .before .before .before .first .ensures .rest) (v .2 .rest) }
+
+pub fill-spec : {M : Type 1} → statement M
+fill-spec =
+    tie.close
+    (tie.spec
+    Inv-loop
+    μ-loop
+    first-requires
+    loop-holds
+    next-requires
+    add-b
+    loop-less
+    loop-again
+    same-length
+    returns)

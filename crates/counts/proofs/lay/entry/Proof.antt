@@ -1,0 +1,97 @@
+-- `entry` takes the tests of `entryAt` in their order. Assumes nothing.
+use mathlib.Core.Path.{_≡_, refl, sym, ap, _∙_}
+use native.Mathlib.Omega.{arith}
+use borrow.Author.Tests.{eq-eqb, ne-eqb}
+use Rattle.counts.specs.Tally.{entryAt}
+use borrow.Author.Needs.{needs}
+use Rattle.counts.proofs.lay.entry.Statement.{statement}
+use Rattle.counts.proofs.lay.entry.Tie as tie
+
+mul-result : tie.Need-mul-result
+mul-result c = search needs
+
+mul-result-2 : tie.Need-mul-result-2
+mul-result-2 c = search needs
+
+shared-slice-read-result : tie.Need-shared-slice-read-result
+shared-slice-read-result c = search needs
+
+returns : tie.Need-returns
+unfolding entryAt
+returns c = rw (eq-eqb _ _ (c .before .if1 .taken))
+
+add-result : tie.Need-add-result
+add-result c = search needs
+
+sub-result : tie.Need-sub-result
+sub-result c = search needs
+
+mul-result-3 : tie.Need-mul-result-3
+mul-result-3 c = search needs
+
+add-result-2 : tie.Need-add-result-2
+add-result-2 c = search needs
+
+mul-result-4 : tie.Need-mul-result-4
+mul-result-4 c = search needs
+
+shared-slice-read-result-2 : tie.Need-shared-slice-read-result-2
+shared-slice-read-result-2 c = search needs
+
+returns-2 : tie.Need-returns-2
+unfolding entryAt
+returns-2 c = rw (ne-eqb _ _ (c .before .before .before .if1 .left), eq-eqb _ _ (c .before .if2 .taken))
+
+returns-3 : tie.Need-returns-3
+unfolding entryAt
+returns-3 c = rw (ne-eqb _ _ (c .before .before .before .if1 .left), ne-eqb _ _ (c .before .if2 .left), eq-eqb _ _ (c .if3 .taken))
+
+sub-around : tie.Need-sub-around
+sub-around c = search needs
+
+sub-around-2 : tie.Need-sub-around-2
+sub-around-2 c = search needs
+
+mul-around : tie.Need-mul-around
+mul-around c = search needs
+
+add-around : tie.Need-add-around
+add-around c = search needs
+
+around-requires : tie.Need-around-requires
+unfolding entryAt
+around-requires c κs =
+    let p = c .before .before .before .before .before .before .pre in
+    record {
+      most = omega (arith, p .0 .most, p .1);
+      row = omega arith;
+      long = omega (arith, p .0 .most, p .0 .long);
+      fits = rw (ne-eqb _ _ (c .before .before .before .if1 .left), ne-eqb _ _ (c .before .if2 .left), ne-eqb _ _ (c .if3 .left)) at (p .0 .fits _ (p .1));
+    }
+
+returns-4 : tie.Need-returns-4
+unfolding entryAt
+returns-4 c = rw (ne-eqb _ _ (c .before .before .before .before .if1 .left), ne-eqb _ _ (c .before .before .if2 .left), ne-eqb _ _ (c .before .if3 .left)) (c .around .ensures)
+
+pub entry-spec : {M : Type 1} → statement M
+entry-spec =
+    tie.close
+    (tie.spec
+    mul-result
+    mul-result-2
+    shared-slice-read-result
+    returns
+    add-result
+    sub-result
+    mul-result-3
+    add-result-2
+    mul-result-4
+    shared-slice-read-result-2
+    returns-2
+    returns-3
+    sub-around
+    sub-around-2
+    mul-around
+    add-around
+    around-requires
+    returns-4)

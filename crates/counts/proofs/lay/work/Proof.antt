@@ -1,0 +1,27 @@
+-- `work` fills the table of the kind. Assumes nothing.
+use Rattle.counts.proofs.Entries.{weighed, sums-worked, sized, bins-worked}
+use borrow.Author.Needs.{needs}
+use Rattle.counts.proofs.lay.work.Statement.{statement}
+use Rattle.counts.proofs.lay.work.Tie as tie
+
+fill-requires : tie.Need-fill-requires
+fill-requires c κs = weighed (c .before .before .before .before .before .pre) (c .before .if1 .taken)
+
+fill-requires-2 : tie.Need-fill-requires-2
+fill-requires-2 c κs = sized (c .before .before .before .before .before .pre) (c .before .if1 .left)
+
+same-length : tie.Need-same-length
+same-length c = search needs
+
+returns : tie.Need-returns
+returns c = sums-worked (c .before .before .before .before .before .before .before .before .pre) (c .before .before .before .before .if1 .taken) (c .before .before .fill .ensures)
+
+same-length-2 : tie.Need-same-length-2
+same-length-2 c = search needs
+
+returns-2 : tie.Need-returns-2
+returns-2 c = bins-worked (c .before .before .before .before .before .before .before .before .pre) (c .before .before .before .before .if1 .left) (c .before .before .fill2 .ensures)
+
+pub work-spec : {M : Type 1} → statement M
+work-spec =
+    tie.close (tie.spec fill-requires fill-requires-2 same-length returns same-length-2 returns-2)

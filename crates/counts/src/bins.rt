@@ -1,0 +1,77 @@
+// Kinds 4 and 5: v working components leave v + 1 bins for the failed ones, each of fewer than k. Row b of the working table holds for j failed ones
+// the ways to lay them into b bins, where b and j add up to n + 1 at most.
+ghost use mathlib.Core.Path.{_≡_};
+ghost use Prim.Native.Nat.{suc, _+_, _≤_, _<_};
+ghost use lib.ListN.{length};
+ghost use Rattle.rules.specs.Refusal.{cells};
+ghost use Rattle.counts.specs.Bins.{Sized, Bins, Made, goneAt, aroundAt, Around};
+use crate::cut;
+
+// How far apart the rows stand: a row of no bins has 66 columns.
+pub const WIDTH: usize = 66;
+
+// No bin holds none failed: 1, then zeros.
+fn first(k: usize, n: usize, table: &mut [u64])
+    requires { ⌜ Sized k n (now table) ⌝ }
+    ensures { λ _. ⌜ Made k n 1 (now (table .entry)) (now (table .exit)) ⌝ }
+{
+    cells::zero(table, WIDTH);
+    table[0] = 1;
+}
+
+// What j failed ones no longer have in a bin more of what j - 1 had: those whose last bin is full.
+fn full(k: usize, from: usize, j: usize, table: &[u64]) -> u64
+    requires { ⌜ from + j < length (now table) ⌝ }
+    ensures { λ r. ⌜ r ≡ goneAt k from j (now (table .entry)) ⌝ }
+{
+    if j < k {
+        return 0;
+    }
+    table[from + (j - k)]
+}
+
+// Row b + 1 out of row b: a sum that slides along, in each column with one number more and one let go.
+fn next(k: usize, n: usize, b: usize, table: &mut [u64])
+    requires { ⌜ Sized k n (now table) × (b ≤ n) × Bins k n (suc b) (now table) ⌝ }
+    ensures { λ _. ⌜ Made k n (suc (suc b)) (now (table .entry)) (now (table .exit)) ⌝ }
+{
+    let from = b * WIDTH;
+    let to = from + WIDTH;
+    let last = n - b;
+    let mut held: u64 = 0;
+    let mut j: usize = 0;
+    while j <= last {
+        held = held + table[from + j] - full(k, from, j, table);
+        table[to + j] = held;
+        j += 1;
+    }
+}
+
+// All rows.
+pub fn fill(k: usize, n: usize, table: &mut [u64])
+    requires { ⌜ Sized k n (now table) ⌝ }
+    ensures { λ _. ⌜ Made k n (n + 2) (now (table .entry)) (now (table .exit)) ⌝ }
+{
+    first(k, n, table);
+    let mut b: usize = 0;
+    while b <= n {
+        next(k, n, b, table);
+        b += 1;
+    }
+}
+
+// Kind 5, from column j of a row on down, which stands at `top`: m failed ones around the end, m + 1 ways to lay them, and the others in the bins
+// between.
+pub fn around(k: usize, top: usize, j: usize, table: &[u64]) -> u64
+    requires { ⌜ Around k top j (now table) ⌝ }
+    ensures { λ r. ⌜ r ≡ aroundAt k top j (now (table .entry)) ⌝ }
+{
+    let ends = cut::least(k, j + 1);
+    let mut sum: u64 = 0;
+    let mut m: usize = 0;
+    while m < ends {
+        sum += (m + 1) as u64 * table[top - m];
+        m += 1;
+    }
+    sum
+}

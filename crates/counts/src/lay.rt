@@ -1,0 +1,59 @@
+// Kinds 2, 4 and 5: the working table is filled, and the entries are laid into the room.
+ghost use mathlib.Core.Path.{_≡_};
+ghost use Prim.Native.Nat.{suc, _≤_, _<_};
+ghost use lib.ListN.{length};
+ghost use Rattle.counts.specs.Cells.{Stored};
+ghost use Rattle.counts.specs.Tally.{entryAt, Countable, Tallied, OnTable, Workable, Worked, Layable};
+use crate::bins;
+use crate::sums;
+use rules::Rule;
+
+// The working table of the rule's kind.
+fn work(rule: Rule, n: usize, weights: &[u16], table: &mut [u64])
+    requires { ⌜ Workable rule n (now weights) (now table) ⌝ }
+    ensures { λ _. ⌜ Worked rule n (now (weights .entry)) (now (table .entry)) (now (table .exit)) ⌝ }
+{
+    if rule.kind == 2 {
+        sums::fill(rule.first as usize, weights, table);
+    } else {
+        bins::fill(rule.first as usize, n, table);
+    }
+}
+
+// Entry j: the first column of a row of sums; row n + 1 - j of the bins; on the ring the row with two bins less, and none with all failed.
+fn entry(rule: Rule, n: usize, j: usize, table: &[u64]) -> u64
+    requires { ⌜ Layable rule n (now table) × (j ≤ n) ⌝ }
+    ensures { λ r. ⌜ r ≡ entryAt rule n (now (table .entry)) j ⌝ }
+{
+    if rule.kind == 2 {
+        return table[j * sums::WIDTH];
+    }
+    if rule.kind == 4 {
+        return table[(n + 1 - j) * bins::WIDTH + j];
+    }
+    if j == n {
+        return 0;
+    }
+    bins::around(rule.first as usize, (n - 1 - j) * bins::WIDTH + j, j, table)
+}
+
+// The entries 0 to n.
+fn lay(rule: Rule, n: usize, table: &[u64], room: &mut [u64])
+    requires { ⌜ Layable rule n (now table) × (n < length (now room)) ⌝ }
+    ensures { λ _. ⌜ Stored (entryAt rule n (now (table .entry))) 0 0 (suc n) (now (room .entry)) (now (room .exit)) ⌝ }
+{
+    let mut j: usize = 0;
+    while j <= n {
+        room[j] = entry(rule, n, j, table);
+        j += 1;
+    }
+}
+
+// The count table by the working table.
+pub fn by_table(rule: Rule, n: usize, weights: &[u16], table: &mut [u64], room: &mut [u64])
+    requires { ⌜ Countable rule n (now weights) (now table) (now room) × OnTable (rule .kind) ⌝ }
+    ensures { λ _. ⌜ Tallied rule n (now (weights .entry)) (now (table .entry)) (now (room .entry)) (now (table .exit)) (now (room .exit)) ⌝ }
+{
+    work(rule, n, weights, table);
+    lay(rule, n, table, room);
+}
