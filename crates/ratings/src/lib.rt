@@ -1,8 +1,9 @@
-// The figures and the worth for C, in a working table that C lends: what the benchmark times.
+// The figures, the worth and the count table for C, in tables that C lends: what the benchmark times.
 ghost use mathlib.Core.Path.{_≡_};
-ghost use Rattle.ratings.specs.Outcome.{Timed, TimedWorth};
+ghost use Rattle.ratings.specs.Outcome.{Timed, TimedWorth, countingNumber, TimedCounts};
 ghost use Rattle.rules.specs.Asked.{askedOf};
 ghost use Rattle.rules.specs.State.{ruleOf};
+use rules::Counting;
 use rules::Rule;
 
 // The rule by its numbers.
@@ -57,4 +58,32 @@ pub extern "C" fn foambeetle_worth_of(
         worth::worth(rule, a, b, fan, survival, weights, table),
         ends,
     )
+}
+
+// The answer as one number: 0, or the refusal.
+fn number_of(answer: Counting) -> u64
+    ensures { λ r. ⌜ r ≡ countingNumber answer ⌝ }
+{
+    match answer {
+        Counting::Counted => 0,
+        Counting::Refused(number) => number,
+    }
+}
+
+// The count table, likewise. In C: `uint64_t foambeetle_counts(uint64_t kind, uint64_t first, uint64_t second, uint64_t n,
+// const uint16_t *weights, size_t weighed, uint64_t *table, size_t cells, uint64_t *room, size_t slots)`.
+#[no_mangle]
+pub extern "C" fn foambeetle_counts(
+    kind: u64,
+    first: u64,
+    second: u64,
+    n: u64,
+    weights: &[u16],
+    table: &mut [u64],
+    room: &mut [u64],
+) -> u64
+    ensures { λ r. ⌜ TimedCounts (ruleOf kind first second) n (now (weights .entry)) (now (table .entry)) (now (table .exit)) (now (room .entry)) (now (room .exit)) r ⌝ }
+{
+    let rule = rule_of(kind, first, second);
+    number_of(counts::counts(rule, n, weights, table, room))
 }
