@@ -1,48 +1,101 @@
--- Kind 2's sums in the working table: a component more adds to each row the row below, its weight further on; sums that k makes dead, or that the components
--- not left cannot add up to, are never read. Assumes nothing.
+-- Kind 2's sums in the working table. States that weigh less than c are those read from the sum k - c; a component more adds to each row the row below, its
+-- weight further on. Sums that no state has, or that are dead, are passed over. Assumes nothing.
 use mathlib.Core.Path.{_≡_, refl, sym, ap, _∙_}
-use mathlib.Core.Logic.{⊎-elim}
-use mathlib.Core.List.{List, [], _∷_, _++_}
+use mathlib.Core.Logic.{_⊎_, inl, inr, ⊎-elim}
+use mathlib.Core.List.{List, _++_}
 use Prim.Native.Nat.{ℕ, zero, suc, _+_, _-_, _*_, _^_, _≤_, _<_, min}
+use native.Mathlib.Numerals.{add-one}
 use native.Mathlib.Omega.{arith}
-use lib.ListN.{length, getD, drop, replicate}
+use lib.ListN.{length, getD, drop, set, replicate}
+use lib.Seq.{drop-cons, getD-set-same, getD-set-other}
 use borrow.Author.Tests.{lt-ltb, le-ltb}
-use Rattle.rules.specs.Below.{total}
+use Rattle.rules.specs.Below.{sumBelow, total}
 use Rattle.rules.specs.State.{numberOf}
-use Rattle.rules.specs.Memory.{live, below, moved, ended, row1}
+use Rattle.rules.specs.Memory.{Row, Memory, live, dead, below, moved, ended, row1}
 use Rattle.rules.specs.Refusal.{most, heaviest, cells}
-use Rattle.counts.specs.From.{from}
+use Rattle.rules.proofs.Sums.{sum-same}
+use Rattle.counts.specs.From.{from, shift}
 use Rattle.counts.specs.Cells.{Stored, Outside}
-use Rattle.counts.specs.Sums.{sumFrom, cellAt, Sums, Weighed, Added, Addable, Turnable, Turned}
-use Rattle.counts.proofs.Cells.{below-or, outside-none, outside-then, outside-wider, zero-cell, zero-outside}
-use Rattle.counts.proofs.From.{from-end, from-above, from-zero, from-suc, from-dead, from-fits}
+use Rattle.counts.specs.Sums.{lighter, cellAt, Sums, Weighed, Addable, Turnable, Turned}
+use Rattle.counts.proofs.Cells.{below-or, outside-none, outside-set, outside-then, outside-wider, zero-cell, zero-outside}
+use Rattle.counts.proofs.From.{from-end, from-above, from-zero, from-suc, from-fits}
+use Rattle.counts.proofs.InARow.{shift-at, shift-past}
 
 -- what the components from i on add up to
-pub total-drop : (i : ℕ) (xs : List ℕ) → i < length xs → total (drop i xs) ≡ getD xs i 0 + total (drop (suc i) xs)
+pub total-drop : (i : ℕ) (xs : List ℕ) → i < length xs → total (drop i xs) ≡ getD xs i 0 + total (drop (i + 1) xs)
 unfolding total
-total-drop i [] l = absurd (omega arith)
-total-drop zero (x ∷ xs) l = refl
-total-drop (suc i) (x ∷ xs) l = total-drop i xs (omega arith)
+total-drop i xs l = rw (add-one i, drop-cons xs i 0 l)
 
--- ---- counts from a sum
+-- ---- sums of columns
+
+sum-none : (c : ℕ) (f : ℕ → ℕ) → ((s : ℕ) → s < c → f s ≡ 0) → sumBelow c f ≡ 0
+unfolding sumBelow
+sum-none zero f e = refl
+sum-none (suc c) f e = omega (arith, sum-none c f (λ s l. e s (omega arith)), e c (omega arith))
+
+sum-one : (c : ℕ) (f : ℕ → ℕ) → f 0 ≡ 1 → ((s : ℕ) → 0 < s → s < suc c → f s ≡ 0) → sumBelow (suc c) f ≡ 1
+unfolding sumBelow
+sum-one zero f o e = omega arith
+sum-one (suc c) f o e = omega (arith, sum-one c f o (λ s l h. e s l (omega arith)), e (suc c) (omega arith) (omega arith))
+
+-- a row and, w further on, the row below
+sum-both : (c w : ℕ) (f g : ℕ → ℕ) → sumBelow c (λ s. f s + shift g w s) ≡ sumBelow c f + sumBelow (c - w) g
+unfolding sumBelow
+sum-both zero w f g = let e : 0 - w ≡ 0 = omega arith in rw e
+sum-both (suc c) w f g = ⊎-elim (few (sum-both c w f g)) (many (sum-both c w f g)) (below-or c w)
+  where
+    few : sumBelow c (λ s. f s + shift g w s) ≡ sumBelow c f + sumBelow (c - w) g → c < w
+        → sumBelow (suc c) (λ s. f s + shift g w s) ≡ sumBelow (suc c) f + sumBelow (suc c - w) g
+    few e l = let o : suc c - w ≡ c - w = omega arith in rw o (omega (arith, e, shift-past g w c l))
+
+    many : sumBelow c (λ s. f s + shift g w s) ≡ sumBelow c f + sumBelow (c - w) g → w ≤ c
+        → sumBelow (suc c) (λ s. f s + shift g w s) ≡ sumBelow (suc c) f + sumBelow (suc c - w) g
+    many e l = let o : suc c - w ≡ suc (c - w) = omega arith in rw o (omega (arith, e, shift-at g w c l))
+
+-- ---- counts by weight
+
+stays : (m : Memory ℕ) → moved (λ s. live s) m ≡ m
+unfolding moved
+stays (live s) = refl
+stays dead = refl
+
+-- a failed component of weight w leaves less to k
+leaves : (k c w : ℕ) → c ≤ k → moved (λ s. below (s + w) k (s + w)) (below (k - c) k (k - c)) ≡ below (k - (c - w)) k (k - (c - w))
+unfolding moved
+leaves k zero w l =
+    let a : 0 - w ≡ 0 = omega arith in
+    rw (a, le-ltb (k - 0) k (omega arith))
+leaves k (suc c) w l = rw (lt-ltb (k - suc c) k (omega arith)) (⊎-elim few many (below-or (suc c) w))
+  where
+    few : suc c < w → below (k - suc c + w) k (k - suc c + w) ≡ below (k - (suc c - w)) k (k - (suc c - w))
+    few h = rw (le-ltb (k - suc c + w) k (omega arith), le-ltb (k - (suc c - w)) k (omega arith))
+
+    many : w ≤ suc c → below (k - suc c + w) k (k - suc c + w) ≡ below (k - (suc c - w)) k (k - (suc c - w))
+    many h = let a : k - suc c + w ≡ k - (suc c - w) = omega arith in rw a
 
 module _ (k : ℕ) (weights : List ℕ) where
-  sum-zero : (i s : ℕ) → sumFrom k weights i 0 s ≡ 1
-  unfolding moved ended
-  sum-zero zero s = from-end (row1 k (numberOf weights)) (live s)
-  sum-zero (suc i) s = from-zero (row1 k (numberOf weights)) (live s) i ∙ sum-zero i s
+  abbrev R : Row ℕ
+  R = row1 k (numberOf weights)
 
-  module _ (i j s : ℕ) where
-    sum-live : s + getD weights i 0 < k
-        → sumFrom k weights (suc i) (suc j) s ≡ sumFrom k weights i (suc j) s + sumFrom k weights i j (s + getD weights i 0)
-    unfolding moved numberOf
-    sum-live l = from-suc (row1 k (numberOf weights)) (live s) i j ∙ rw (lt-ltb (s + getD weights i 0) k l)
+  lighter-zero : (i c : ℕ) → lighter k weights (suc i) 0 c ≡ lighter k weights i 0 c
+  lighter-zero i c = from-zero R (below (k - c) k (k - c)) i ∙ ap (λ m. from R m i 0) (stays (below (k - c) k (k - c)))
 
-    sum-dead : k ≤ s + getD weights i 0 → sumFrom k weights (suc i) (suc j) s ≡ sumFrom k weights i (suc j) s
-    unfolding moved numberOf
-    sum-dead l =
-        from-suc (row1 k (numberOf weights)) (live s) i j
-        ∙ rw (le-ltb (s + getD weights i 0) k l) (omega (arith, from-dead (row1 k (numberOf weights)) i j))
+  lighter-suc : (i j c : ℕ) → c ≤ k → lighter k weights (suc i) (suc j) c ≡ lighter k weights i (suc j) c + lighter k weights i j (c - getD weights i 0)
+  unfolding numberOf
+  lighter-suc i j c l =
+      from-suc R (below (k - c) k (k - c)) i j
+      ∙ ap (λ m. from R m i (suc j) + from R (moved (λ s. below (s + getD weights i 0) k (s + getD weights i 0)) (below (k - c) k (k - c))) i j)
+      (stays (below (k - c) k (k - c)))
+      ∙ ap (λ m. lighter k weights i (suc j) c + from R m i j) (leaves k c (getD weights i 0) l)
+
+  -- none read: one state, which weighs nothing
+  lighter-none : lighter k weights 0 0 0 ≡ 0
+  unfolding ended
+  lighter-none = rw (le-ltb (k - 0) k (omega arith)) (from-end R dead)
+
+  lighter-one : (c : ℕ) → suc c ≤ k → lighter k weights 0 0 (suc c) ≡ 1
+  unfolding ended
+  lighter-one c l = rw (lt-ltb (k - suc c) k (omega arith)) (from-end R (live (k - suc c)))
 
 -- ---- rows, from the highest
 
@@ -52,18 +105,17 @@ pub add-cell : {from to count : ℕ} {f : ℕ → ℕ} {before t : List ℕ} (s 
 add-cell {from} {to} s able l w = rw (w .rest .high (to + s) (omega arith), w .rest .low (from + s) (omega (arith, able .apart)))
 
 pub turned-none : {w count rows : ℕ} {t : List ℕ} → Turned w count rows rows t t
-turned-none = record { new = λ j s l h g. absurd (omega arith); right = λ j s l h. refl; rest = outside-none }
+turned-none = record { new = λ j s l h g. absurd (omega arith); kept = λ j s l h. refl; rest = outside-none }
 
 module _ {w count rows low : ℕ} {before t : List ℕ} (able : Turnable w count rows before) (o : Turned w count (suc low) rows before t) (l : low < rows) where
   -- this row and the row below are as they were
   old-cells : (s : ℕ) → s < count
-      → (getD t (low * heaviest + heaviest + s) 0 ≡ cellAt before (suc low) s) × (getD t (low * heaviest + w + s) 0 ≡ cellAt before low (w + s))
+      → (getD t (low * heaviest + heaviest + w + s) 0 ≡ cellAt before (suc low) (w + s)) × (getD t (low * heaviest + s) 0 ≡ cellAt before low s)
   old-cells s h =
-      let a : low * heaviest + heaviest + s ≡ suc low * heaviest + s = omega arith in
-      let b : low * heaviest + w + s ≡ low * heaviest + (w + s) = omega arith in
-      (rw a (o .rest .low _ (omega (arith, able .row))), rw b (o .rest .low _ (omega (arith, able .row))))
+      let a : low * heaviest + heaviest + w + s ≡ suc low * heaviest + (w + s) = omega arith in
+      (rw a (o .rest .low _ (omega (arith, able .row))), o .rest .low _ (omega (arith, able .row)))
 
-  pub row-addable : Addable (low * heaviest + w) (low * heaviest + heaviest) count t
+  pub row-addable : Addable (low * heaviest) (low * heaviest + heaviest + w) count t
   row-addable =
       record {
         apart = omega (arith, able .row);
@@ -71,101 +123,127 @@ module _ {w count rows low : ℕ} {before t : List ℕ} (able : Turnable w count
         fits = λ s h. rw (old-cells s h .0, old-cells s h .1) (able .fits low s l h);
       }
 
-  module _ {t′ : List ℕ} (a : Stored (λ s. getD t (low * heaviest + heaviest + s) 0 + getD t (low * heaviest + w + s) 0) (low * heaviest + heaviest) 0 count t t′) where
+  module _ {t′ : List ℕ}
+      (a : Stored (λ s. getD t (low * heaviest + heaviest + w + s) 0 + getD t (low * heaviest + s) 0) (low * heaviest + heaviest + w) 0 count t t′) where
     pub turned-row : Turned w count low rows before t′
     turned-row =
         record {
           new = λ j s g h c. ⊎-elim (here j s g c) (above j s h c) (below-or j (suc low));
-          right = λ j s g h. ⊎-elim (λ (c : j < suc low). a .rest .low _ (omega arith)) (λ c. a .rest .high _ (omega arith)) (below-or j (suc low)) ∙ o .right j s g h;
+          kept = λ j s h e. same j s h e ∙ o .kept j s h e;
           rest = outside-then (outside-wider (omega arith) (omega arith) (o .rest)) (outside-wider (omega arith) (omega (arith, able .row)) (a .rest));
         }
       where
-        here : (j s : ℕ) → low ≤ j → s < count → j < suc low → cellAt t′ (suc j) s ≡ cellAt before (suc j) s + cellAt before j (w + s)
+        here : (j s : ℕ) → low ≤ j → s < count → j < suc low → cellAt t′ (suc j) (w + s) ≡ cellAt before (suc j) (w + s) + cellAt before j s
         here j s g c h =
             let e : j ≡ low = omega arith in
             rw e (a .row .is s _ (omega arith) c (omega arith) ∙ rw (old-cells s c .0, old-cells s c .1))
 
-        above : (j s : ℕ) → j < rows → s < count → suc low ≤ j → cellAt t′ (suc j) s ≡ cellAt before (suc j) s + cellAt before j (w + s)
+        above : (j s : ℕ) → j < rows → s < count → suc low ≤ j → cellAt t′ (suc j) (w + s) ≡ cellAt before (suc j) (w + s) + cellAt before j s
         above j s h c g = a .rest .high _ (omega (arith, able .row)) ∙ o .new j s g h c
 
--- ---- no component left
+        same : (j s : ℕ) → s < heaviest → (s < w) ⊎ (w + count ≤ s) → cellAt t′ j s ≡ cellAt t j s
+        same j s h (inl e) =
+            ⊎-elim (λ (c : j < suc (suc low)). a .rest .low _ (omega arith)) (λ c. a .rest .high _ (omega (arith, able .row))) (below-or j (suc (suc low)))
+        same j s h (inr e) = ⊎-elim (λ (c : j < suc low). a .rest .low _ (omega arith)) (λ c. a .rest .high _ (omega arith)) (below-or j (suc low))
 
-pub sums-none : {k : ℕ} {weights t₀ t₁ t₂ : List ℕ} → Weighed k weights t₀ → t₁ ≡ replicate cells 0 ++ drop cells t₀ → Stored (λ s. 1) 0 0 k t₁ t₂
-    → Added k weights 0 t₀ t₂
-sums-none {k} {weights} {t₀} {t₁} {t₂} able z w =
-    record {
-      holds = record { is = cell };
-      rest = outside-then (zero-outside t₀ cells (able .long) z) (outside-wider (omega arith) (omega (arith, able .small)) (w .rest));
-    }
-  where
-    cell : (j s : ℕ) → j ≤ most → s < k → s ≤ total (drop 0 weights) → cellAt t₂ j s ≡ sumFrom k weights 0 j s
-    cell zero s h alive l = w .row .is s _ (omega arith) alive (omega arith) ∙ sym (sum-zero k weights 0 s)
-    cell (suc j) s h alive l =
-        w .rest .high _ (omega (arith, able .small))
-        ∙ zero-cell t₀ cells (able .long) z _ (omega (arith, able .small))
-        ∙ sym (from-above (row1 k (numberOf weights)) (live s) 0 (suc j) (omega arith))
+-- ---- none read
 
 pub weighed-same : {k : ℕ} {weights a b : List ℕ} → length b ≡ length a → Weighed k weights a → Weighed k weights b
 weighed-same e s = record { some = s .some; small = s .small; most = s .most; light = s .light; long = omega (arith, s .long) }
 
+module _ {k : ℕ} {weights t t₁ : List ℕ} (able : Weighed k weights t) (z : t₁ ≡ replicate cells 0 ++ drop cells t) where
+  first-cell : (j s : ℕ) → j ≤ most → s < heaviest → 0 < j + s → cellAt (set t₁ 0 1) j s ≡ 0
+  first-cell j s m h l = getD-set-other t₁ 0 (j * heaviest + s) 1 0 (λ d. omega arith) ∙ zero-cell t cells (able .long) z _ (omega arith)
+
+  pub none-outside : Outside 0 cells t (set t₁ 0 1)
+  none-outside = outside-set 0 1 (omega arith) (omega arith) (zero-outside t cells (able .long) z)
+
+  pub none-read : Sums k weights 0 0 (set t₁ 0 1)
+  none-read = record { is = go; none = λ j s m h l. first-cell j s m h (omega arith) }
+    where
+      go : (j c : ℕ) → j ≤ most → c ≤ k → sumBelow c (cellAt (set t₁ 0 1) j) ≡ lighter k weights 0 j c
+      go zero zero m l = sum-none 0 (cellAt (set t₁ 0 1) 0) (λ s h. absurd (omega arith)) ∙ sym (lighter-none k weights)
+      go zero (suc c) m l =
+          sum-one c (cellAt (set t₁ 0 1) 0) (getD-set-same t₁ 0 1 0 (omega (arith, able .long, zero-outside t cells (able .long) z .long)))
+          (λ s h g. first-cell 0 s m (omega (arith, able .small)) (omega arith))
+          ∙ sym (lighter-one k weights c l)
+      go (suc j) c m l =
+          sum-none c (cellAt (set t₁ 0 1) (suc j)) (λ s h. first-cell (suc j) s m (omega (arith, able .small)) (omega arith))
+          ∙ sym (from-above (row1 k (numberOf weights)) (below (k - c) k (k - c)) 0 (suc j) (omega arith))
+
 -- ---- one component more
 
-module _ {k i w reach count : ℕ} {weights t : List ℕ} (able : Weighed k weights t) (h : Sums k weights i t) (l : i < length weights)
-    (weight : w ≡ getD weights i 0) (reaches : reach ≡ total (drop i weights)) (counts : count ≡ min (reach - w + 1) (k - w)) (small : reach ≤ heaviest) where
-  pub reach-left : (w ≤ reach) × (reach - w ≡ total (drop (i + 1) weights))
-  reach-left =
-      let o : i + 1 ≡ suc i = omega arith in
-      rw o (omega (arith, total-drop i weights l), omega (arith, total-drop i weights l))
+module _ {k i w reach count : ℕ} {weights t : List ℕ} (able : Weighed k weights t) (h : Sums k weights i reach t) (l : i < length weights)
+    (weight : w ≡ getD weights i 0) (counts : count ≡ min (reach + 1) (k - w)) (light : w ≤ heaviest) where
+  abbrev both : (j s : ℕ) → ℕ
+  both j s = cellAt t (suc j) s + shift (cellAt t j) w s
 
-  step-cell : (j s : ℕ) → j ≤ i → s < count → cellAt t (suc j) s + cellAt t j (w + s) ≡ sumFrom k weights (suc i) (suc j) s
-  step-cell j s m c =
-      let e : w + s ≡ s + getD weights i 0 = omega arith in
-      let here = h .is (suc j) s (omega (arith, able .most)) (omega arith) (omega arith) in
-      let below = h .is j (w + s) (omega (arith, able .most)) (omega arith) (omega (arith, reach-left .0)) in
-      rw (here, below, e) (sym (sum-live k weights i j s (omega arith)))
+  both-sum : (j c : ℕ) → j ≤ i → c ≤ k → sumBelow c (both j) ≡ lighter k weights (suc i) (suc j) c
+  both-sum j c m d =
+      sum-both c w (cellAt t (suc j)) (cellAt t j)
+      ∙ rw (h .is (suc j) c (omega (arith, able .most)) d, h .is j (c - w) (omega (arith, able .most)) (omega arith), weight) (sym (lighter-suc k weights i j c d))
+
+  both-fits : (j s : ℕ) → j ≤ i → s < k → both j s < 2 ^ 64
+  unfolding sumBelow
+  both-fits j s m d =
+      omega (arith, both-sum j (suc s) m d, from-fits (row1 k (numberOf weights)) (below (k - suc s) k (k - suc s)) (suc i) (suc j) (omega (arith, able .most)))
 
   pub sums-turnable : Turnable w count (i + 1) t
   sums-turnable =
       record {
-        row = omega (arith, able .small, reach-left .0);
+        row = omega (arith, able .small);
         most = omega (arith, able .most);
         long = able .long;
         fits = λ j s m c.
-            rw (step-cell j s (omega arith) c) (from-fits (row1 k (numberOf weights)) (live s) (suc i) (suc j) (omega (arith, able .most)));
+            let a : w + s - w ≡ s = omega arith in
+            omega (arith, both-fits j (w + s) (omega arith) (omega arith), rw a at (shift-at (cellAt t j) w (w + s) (omega arith)));
       }
 
   module _ {t′ : List ℕ} (o : Turned w count 0 (i + 1) t t′) where
-    turned-count : (j s : ℕ) → suc j ≤ most → s < k → s < count → cellAt t′ (suc j) s ≡ sumFrom k weights (suc i) (suc j) s
-    turned-count j s m alive c = ⊎-elim new old (below-or j (i + 1))
+    turned-cell : (j s : ℕ) → j ≤ i → s < k → cellAt t′ (suc j) s ≡ both j s
+    turned-cell j s m d = ⊎-elim low high (below-or s w)
       where
-        new : j < i + 1 → cellAt t′ (suc j) s ≡ sumFrom k weights (suc i) (suc j) s
-        new g = o .new j s (omega arith) g c ∙ step-cell j s (omega arith) c
+        low : s < w → cellAt t′ (suc j) s ≡ both j s
+        low e = omega (arith, o .kept (suc j) s (omega (arith, able .small)) (inl e), shift-past (cellAt t j) w s e)
 
-        old : i + 1 ≤ j → cellAt t′ (suc j) s ≡ sumFrom k weights (suc i) (suc j) s
-        old g =
-            o .rest .high _ (omega arith)
-            ∙ h .is (suc j) s m alive (omega arith)
-            ∙ from-above (row1 k (numberOf weights)) (live s) i (suc j) (omega arith)
-            ∙ sym (from-above (row1 k (numberOf weights)) (live s) (suc i) (suc j) (omega arith))
+        new : w ≤ s → s - w < count → cellAt t′ (suc j) s ≡ both j s
+        new e c =
+            let a : w + (s - w) ≡ s = omega arith in
+            omega (arith, rw a at (o .new j (s - w) (omega arith) (omega arith) c), shift-at (cellAt t j) w s e)
 
-    cell : (j s : ℕ) → j ≤ most → s < k → s ≤ reach - w → cellAt t′ j s ≡ sumFrom k weights (suc i) j s
-    cell zero s m alive c =
-        o .rest .low _ (omega (arith, able .small))
-        ∙ h .is 0 s m alive (omega arith)
-        ∙ sum-zero k weights i s
-        ∙ sym (sum-zero k weights (suc i) s)
-    cell (suc j) s m alive c = ⊎-elim (turned-count j s m alive) dead (below-or s count)
+        past : w ≤ s → count ≤ s - w → cellAt t′ (suc j) s ≡ both j s
+        past e c = omega (
+          arith,
+          o .kept (suc j) s (omega (arith, able .small)) (inr (omega arith)),
+          shift-at (cellAt t j) w s e,
+          h .none j (s - w) (omega (arith, able .most)) (omega (arith, able .small)) (omega arith),
+        )
+
+        high : w ≤ s → cellAt t′ (suc j) s ≡ both j s
+        high e = ⊎-elim (new e) (past e) (below-or (s - w) count)
+
+    turned-sum : (j c : ℕ) → j ≤ most → c ≤ k → sumBelow c (cellAt t′ j) ≡ lighter k weights (suc i) j c
+    turned-sum zero c m d =
+        sum-same c _ _ (λ s e. o .rest .low (0 * heaviest + s) (omega (arith, able .small))) ∙ h .is 0 c m d ∙ sym (lighter-zero k weights i c)
+    turned-sum (suc j) c m d = ⊎-elim new old (below-or j (i + 1))
       where
-        dead : count ≤ s → cellAt t′ (suc j) s ≡ sumFrom k weights (suc i) (suc j) s
-        dead g =
-            o .right (suc j) s g (omega (arith, able .small))
-            ∙ h .is (suc j) s m alive (omega arith)
-            ∙ sym (sum-dead k weights i j s (omega arith))
+        new : j < i + 1 → sumBelow c (cellAt t′ (suc j)) ≡ lighter k weights (suc i) (suc j) c
+        new e = sum-same c _ _ (λ s g. turned-cell j s (omega arith) (omega arith)) ∙ both-sum j c (omega arith) d
 
-    pub sums-turned : Sums k weights (i + 1) t′
+        old : i + 1 ≤ j → sumBelow c (cellAt t′ (suc j)) ≡ lighter k weights (suc i) (suc j) c
+        old e =
+            sum-same c _ _ (λ s g. o .rest .high (suc j * heaviest + s) (omega arith))
+            ∙ h .is (suc j) c m d
+            ∙ from-above (row1 k (numberOf weights)) (below (k - c) k (k - c)) i (suc j) (omega arith)
+            ∙ sym (from-above (row1 k (numberOf weights)) (below (k - c) k (k - c)) (suc i) (suc j) (omega arith))
+
+    pub sums-turned : Sums k weights (i + 1) (reach + w) t′
     sums-turned =
         let e : i + 1 ≡ suc i = omega arith in
-        record { is = λ j s m alive c. rw e (cell j s m alive (omega (arith, reach-left .1))) }
+        record {
+          is = λ j c m d. rw e (turned-sum j c m d);
+          none = λ j s m d g. o .kept j s d (inr (omega arith)) ∙ h .none j s m d (omega arith);
+        }
 
     pub turned-outside : Outside 0 cells t t′
     turned-outside = outside-wider (omega arith) (omega (arith, able .most)) (o .rest)

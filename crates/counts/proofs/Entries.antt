@@ -7,8 +7,9 @@ use Prim.Native.Nat.{ℕ, zero, suc, _+_, _-_, _*_, _^_, _≤_, _<_}
 use native.Mathlib.Omega.{arith}
 use lib.Dec.{eqb}
 use lib.ListN.{length, getD}
-use borrow.Author.Tests.{eq-eqb, ne-eqb}
+use borrow.Author.Tests.{lt-ltb, eq-eqb, ne-eqb}
 use Rattle.rules.specs.declared.Rule.{Rule}
+use Rattle.rules.specs.Below.{sumBelow}
 use Rattle.rules.specs.State.{numberOf, ruleOf}
 use Rattle.rules.specs.Count.{countOf}
 use Rattle.rules.specs.Memory.{live, lead, readingOf, row1, row4, row5, row6, row7}
@@ -22,7 +23,7 @@ use Rattle.counts.specs.From.{from, line4, line6, bins}
 use Rattle.counts.specs.Cells.{Outside, Stored}
 use Rattle.counts.specs.Ways.{apartOf, ringOf, entryOf, Spread}
 use Rattle.counts.specs.Bins.{width, Sized, Made, aroundAt}
-use Rattle.counts.specs.Sums.{sumFrom, Weighed, Added}
+use Rattle.counts.specs.Sums.{lighter, cellAt, Weighed, Added}
 use Rattle.counts.specs.Tally.{entryAt, Countable, Tallied, OnTable, Workable, Worked, Layable}
 use Rattle.counts.proofs.Cells.{below-or, stored-same}
 use Rattle.counts.proofs.Apart.{line6-is, ring7-is}
@@ -39,7 +40,7 @@ module _ {rule : Rule} {n : ℕ} {weights : List ℕ} (ok : Accepted rule n weig
   of-kind : (kind : ℕ) {x : ℕ} → rule .kind ≡ kind → Counts kind x → countOf rule n weights j ≡ x
   of-kind kind {x} e h = subst (λ y. Counts y x) (sym e) h (ok .in-range)
 
-  count2 : rule .kind ≡ 2 → countOf rule n weights j ≡ sumFrom (rule .first) weights n j 0
+  count2 : rule .kind ≡ 2 → countOf rule n weights j ≡ from (row1 (rule .first) (numberOf weights)) (live 0) n j
   unfolding from readingOf
   count2 e = of-kind 2 e (count-by-reading (ruleOf 2 (rule .first) (rule .second)) n weights j)
 
@@ -134,19 +135,18 @@ module _ {rule : Rule} {n : ℕ} {weights table : List ℕ} (able : Workable rul
         long = able .long;
       }
 
-  pub sums-worked : {after : List ℕ} → rule .kind ≡ 2 → Added (rule .first) weights (length weights) table after → Worked rule n weights table after
+  sums-count : (j : ℕ) → rule .kind ≡ 2 → lighter (rule .first) weights (length weights) j (rule .first) ≡ countOf rule n weights j
+  sums-count j e =
+      let a : rule .first - rule .first ≡ 0 = omega arith in
+      rw (a, lt-ltb 0 (rule .first) (weighed e .some), able .accepted .weights-length e) (sym (count2 (able .accepted) j e))
+
+  sums-at : (t : List ℕ) (j : ℕ) → rule .kind ≡ 2 → entryAt rule n t j ≡ sumBelow (rule .first) (cellAt t j)
   unfolding entryAt
+  sums-at t j e = rw (eq-eqb (rule .kind) 2 e)
+
+  pub sums-worked : {after : List ℕ} → rule .kind ≡ 2 → Added (rule .first) weights (length weights) table after → Worked rule n weights table after
   sums-worked {after} e a =
-      record {
-        is = λ j l.
-            let here : j * 120 ≡ j * 120 + 0 = omega arith in
-            rw (eq-eqb (rule .kind) 2 e)
-            (ap (λ x. getD after x 0) here
-            ∙ a .holds .is j 0 (omega (arith, able .accepted .size-high)) (weighed e .some) (omega arith)
-            ∙ ap (λ x. sumFrom (rule .first) weights x j 0) (able .accepted .weights-length e)
-            ∙ sym (count2 (able .accepted) j e));
-        rest = a .rest;
-      }
+      record { is = λ j l. sums-at after j e ∙ a .is j (omega (arith, able .accepted .size-high)) ∙ sums-count j e; rest = a .rest }
 
   pub sized : (rule .kind ≡ 2 → ⊥) → Sized (rule .first) n table
   sized o = record { some = go (able .kind); most = able .accepted .size-high; long = able .long }
@@ -194,6 +194,7 @@ module _ {rule : Rule} {n : ℕ} {weights table : List ℕ} (able : Workable rul
   layable w =
       record {
         most = able .accepted .size-high;
+        two = λ e. weighed e .small;
         long = omega (arith, able .long, w .rest .long);
         fits = λ j l. rw (w .is j l) (count-fit _ n j (able .accepted .size-high));
       }

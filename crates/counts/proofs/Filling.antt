@@ -16,7 +16,7 @@ use Rattle.pascal.specs.Ways.{waysOf}
 use Rattle.pascal.proofs.Triangle.{ways-sum, ways-fit}
 use Rattle.counts.specs.From.{line4, bins, shift}
 use Rattle.counts.specs.Cells.{Outside, Stored}
-use Rattle.counts.specs.Bins.{width, Sized, Bins, Made, goneAt, term, aroundAt, Around}
+use Rattle.counts.specs.Bins.{width, Sized, Bins, Made, goneAt, term, aroundAt}
 use Rattle.counts.proofs.Cells.{below-or, outside-set, outside-wider, zero-cell, zero-outside}
 use Rattle.counts.proofs.From.{from-le}
 use Rattle.counts.proofs.InARow.{shift-at, shift-past, bins-first, bins-slide}
@@ -113,14 +113,13 @@ sum-past a (suc d) f e =
     let o : a + suc d ≡ suc (a + d) = omega arith in
     rw o (omega (arith, sum-past a d f e, e (a + d) (omega arith)))
 
--- the sum with one term more
-pub sum-step : {k top j : ℕ} {t : List ℕ} (m : ℕ) {s : ℕ} → Around k top j t → m < min k (suc j) → s ≡ sumBelow m (term top t)
-    → (s + (m + 1) * getD t (top - m) 0 ≡ sumBelow (m + 1) (term top t)) × (s + (m + 1) * getD t (top - m) 0 < 2 ^ 64)
+-- a sum that fits with one term more
+pub sum-step : (f : ℕ → ℕ) (most m : ℕ) {s : ℕ} → sumBelow most f < 2 ^ 64 → m < most → s ≡ sumBelow m f
+    → (s + f m ≡ sumBelow (m + 1) f) × (s + f m < 2 ^ 64)
 unfolding sumBelow
-sum-step {k} {top} {j} {t} m {s} a l d =
+sum-step f most m fits l e =
     let o : m + 1 ≡ suc m = omega arith in
-    let z : s + (m + 1) * getD t (top - m) 0 ≡ sumBelow (suc m) (term top t) = rw (d, o) in
-    (rw o (rw o at z), omega (arith, z, sum-le (suc m) (min k (suc j)) (term top t) (omega arith), a .fits))
+    (rw (o, e), omega (arith, sum-le (suc m) most f (omega arith)))
 
 pub around-is : {k n rows : ℕ} {t : List ℕ} (v j : ℕ) → Bins k n rows t → v < rows → v + j ≤ n + 1
     → aroundAt k (v * width + j) j t ≡ sumBelow k (λ m. suc m * shift (bins k v) m j)

@@ -7,12 +7,14 @@ use Prim.Native.Nat.{ℕ, suc, _+_, _-_, _*_, _^_, _≤_, _<_}
 use lib.Dec.{eqb, ltb}
 use lib.ListN.{length, getD}
 use Rattle.rules.specs.declared.Rule.{Rule}
+use Rattle.rules.specs.Below.{sumBelow}
 use Rattle.rules.specs.Count.{countOf}
 use Rattle.rules.specs.Refusal.{after, most, heaviest, cells}
 use Rattle.rules.specs.Accepted.{Accepted}
 use Rattle.refusals.specs.Shared.{ruleRefusal}
 use Rattle.counts.specs.Cells.{Outside, Stored}
 use Rattle.counts.specs.Bins.{width, aroundAt}
+use Rattle.counts.specs.Sums.{cellAt}
 
 -- the call's refusal, by the lengths of the lent tables
 abbrev pub refusalOf : Rule → (n : ℕ) (weights : List ℕ) (lent slots : ℕ) → ℕ
@@ -30,11 +32,11 @@ pub record Tallied (rule : Rule) (n : ℕ) (weights table room tableExit roomExi
   pub used : Outside 0 cells table tableExit
   pub counts : Stored (countOf rule n weights) 0 0 (suc n) room roomExit
 
--- kinds 2, 4 and 5: where entry j stands in the working table, or what it comes to there
+-- kinds 2, 4 and 5: where entry j stands in the working table, or what adds up to it there
 unfoldable pub entryAt : Rule → (n : ℕ) (table : List ℕ) (j : ℕ) → ℕ
 entryAt rule n table j =
     cond (eqb (rule .kind) 2)
-    (getD table (j * heaviest) 0)
+    (sumBelow (rule .first) (cellAt table j))
     (cond (eqb (rule .kind) 4)
     (getD table ((n + 1 - j) * width + j) 0)
     (cond (eqb j n) 0 (aroundAt (rule .first) ((n - 1 - j) * width + j) j table)))
@@ -55,5 +57,6 @@ pub record Worked (rule : Rule) (n : ℕ) (weights before after : List ℕ) : Ty
 
 pub record Layable (rule : Rule) (n : ℕ) (table : List ℕ) : Type 0 where
   pub most : n ≤ most
+  pub two : rule .kind ≡ 2 → rule .first ≤ heaviest
   pub long : cells ≤ length table
   pub fits : (j : ℕ) → j ≤ n → entryAt rule n table j < 2 ^ 64

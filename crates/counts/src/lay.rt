@@ -20,13 +20,13 @@ fn work(rule: Rule, n: usize, weights: &[u16], table: &mut [u64])
     }
 }
 
-// Entry j: the first column of a row of sums; row n + 1 - j of the bins; on the ring the row with two bins less, and none with all failed.
+// Entry j: what a row of sums comes to below k; row n + 1 - j of the bins; on the ring the row with two bins less, and none with all failed.
 fn entry(rule: Rule, n: usize, j: usize, table: &[u64]) -> u64
     requires { ⌜ Layable rule n (now table) × (j ≤ n) ⌝ }
     ensures { λ r. ⌜ r ≡ entryAt rule n (now (table .entry)) j ⌝ }
 {
     if rule.kind == 2 {
-        return table[j * sums::WIDTH];
+        return sums::total(rule.first as usize, j * sums::WIDTH, table);
     }
     if rule.kind == 4 {
         return table[(n + 1 - j) * bins::WIDTH + j];

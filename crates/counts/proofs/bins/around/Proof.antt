@@ -38,10 +38,16 @@ shared-slice-read-sum : tie.Need-shared-slice-read-sum Inv-loop μ-loop
 shared-slice-read-sum c = search needs
 
 mul-sum-2 : tie.Need-mul-sum-2 Inv-loop μ-loop
-mul-sum-2 c = let v = c .before .before .loop .inv in omega (arith, sum-step _ (v .2) (omega arith) (v .3) .1)
+mul-sum-2 c =
+    let v = c .before .before .loop .inv in
+    let a = c .before .before .before .before .before .args in
+    omega (arith, sum-step (term (a .top) (a .table .now)) _ _ (v .2 .fits) (omega arith) (v .3) .1)
 
 add-sum-2 : tie.Need-add-sum-2 Inv-loop μ-loop
-add-sum-2 c = let v = c .before .before .loop .inv in omega (arith, sum-step _ (v .2) (omega arith) (v .3) .1)
+add-sum-2 c =
+    let v = c .before .before .loop .inv in
+    let a = c .before .before .before .before .before .args in
+    omega (arith, sum-step (term (a .top) (a .table .now)) _ _ (v .2 .fits) (omega arith) (v .3) .1)
 
 add-m : tie.Need-add-m Inv-loop μ-loop
 add-m c = search needs
@@ -52,7 +58,8 @@ loop-less c = search needs
 loop-again : tie.Need-loop-again Inv-loop μ-loop
 loop-again c =
     let v = c .before .before .loop .inv in
-    (omega arith, v .1, v .2, sum-step _ (v .2) (omega arith) (v .3) .0)
+    let a = c .before .before .before .before .before .args in
+    (omega arith, v .1, v .2, omega (arith, sum-step (term (a .top) (a .table .now)) _ _ (v .2 .fits) (omega arith) (v .3) .0))
 
 returns : tie.Need-returns Inv-loop μ-loop
 returns c =

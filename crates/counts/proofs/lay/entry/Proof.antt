@@ -1,5 +1,5 @@
 -- `entry` takes the tests of `entryAt` in their order. Assumes nothing.
-use mathlib.Core.Path.{_≡_, refl, sym, ap, _∙_}
+use mathlib.Core.Path.{_≡_, refl}
 use native.Mathlib.Omega.{arith}
 use borrow.Author.Tests.{eq-eqb, ne-eqb}
 use Rattle.counts.specs.Tally.{entryAt}
@@ -7,18 +7,22 @@ use borrow.Author.Needs.{needs}
 use Rattle.counts.proofs.lay.entry.Statement.{statement}
 use Rattle.counts.proofs.lay.entry.Tie as tie
 
-mul-result : tie.Need-mul-result
-mul-result c = search needs
+mul-total : tie.Need-mul-total
+mul-total c = search needs
 
-mul-result-2 : tie.Need-mul-result-2
-mul-result-2 c = search needs
-
-shared-slice-read-result : tie.Need-shared-slice-read-result
-shared-slice-read-result c = search needs
+total-requires : tie.Need-total-requires
+unfolding entryAt
+total-requires c κs =
+    let p = c .before .before .before .pre in
+    record {
+      small = p .0 .two (c .if1 .taken);
+      long = omega (arith, p .0 .most, p .1, p .0 .long);
+      fits = rw (eq-eqb _ _ (c .if1 .taken)) at (p .0 .fits _ (p .1));
+    }
 
 returns : tie.Need-returns
 unfolding entryAt
-returns c = rw (eq-eqb _ _ (c .before .if1 .taken))
+returns c = rw (eq-eqb _ _ (c .before .if1 .taken)) (c .total .ensures)
 
 add-result : tie.Need-add-result
 add-result c = search needs
@@ -26,17 +30,17 @@ add-result c = search needs
 sub-result : tie.Need-sub-result
 sub-result c = search needs
 
-mul-result-3 : tie.Need-mul-result-3
-mul-result-3 c = search needs
+mul-result : tie.Need-mul-result
+mul-result c = search needs
 
 add-result-2 : tie.Need-add-result-2
 add-result-2 c = search needs
 
-mul-result-4 : tie.Need-mul-result-4
-mul-result-4 c = search needs
+mul-result-2 : tie.Need-mul-result-2
+mul-result-2 c = search needs
 
-shared-slice-read-result-2 : tie.Need-shared-slice-read-result-2
-shared-slice-read-result-2 c = search needs
+shared-slice-read-result : tie.Need-shared-slice-read-result
+shared-slice-read-result c = search needs
 
 returns-2 : tie.Need-returns-2
 unfolding entryAt
@@ -77,16 +81,15 @@ pub entry-spec : {M : Type 1} → statement M
 entry-spec =
     tie.close
     (tie.spec
-    mul-result
-    mul-result-2
-    shared-slice-read-result
+    mul-total
+    total-requires
     returns
     add-result
     sub-result
-    mul-result-3
+    mul-result
     add-result-2
-    mul-result-4
-    shared-slice-read-result-2
+    mul-result-2
+    shared-slice-read-result
     returns-2
     returns-3
     sub-around
