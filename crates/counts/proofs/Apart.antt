@@ -6,7 +6,7 @@ use mathlib.Core.Logic.{⊎-elim}
 use Prim.Native.Nat.{ℕ, zero, suc, _+_, _-_, _*_, _^_, _≤_, _<_, min}
 use native.Mathlib.Omega.{arith}
 use lib.Dec.{eqb·suc-zero}
-use borrow.Author.Tests.{le-leb, lt-leb, ne-eqb}
+use borrow.Author.Tests.{le-leb, lt-leb}
 use Rattle.rules.specs.Memory.{live, lead, pair, moved, ended, row6, row7, failing6, working7, failing7, end7}
 use Rattle.rules.proofs.Words.{count-above}
 use Rattle.pascal.specs.Ways.{waysOf}
@@ -175,19 +175,22 @@ module _ (r : ℕ) where
       from-suc (row7 r) (live (lead x)) i j
       ∙ rw a (omega (arith, open7 d (suc x) i n j (omega arith) (omega arith) l, rw b at (owed7 i x (r - 1) j (omega arith) (omega arith))))
 
+  -- what the second line comes to
+  line6-less : (n j : ℕ) → line6 r (n - 1 - 2 * (r - 1)) j ≡ waysOf (n - suc j * (r - 1) - 1) j
+  line6-less n zero = first6 r (n - 1 - 2 * (r - 1)) ∙ sym (ways-first (n - 1 * (r - 1) - 1))
+  line6-less n (suc j) =
+      let a : n - 1 - 2 * (r - 1) - j * (r - 1) ≡ n - suc (suc j) * (r - 1) - 1 = omega arith in
+      rw a at (line6-ways r j (n - 1 - 2 * (r - 1)))
+
   pub ring7-is : (n j : ℕ) → r - 1 < n → from (row7 r) (live (lead 0)) n j ≡ ringOf (r - 1) n j
   unfolding ringOf
   ring7-is n zero l = first7 n 0
   ring7-is n (suc j) l =
       let a : suc j - 1 ≡ j = omega arith in
-      rw (eqb·suc-zero, a, ← line6-is r (n - (r - 1)) (suc j), ← line6-is r (n - 1 - 2 * (r - 1)) j)
-      (open7 (r - 1) 0 n n j (omega arith) (omega arith) l)
+      let b : n - (r - 1) - j * (r - 1) ≡ n - suc j * (r - 1) = omega arith in
+      rw (eqb·suc-zero, a, ← b, ← line6-ways r j (n - (r - 1)), b, ← line6-less n j) (open7 (r - 1) 0 n n j (omega arith) (omega arith) l)
 
--- two lines, and that they fit 64 bits
-pub ring-lines : (owed n j : ℕ) → (j ≡ 0 → ⊥) → apartOf owed (n - owed) j + owed * apartOf owed (n - 1 - 2 * owed) (j - 1) ≡ ringOf owed n j
-unfolding ringOf
-ring-lines owed n j o = rw (ne-eqb j 0 o)
-
+-- both terms together fit 64 bits
 pub ring-fits : (owed n j : ℕ) → owed < n → n ≤ 64 → ringOf owed n j < 2 ^ 64
 ring-fits owed n j l h =
     let a : suc owed - 1 ≡ owed = omega arith in

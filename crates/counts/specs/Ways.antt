@@ -18,9 +18,10 @@ failsAt rule j = cond (eqb (rule .kind) 1) (leb (rule .first) j) (within (rule .
 unfoldable pub apartOf : (owed i j : ℕ) → ℕ
 apartOf owed i j = waysOf (i - (j - 1) * owed) j
 
--- the ring of n: where the last `owed` all work the others are a line, and where one of them fails so are those that it does not ask to work
+-- the ring of n: each failed one is followed by `owed` that work, so n - j * owed places are left; or the ring's end falls among those that follow one,
+-- in one of `owed` ways, and the others have a place less
 unfoldable pub ringOf : (owed n j : ℕ) → ℕ
-ringOf owed n j = cond (eqb j 0) 1 (apartOf owed (n - owed) j + owed * apartOf owed (n - 1 - 2 * owed) (j - 1))
+ringOf owed n j = cond (eqb j 0) 1 (waysOf (n - j * owed) j + owed * waysOf (n - j * owed - 1) (j - 1))
 
 -- entry j
 unfoldable pub entryOf : Rule → (n j : ℕ) → ℕ
@@ -36,7 +37,7 @@ pub record Spread (rule : Rule) (n : ℕ) : Type 0 where
   pub small : 3 < rule .kind → rule .second ≤ most
   pub ring : 3 < rule .kind → (rule .kind ≡ 6 → ⊥) → rule .second ≤ n
 
--- one lookup for a line, or two for a ring
+-- what a lookup is asked with
 pub record Lookup (owed i j : ℕ) (triangle : List ℕ) : Type 0 where
   pub owes : owed < most
   pub size : i ≤ most

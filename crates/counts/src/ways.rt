@@ -31,8 +31,8 @@ fn apart(owed: usize, i: usize, j: usize, triangle: &[u64; pascal::ENTRIES]) -> 
     pascal::ways(triangle, cut::less(i, taken), j)
 }
 
-// The working states of a ring: where the last `owed` all work the others are a line, and where one of them fails so are those that it does not ask
-// to work.
+// The working states of a ring: each failed one is followed by `owed` that work, or the ring's end falls among those that follow one, in one of
+// `owed` ways.
 fn ring(owed: usize, n: usize, j: usize, triangle: &[u64; pascal::ENTRIES]) -> u64
     requires { ⌜ Lookup owed n j (now triangle) × (owed < n) ⌝ }
     ensures { λ r. ⌜ r ≡ ringOf owed n j ⌝ }
@@ -40,8 +40,8 @@ fn ring(owed: usize, n: usize, j: usize, triangle: &[u64; pascal::ENTRIES]) -> u
     if j == 0 {
         return 1;
     }
-    let closed = apart(owed, cut::less(n - 1, 2 * owed), j - 1, triangle);
-    apart(owed, n - owed, j, triangle) + owed as u64 * closed
+    let left = cut::less(n, j * owed);
+    pascal::ways(triangle, left, j) + owed as u64 * pascal::ways(triangle, cut::less(left, 1), j - 1)
 }
 
 // Entry j of the count table.

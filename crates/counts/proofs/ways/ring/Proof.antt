@@ -1,9 +1,11 @@
--- `ring` is two lines. Assumes nothing.
-use mathlib.Core.Path.{_≡_, refl, sym, ap, _∙_}
-use Prim.Native.Nat.{suc, _+_, _-_, _*_, _≤_, _<_}
+-- `ring` is two lookups. Assumes nothing.
+use mathlib.Core.Path.{_≡_}
+use Prim.Native.Nat.{_+_, _*_, _≤_}
+use native.Mathlib.Nat.{mul-le-mul}
 use native.Mathlib.Omega.{arith}
+use borrow.Author.Tests.{ne-eqb}
 use Rattle.counts.specs.Ways.{ringOf}
-use Rattle.counts.proofs.Apart.{ring-lines, ring-fits}
+use Rattle.counts.proofs.Apart.{ring-fits}
 use borrow.Author.Needs.{needs}
 use Rattle.counts.proofs.ways.ring.Statement.{statement}
 use Rattle.counts.proofs.ways.ring.Tie as tie
@@ -12,40 +14,39 @@ returns : tie.Need-returns
 unfolding ringOf
 returns c = rw (c .if1 .taken)
 
-sub-less : tie.Need-sub-less
-sub-less c = search needs
-
 mul-less : tie.Need-mul-less
-mul-less c = search needs
+mul-less c = let p = c .before .pre .0 in omega (arith, mul-le-mul (p .few) (p .owes))
 
 less-requires : tie.Need-less-requires
 less-requires c κs = search needs
 
-sub-apart : tie.Need-sub-apart
-sub-apart c = search needs
+ways-requires : tie.Need-ways-requires
+ways-requires c κs = search needs
 
-apart-requires : tie.Need-apart-requires
-apart-requires c κs = search needs
+less-requires-2 : tie.Need-less-requires-2
+less-requires-2 c κs = search needs
 
-sub-apart-2 : tie.Need-sub-apart-2
-sub-apart-2 c = search needs
+sub-ways : tie.Need-sub-ways
+sub-ways c = search needs
 
-apart-requires-2 : tie.Need-apart-requires-2
-apart-requires-2 c κs = search needs
+ways-requires-2 : tie.Need-ways-requires-2
+ways-requires-2 c κs = search needs
 
--- the two lines are the ring's count
-both : (c : tie.After-apart2)
-    → (let a = c .before .before .before .before .args in c .apart2 .result + a .owed * c .before .apart .result ≡ ringOf (a .owed) (a .n) (a .j))
-both c = rw (c .apart2 .ensures, c .before .apart .ensures, c .before .before .less .ensures) (ring-lines _ _ _ (c .before .before .before .if1 .left))
+-- both terms are the ring's count
+both : (c : tie.After-ways2)
+    → (let a = c .before .before .before .before .before .args in c .before .before .ways .result + a .owed * c .ways2 .result ≡ ringOf (a .owed) (a .n) (a .j))
+unfolding ringOf
+both c =
+    rw (ne-eqb _ _ (c .before .before .before .before .if1 .left), ← c .before .before .before .less .ensures, c .before .before .ways .ensures, ← c .before .less2 .ensures, c .ways2 .ensures)
 
 mul-result : tie.Need-mul-result
 mul-result c =
-    let a = c .before .before .before .before .args in
+    let a = c .before .before .before .before .before .args in
     omega (arith, both c, ring-fits (a .owed) (a .n) (a .j) (omega arith) (omega arith))
 
 add-result : tie.Need-add-result
 add-result c =
-    let a = c .before .before .before .before .args in
+    let a = c .before .before .before .before .before .args in
     omega (arith, both c, ring-fits (a .owed) (a .n) (a .j) (omega arith) (omega arith))
 
 returns-2 : tie.Need-returns-2
@@ -56,13 +57,12 @@ ring-spec =
     tie.close
     (tie.spec
     returns
-    sub-less
     mul-less
     less-requires
-    sub-apart
-    apart-requires
-    sub-apart-2
-    apart-requires-2
+    ways-requires
+    less-requires-2
+    sub-ways
+    ways-requires-2
     mul-result
     add-result
     returns-2)
