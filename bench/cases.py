@@ -110,3 +110,10 @@ def longest_cases():
     most = SIZES[-1]
     heavy = [case(rule, most, drawn, weights_of) for rule in rules(2, most) for weights_of in (laden, even)]
     return [case(rule, most) for kind in KINDS for rule in (rules(kind, most) if kind != 3 else (Rule(3, 0, 0), worst(3, most)))] + heavy
+
+
+def count_cases(n):
+    """Every rule over n components; of kind 3, whose rules look as much up, three; of kind 2 a few, with weights of three sorts. No survival number is read."""
+    heavy = [case(rule, n, drawn, weights_of) for rule in rules(2, n) for weights_of in (weights, laden, even) if rule.first <= sum(weights_of(n))]
+    others = [case(rule, n) for kind in KINDS if kind not in (2, 3) for rule in rules(kind, n)]
+    return heavy + others + [case(rule, n) for rule in (Rule(3, 0, 0), Rule(3, n, n), worst(3, n))]

@@ -7,12 +7,14 @@ import sys
 from datetime import date
 from typing import NamedTuple
 
-from cases import KINDS, SIZES, UNIT, agreed_cases, longest_cases, steps, weights, worst_cases
+from cases import KINDS, SIZES, UNIT, agreed_cases, count_cases, longest_cases, steps, weights, worst_cases
 
 # A double that has gone through n rounded steps is this near, in units of 2^-30.
 NEAR = 0.001
 # The instructions of the loop that the driver runs first.
 KNOWN = 2001
+# The instructions of clearing a working table, which a count table's peers do not do.
+CLEARING = 6829
 START, END = "<!-- results -->\n", "<!-- end of results -->\n"
 WAYS = ("library", "plain", "directed", "fractions", "integers", "whole")
 NAMES = {"plain": "(a)", "directed": "(b)", "fractions": "(c)", "integers": "(c')"}
@@ -112,6 +114,7 @@ class Results:
         self.measure_figure1()
         self.measure_dearest()
         self.measure_worths()
+        self.measure_counts()
 
     def measure(self):
         """The peers must agree on all cases; the costs are kept of the worst."""
@@ -147,6 +150,21 @@ class Results:
             if ends != (first[0] - second[1], first[1] - second[0]):
                 fail("the worth is", ends, "and the ratings are", first, second, "of", case.line())
         self.worths = {case.rule.kind: costs for case, *costs in zip(cases, worths.costs, works.costs, fails.costs)}
+
+    def measure_counts(self):
+        """Count tables under every rule: of each kind and size the dearest, and at the longest the one that is nearest to its goal."""
+        self.counts, self.nearest, self.counted = {}, {}, 0
+        for n in SIZES:
+            cases = count_cases(n)
+            ours, plain = counted(self.room, "counts", cases), counted(self.room, "recurrences", cases)
+            for case, answer, other in zip(cases, ours.answers, plain.answers):
+                if answer != other:
+                    fail("the count tables differ of", case.line())
+            self.counted += len(cases)
+            for kind in KINDS:
+                found = [(a, b, case) for a, b, case in zip(ours.costs, plain.costs, cases) if case.rule.kind == kind]
+                self.counts[kind, n] = max(found, key=lambda one: one[0])
+                self.nearest[kind] = max(found, key=lambda one: one[0] / (2 * one[1] + CLEARING))
 
     def cost(self, way, kind, n=SIZES[-1]):
         return self.costs[way][self.at[kind, n]]
@@ -186,6 +204,13 @@ class Results:
         rows = [[str(kind), asked(self.rule(kind)), *map(comma, costs), comma(costs[0] - costs[1] - costs[2])] for kind, costs in self.worths.items()]
         return table(["kind", "rule", "worth", "rating, fan works", "rating, fan fails", "over both"], rows)
 
+    def counts_table(self):
+        rows = []
+        for (kind, n), (ours, plain, case) in self.counts.items():
+            grown = ratio(ours - CLEARING, self.counts[kind, n // 2][0] - CLEARING) if n > SIZES[0] else ""
+            rows.append([str(kind), str(n), asked(case.rule) + laid(case), comma(ours), comma(ours - CLEARING), comma(plain), grown])
+        return table(["kind", "n", "rule", "library", "less clearing", "(d)", "growth"], sorted(rows, key=lambda row: (row[0], int(row[1]))))
+
     def over(self, kind):
         return self.cost("whole", kind) - self.cost("library", kind)
 
@@ -211,6 +236,8 @@ class Results:
             yield f"kind {kind}: whole call 20,000 over the rating", self.over(kind), 20000
         for kind, (worth, works, fails) in self.worths.items():
             yield f"kind {kind}: a worth 1,000 over its two ratings", worth, works + fails + 1000
+        for kind, (ours, plain, case) in self.nearest.items():
+            yield f"kind {kind}: a count table twice (d) and clearing, nearest at {asked(case.rule)}{laid(case)}", ours, 2 * plain + CLEARING
 
     def goals_table(self):
         rows = []
@@ -239,6 +266,8 @@ class Results:
             self.whole_table(),
             "The worth of fan 32, at n = 64:\n",
             self.worths_table(),
+            f"Count tables, of each kind and n the dearest rule of all; both ways agree on {self.counted:,}:\n",
+            self.counts_table(),
             "Goals:\n",
             self.goals_table(),
             self.times_table(),

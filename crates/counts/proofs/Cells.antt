@@ -12,7 +12,7 @@ use lib.Seq.{ext-getD, getD-drop, getD-set-same, getD-set-other, getD-append-add
 use borrow.Author.Tests.{ltb-true, ltb-false}
 use Rattle.rules.specs.Below.{listBelow}
 use Rattle.rules.proofs.Lists.{below-length, below-get}
-use Rattle.counts.specs.Cells.{Cells, Outside, Stored}
+use Rattle.counts.specs.Cells.{Outside, Stored}
 
 pub below-or : (a b : ℕ) → (a < b) ⊎ (b ≤ a)
 below-or a b = go (ltb a b) refl
@@ -66,31 +66,10 @@ module _ {f : ℕ → ℕ} {off from to : ℕ} where
           let here : q ≡ p = omega arith in
           rw (at, here) (getD-set-same b p v 0 l ∙ same)
 
-  -- one cell more, at the low end
-  pub stored-down : {a b : List ℕ} (low p v : ℕ) → low + 1 ≡ from → from ≤ to → p ≡ off + low → p < length b → v ≡ f low → Stored f off from to a b
-      → Stored f off low to a (set b p v)
-  stored-down {b = b} low p v next order e l same w =
-      record {
-        row = record { is = λ k q m h d. ⊎-elim (new k q m d) (old k q h d) (below-or k from) };
-        rest = outside-set p v (omega arith) (omega arith) (outside-wider (omega arith) (omega arith) (w .rest));
-      }
-    where
-      old : (k q : ℕ) → k < to → q ≡ off + k → from ≤ k → getD (set b p v) q 0 ≡ f k
-      old k q h d m = getD-set-other b p q v 0 (λ c. omega arith) ∙ w .row .is k q m h d
-
-      new : (k q : ℕ) → low ≤ k → q ≡ off + k → k < from → getD (set b p v) q 0 ≡ f k
-      new k q m d g =
-          let at : k ≡ low = omega arith in
-          let here : q ≡ p = omega arith in
-          rw (at, here) (getD-set-same b p v 0 l ∙ same)
-
 -- a row that holds the same by another name
-pub cells-same : {f g : ℕ → ℕ} {off from to : ℕ} {t : List ℕ} → ((k : ℕ) → from ≤ k → k < to → f k ≡ g k) → Cells f off from to t → Cells g off from to t
-cells-same h r = record { is = λ k p l m e. r .is k p l m e ∙ h k l m }
-
 pub stored-same : {f g : ℕ → ℕ} {off from to : ℕ} {a b : List ℕ} → ((k : ℕ) → from ≤ k → k < to → f k ≡ g k) → Stored f off from to a b
     → Stored g off from to a b
-stored-same h w = record { row = cells-same h (w .row); rest = w .rest }
+stored-same h w = record { row = record { is = λ k p l m e. w .row .is k p l m e ∙ h k l m }; rest = w .rest }
 
 -- what stands past the cells that may differ is as it was
 pub outside-drop : {n : ℕ} {a b : List ℕ} → Outside 0 n a b → drop n b ≡ drop n a

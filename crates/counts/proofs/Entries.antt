@@ -1,31 +1,30 @@
 -- The counts of an accepted rule as a reading gives them, and so as Pascal's table and the working table have them. Assumes nothing.
-use mathlib.Core.Path.{_≡_, refl, sym, ap, subst, _∙_}
+use mathlib.Core.Path.{_≡_, refl, sym, subst, _∙_}
 use mathlib.Core.Bool.{true, cond}
 use mathlib.Core.Logic.{_⊎_, inl, inr, ⊎-elim}
 use mathlib.Core.List.{List}
-use Prim.Native.Nat.{ℕ, zero, suc, _+_, _-_, _*_, _^_, _≤_, _<_}
+use Prim.Native.Nat.{ℕ, suc, _+_, _-_, _*_, _≤_, _<_}
 use native.Mathlib.Omega.{arith}
 use lib.Dec.{eqb}
-use lib.ListN.{length, getD}
+use lib.ListN.{length}
 use borrow.Author.Tests.{lt-ltb, eq-eqb, ne-eqb}
 use Rattle.rules.specs.declared.Rule.{Rule}
 use Rattle.rules.specs.Below.{sumBelow}
 use Rattle.rules.specs.State.{numberOf, ruleOf}
 use Rattle.rules.specs.Count.{countOf}
-use Rattle.rules.specs.Memory.{live, lead, readingOf, row1, row4, row5, row6, row7}
-use Rattle.rules.specs.Refusal.{inRange, cells}
+use Rattle.rules.specs.Memory.{live, lead, readingOf, row1, row5, row7}
+use Rattle.rules.specs.Refusal.{inRange}
 use Rattle.rules.specs.Accepted.{Accepted, One}
 use Rattle.rules.proofs.Accepted.{range2, range4, range5, range6, range7}
 use Rattle.rules.proofs.Conditions.{count-by-reading}
 use Rattle.rules.proofs.Seven.{seven}
 use Rattle.pascal.proofs.Triangle.{count-fit}
 use Rattle.counts.specs.From.{from, line4, line6, bins}
-use Rattle.counts.specs.Cells.{Outside, Stored}
 use Rattle.counts.specs.Ways.{apartOf, ringOf, entryOf, Spread}
 use Rattle.counts.specs.Bins.{width, Sized, Made, aroundAt}
 use Rattle.counts.specs.Sums.{lighter, cellAt, Weighed, Added}
-use Rattle.counts.specs.Tally.{entryAt, Countable, Tallied, OnTable, Workable, Worked, Layable}
-use Rattle.counts.proofs.Cells.{below-or, stored-same}
+use Rattle.counts.specs.Tally.{entryAt, OnTable, Workable, Worked, Layable}
+use Rattle.counts.proofs.Cells.{below-or}
 use Rattle.counts.proofs.Apart.{line6-is, ring7-is}
 use Rattle.counts.proofs.InARow.{ring5-is, ring5-all}
 use Rattle.counts.proofs.Filling.{around-is}

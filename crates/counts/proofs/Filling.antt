@@ -1,11 +1,9 @@
 -- The bins in the working table: what a row is made of, what fits 64 bits, that rows stay, and what a ring's entry comes to. Assumes nothing.
 use mathlib.Core.Path.{_≡_, refl, sym, ap, _∙_}
-use mathlib.Core.Bool.{cond}
 use mathlib.Core.Logic.{⊎-elim}
 use mathlib.Core.List.{List, _++_}
 use Prim.Native.Nat.{ℕ, zero, suc, _+_, _-_, _*_, _^_, _≤_, _<_, min}
 use native.Mathlib.Omega.{arith}
-use lib.Dec.{ltb}
 use lib.ListN.{length, getD, set, drop, replicate}
 use lib.Seq.{getD-set-same, getD-set-other}
 use borrow.Author.Tests.{lt-ltb, le-ltb}
@@ -14,7 +12,7 @@ use Rattle.rules.specs.Memory.{live, row4}
 use Rattle.rules.proofs.Sums.{sum-same}
 use Rattle.pascal.specs.Ways.{waysOf}
 use Rattle.pascal.proofs.Triangle.{ways-sum, ways-fit}
-use Rattle.counts.specs.From.{line4, bins, shift}
+use Rattle.counts.specs.From.{bins, shift}
 use Rattle.counts.specs.Cells.{Outside, Stored}
 use Rattle.counts.specs.Bins.{width, Sized, Bins, Made, goneAt, term, aroundAt}
 use Rattle.counts.proofs.Cells.{below-or, outside-set, outside-wider, zero-cell, zero-outside}

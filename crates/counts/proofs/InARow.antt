@@ -56,10 +56,6 @@ module _ (k : ℕ) where
   unfolding moved
   ran-suc s i j l = rw (lt-ltb s k l) (from-suc (row4 k) (live s) i j)
 
-  bins-none : (v j : ℕ) → bins k (suc v) j ≡ line4 k (v + j) j
-  unfolding bins
-  bins-none v j = refl
-
   first4 : (i : ℕ) → line4 k i 0 ≡ 1
   unfolding moved ended
   first4 zero = from-end (row4 k) (live 0)

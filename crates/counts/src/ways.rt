@@ -41,7 +41,8 @@ fn ring(owed: usize, n: usize, j: usize, triangle: &[u64; pascal::ENTRIES]) -> u
         return 1;
     }
     let left = cut::less(n, j * owed);
-    pascal::ways(triangle, left, j) + owed as u64 * pascal::ways(triangle, cut::less(left, 1), j - 1)
+    pascal::ways(triangle, left, j)
+        + owed as u64 * pascal::ways(triangle, cut::less(left, 1), j - 1)
 }
 
 // Entry j of the count table.

@@ -1,6 +1,6 @@
 -- `around` adds up, over the failed ones around the end, the ways to lay them and the others. Assumes nothing.
-use mathlib.Core.Path.{_≡_, refl, sym, ap, _∙_}
-use Prim.Native.Nat.{suc, _+_, _-_, _*_, _≤_, _<_, min}
+use mathlib.Core.Path.{_≡_, refl, _∙_}
+use Prim.Native.Nat.{suc, _-_, _≤_, min}
 use native.Mathlib.Omega.{arith}
 use Rattle.rules.specs.Below.{sumBelow}
 use Rattle.counts.specs.Bins.{term, Around}

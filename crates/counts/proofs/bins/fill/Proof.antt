@@ -1,6 +1,6 @@
 -- `fill` makes the rows one by one. Assumes nothing.
-use mathlib.Core.Path.{_≡_, refl, sym, ap, _∙_}
-use Prim.Native.Nat.{suc, _+_, _-_, _*_, _≤_, _<_}
+use mathlib.Core.Path.{_∙_}
+use Prim.Native.Nat.{suc, _+_, _-_, _≤_}
 use native.Mathlib.Omega.{arith}
 use Rattle.counts.specs.Bins.{Sized, Made}
 use Rattle.counts.proofs.Cells.{outside-none, outside-then}

@@ -1,8 +1,7 @@
 -- `next` makes a row out of the one below, in a sum that slides along. Assumes nothing.
-use mathlib.Core.Path.{_≡_, refl, sym, ap, _∙_}
-use Prim.Native.Nat.{suc, _+_, _-_, _*_, _≤_, _<_}
+use mathlib.Core.Path.{_≡_, refl}
+use Prim.Native.Nat.{suc, _+_, _-_, _*_, _≤_}
 use native.Mathlib.Omega.{arith}
-use lib.ListN.{length}
 use Rattle.counts.specs.From.{bins, shift}
 use Rattle.counts.specs.Cells.{Stored}
 use Rattle.counts.specs.Bins.{width, Sized, Bins}

@@ -1,5 +1,4 @@
 -- `entry` takes the tests of `entryAt` in their order. Assumes nothing.
-use mathlib.Core.Path.{_≡_, refl}
 use native.Mathlib.Omega.{arith}
 use borrow.Author.Tests.{eq-eqb, ne-eqb}
 use Rattle.counts.specs.Tally.{entryAt}

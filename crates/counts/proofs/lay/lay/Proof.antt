@@ -1,10 +1,10 @@
 -- `lay` writes the entries 0 to n, and nothing else. Assumes nothing.
-use mathlib.Core.Path.{_≡_, refl, sym, ap, _∙_}
-use Prim.Native.Nat.{suc, _+_, _-_, _*_, _≤_, _<_}
+use mathlib.Core.Path.{_≡_}
+use Prim.Native.Nat.{suc, _+_, _-_, _≤_, _<_}
 use native.Mathlib.Omega.{arith}
 use lib.ListN.{length, length-set}
 use Rattle.counts.specs.Cells.{Stored}
-use Rattle.counts.specs.Tally.{entryAt, Layable}
+use Rattle.counts.specs.Tally.{entryAt}
 use Rattle.counts.proofs.Cells.{stored-none, stored-up}
 use borrow.Author.Needs.{needs}
 use Rattle.counts.proofs.lay.lay.Statement.{statement}

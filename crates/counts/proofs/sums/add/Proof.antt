@@ -1,8 +1,8 @@
 -- `add` adds cells to cells behind them, which it does not read again. Assumes nothing.
-use mathlib.Core.Path.{_≡_, refl, sym, ap, _∙_}
-use Prim.Native.Nat.{suc, _+_, _-_, _*_, _≤_, _<_}
+use mathlib.Core.Path.{_≡_, refl}
+use Prim.Native.Nat.{_+_, _-_, _≤_}
 use native.Mathlib.Omega.{arith}
-use lib.ListN.{length, getD}
+use lib.ListN.{getD}
 use Rattle.counts.specs.Cells.{Stored}
 use Rattle.counts.specs.Sums.{Addable}
 use Rattle.counts.proofs.Cells.{stored-none, stored-up}

@@ -1,6 +1,6 @@
 -- `turn` adds to each row the row below, from the highest on. Assumes nothing.
-use mathlib.Core.Path.{_≡_, refl, sym, ap, _∙_}
-use Prim.Native.Nat.{suc, _+_, _-_, _*_, _≤_, _<_}
+use mathlib.Core.Path.{_≡_}
+use Prim.Native.Nat.{suc, _-_, _≤_}
 use native.Mathlib.Omega.{arith}
 use Rattle.counts.specs.Sums.{Turnable, Turned}
 use Rattle.counts.proofs.Adding.{turned-none, row-addable, turned-row}

@@ -1,5 +1,4 @@
 -- `entry` takes the tests of `entryOf` in their order. Assumes nothing.
-use mathlib.Core.Path.{_≡_, refl, sym, ap, _∙_}
 use native.Mathlib.Omega.{arith}
 use borrow.Author.Tests.{le-leb, lt-leb, eq-eqb, ne-eqb}
 use Rattle.counts.specs.Ways.{entryOf}
