@@ -11,7 +11,7 @@ use Rattle.rules.specs.declared.Rating.{Rating}
 use Rattle.rules.specs.declared.Rating.the-variants as rating
 use Rattle.rules.specs.declared.Counting.{Counting}
 use Rattle.rules.specs.declared.Counting.the-variants as counting
-use Rattle.rules.specs.Answer.{unless, Given, Judges, Rates, Counts}
+use Rattle.rules.specs.Answer.{unless, Given, Judges, judgment, Rates, Counts}
 use Rattle.rules.proofs.Unless.{unless-some, unless-none}
 
 -- a case `Refused`, and a case that is none
@@ -21,21 +21,21 @@ given-is refused answer number refusal g = ap refused (g .0) ∙ sym (unless-som
 pub none-is : {A : Type 0} (refused : ℕ → A) (answer : A) {r : A} (refusal : ℕ) → refusal ≡ 0 → r ≡ answer → r ≡ unless refusal refused answer
 none-is refused answer refusal z e = e ∙ sym (unless-none refusal refused answer z)
 
-abbrev verdictBy : (refusal : ℕ) (failing : Bool) → Verdict
-verdictBy refusal failing = unless refusal verdict.Refused (cond failing verdict.Fails verdict.Works)
+abbrev verdictBy : (refusal : ℕ) (failing : Bool) (place : ℕ) → Verdict
+verdictBy refusal failing place = unless refusal verdict.Refused (judgment failing place)
 
-pub judges : (r : Verdict) (refusal : ℕ) (failing : Bool) → Judges r refusal failing ↔ (r ≡ verdictBy refusal failing)
-unfolding unless
-judges r refusal failing = (to r, λ e. rw e (from refusal failing))
+pub judges : (r : Verdict) (refusal : ℕ) (failing : Bool) (place : ℕ) → Judges r refusal failing place ↔ (r ≡ verdictBy refusal failing place)
+unfolding unless judgment
+judges r refusal failing place = (to r, λ e. rw e (from refusal failing))
   where
-    to : (r : Verdict) → Judges r refusal failing → r ≡ verdictBy refusal failing
+    to : (r : Verdict) → Judges r refusal failing place → r ≡ verdictBy refusal failing place
     to verdict.Works h = none-is verdict.Refused _ refusal (h .0) (rw (h .1))
-    to verdict.Fails h = none-is verdict.Refused _ refusal (h .0) (rw (h .1))
+    to (verdict.Fails p) h = none-is verdict.Refused _ refusal (h .0) (rw (h .1, h .2))
     to (verdict.Refused number) h = given-is verdict.Refused _ number refusal h
 
-    from : (refusal : ℕ) (failing : Bool) → Judges (verdictBy refusal failing) refusal failing
+    from : (refusal : ℕ) (failing : Bool) → Judges (verdictBy refusal failing place) refusal failing place
     from zero false = (refl, refl)
-    from zero true = (refl, refl)
+    from zero true = (refl, refl, refl)
     from (suc q) failing = (refl, omega arith)
 
 abbrev ratingBy : (refusal low high : ℕ) → Rating

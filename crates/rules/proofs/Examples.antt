@@ -12,16 +12,16 @@ use Rattle.rules.specs.declared.Rating.the-variants.{Range}
 use Rattle.rules.specs.declared.Worth.{Worth}
 use Rattle.rules.specs.declared.Worth.the-variants as worth
 use Rattle.rules.specs.declared.Worth.the-variants.{Ends}
-use Rattle.rules.specs.Below.{sumBelow, held, some, listBelow, total}
+use Rattle.rules.specs.Below.{sumBelow, held, some, first, listBelow, total}
 use Rattle.rules.specs.State.{S, ruleOf, numberOf}
-use Rattle.rules.specs.Verdict.{weightDown, someWindow, twoNear, fails}
+use Rattle.rules.specs.Verdict.{weightDown, someWindow, twoNear, fails, firstWindow, firstNear, placeOf}
 use Rattle.rules.specs.Count.{countIf, countsOf}
 use Rattle.rules.specs.Memory.{moved, ended, readingOf}
 use Rattle.rules.specs.Figure.{rounded, value}
 use Rattle.rules.specs.Stretch.{stretch}
 use Rattle.rules.specs.Asked.{askedOf}
 use Rattle.rules.specs.Refusal.{cells, after, aboveUnit, weightsOut, ranged, firstOf, verdictRefusal, figuresRefusal}
-use Rattle.rules.specs.Answer.{unless, verdictOf, figuresOf}
+use Rattle.rules.specs.Answer.{unless, judgment, verdictOf, figuresOf}
 use Rattle.rules.specs.Worth.{worthOf}
 use lib.IntN.{pos, negℤ}
 use lib.ListN.{length, replicate}
@@ -51,9 +51,9 @@ table =
     ∷ counts (ruleOf 3 1 2) 4 [] (1 ∷ 0 ∷ 0 ∷ 4 ∷ 1 ∷ [])  -- E
     ∷ counts (ruleOf 2 2 0) 3 (2 ∷ 1 ∷ 1 ∷ []) (1 ∷ 2 ∷ 0 ∷ 0 ∷ [])  -- F
     ∷ verdict (ruleOf 6 2 3) 7 9 Works  -- G
-    ∷ verdict (ruleOf 6 2 3) 7 5 Fails
+    ∷ verdict (ruleOf 6 2 3) 7 5 (Fails 1)
     ∷ verdict (ruleOf 6 2 3) 7 33 Works  -- H
-    ∷ verdict (ruleOf 7 2 3) 7 33 Fails
+    ∷ verdict (ruleOf 7 2 3) 7 33 (Fails 6)
     ∷ figures (ruleOf 1 1 0) (1 ∷ 1 ∷ []) (Range 0 1)  -- I
     ∷ figures (ruleOf 1 2 0) (1 ∷ 1 ∷ []) (Range 1 2)  -- J
     ∷ figures (ruleOf 1 1 0) (S ∷ []) (Range S S)  -- K
@@ -78,5 +78,5 @@ unfolding sumBelow held some listBelow total numberOf someWindow twoNear fails w
 worths = (refl, refl, refl, refl, refl, refl, refl)
 
 pub examples : All table
-unfolding All Holds table sumBelow held some listBelow total numberOf someWindow twoNear fails weightDown ones countIf countsOf moved ended readingOf rounded value stretch aboveUnit weightsOut ranged firstOf verdictRefusal figuresRefusal unless verdictOf figuresOf
+unfolding All Holds table sumBelow held some first firstWindow firstNear placeOf judgment listBelow total numberOf someWindow twoNear fails weightDown ones countIf countsOf moved ended readingOf rounded value stretch aboveUnit weightsOut ranged firstOf verdictRefusal figuresRefusal unless verdictOf figuresOf
 examples = (refl, (refl, (refl, (refl, (refl, (refl, (refl, (refl, (refl, (refl, (refl, (refl, (refl, tt)))))))))))))

@@ -25,3 +25,4 @@ pub mod Shorter
 pub mod Unread
 pub mod Differences
 pub mod Sure
+pub mod Lowest

@@ -12,7 +12,7 @@ use Rattle.rules.specs.declared.Rating.{Rating}
 use Rattle.rules.specs.declared.Rating.the-variants as rating
 use Rattle.rules.specs.declared.Counting.{Counting}
 use Rattle.rules.specs.declared.Counting.the-variants as counting
-use Rattle.rules.specs.Verdict.{fails}
+use Rattle.rules.specs.Verdict.{fails, placeOf}
 use Rattle.rules.specs.Count.{countsOf}
 use Rattle.rules.specs.Asked.{Asked, lowOf, highOf}
 use Rattle.rules.specs.Refusal.{cells, verdictRefusal, countRefusal, figuresRefusal}
@@ -27,10 +27,10 @@ unless (suc r) refused answer = refused (suc r)
 abbrev pub Given : (number refusal : ℕ) → Type 0
 Given number refusal = (number ≡ refusal) × (0 < refusal)
 
-abbrev pub Judges : Verdict → (refusal : ℕ) (failing : Bool) → Type 0
-Judges verdict.Works refusal failing = (refusal ≡ 0) × (failing ≡ false)
-Judges verdict.Fails refusal failing = (refusal ≡ 0) × (failing ≡ true)
-Judges (verdict.Refused number) refusal failing = Given number refusal
+abbrev pub Judges : Verdict → (refusal : ℕ) (failing : Bool) (place : ℕ) → Type 0
+Judges verdict.Works refusal failing place = (refusal ≡ 0) × (failing ≡ false)
+Judges (verdict.Fails p) refusal failing place = (refusal ≡ 0) × (failing ≡ true) × (p ≡ place)
+Judges (verdict.Refused number) refusal failing place = Given number refusal
 
 abbrev pub Rates : Rating → (refusal low high : ℕ) → Type 0
 Rates (rating.Range l h) refusal low high = (refusal ≡ 0) × (l ≡ low) × (h ≡ high)
@@ -48,10 +48,13 @@ cleared table = replicate cells 0 ++ drop cells table
 abbrev pub tableAfter : (refusal : ℕ) → List ℕ → List ℕ
 tableAfter refusal table = unless refusal (λ r. table) (cleared table)
 
--- the verdict on one state
+-- the verdict on one state: "works, or fails with a place"
+unfoldable pub judgment : (failing : Bool) (place : ℕ) → Verdict
+judgment failing place = cond failing (verdict.Fails place) verdict.Works
+
 unfoldable pub verdictOf : Rule → (n : ℕ) (weights : List ℕ) (w : ℕ) → Verdict
 verdictOf rule n weights w =
-    unless (verdictRefusal rule n weights w) verdict.Refused (cond (fails rule n weights w) verdict.Fails verdict.Works)
+    unless (verdictRefusal rule n weights w) verdict.Refused (judgment (fails rule n weights w) (placeOf rule n w))
 
 -- the figures: of the stretch that is asked, "as a list of those components alone would"
 unfoldable pub figuresOf : Asked → (table : List ℕ) → Rating

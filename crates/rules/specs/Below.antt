@@ -20,6 +20,11 @@ unfoldable pub some : (ℕ → Bool) → ℕ → Bool
 some p zero = false
 some p (suc k) = some p k || p k
 
+-- the lowest place below k at which p holds; k where there is none
+unfoldable pub first : (ℕ → Bool) → ℕ → ℕ
+first p zero = zero
+first p (suc k) = cond (some p k) (first p k) (cond (p k) k (suc k))
+
 -- f 0, f 1, .., f (k - 1)
 unfoldable pub listBelow : {A : Type 0} → ℕ → (ℕ → A) → List A
 listBelow zero f = []

@@ -1,11 +1,11 @@
--- Document 01, "The seven verdicts": the system fails exactly if ..
+-- Document 01, "The seven verdicts": the system fails exactly if .., and where
 use mathlib.Core.Bool.{Bool, true, false, cond, not, _&&_}
 use mathlib.Core.List.{List, [], _∷_}
 use Prim.Native.Nat.{ℕ, suc, _-_}
 use lib.Dec.{ltb, leb}
 use lib.Count.{ones}
 use Rattle.rules.specs.declared.Rule.{Rule}
-use Rattle.rules.specs.Below.{sumBelow, some, within, rowOf}
+use Rattle.rules.specs.Below.{sumBelow, some, first, within, rowOf}
 use Rattle.rules.specs.State.{numberOf, down, heldIn, starts}
 
 -- row 1: at least k components have failed
@@ -48,3 +48,26 @@ fails rule n weights w =
 
 abbrev pub works : Rule → (n : ℕ) (weights : List ℕ) (w : ℕ) → Bool
 works rule n weights w = not (fails rule n weights w)
+
+-- Document 02, request 04, "Say which fans": "for kinds 4 to 7 the lowest component at which a failing window starts"
+unfoldable pub firstWindow : (ring : Bool) (n width need w : ℕ) → ℕ
+firstWindow ring n width need w = suc (first (λ a. leb need (heldIn n a w width)) (starts ring n width))
+
+-- "a kind 6 line no longer than r starts at 1"
+unfoldable pub firstNear : (n r w : ℕ) → ℕ
+firstNear n r w = cond (leb n r) 1 (firstWindow false n r 2 w)
+
+-- "for kinds 1 to 3 place 0"
+unfoldable pub placeOf : Rule → (n w : ℕ) → ℕ
+placeOf rule n w =
+    let first = rule .first in
+    let second = rule .second in
+    rowOf (rule .kind) 0
+    (0
+    ∷ 0
+    ∷ 0
+    ∷ firstWindow false n first first w
+    ∷ firstWindow true n first first w
+    ∷ firstNear n second w
+    ∷ firstWindow true n second 2 w
+    ∷ [])

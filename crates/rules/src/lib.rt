@@ -14,10 +14,11 @@ pub struct System {
     pub b: u64,
 }
 
-// The verdict on one state.
+// The verdict on one state. Where the system fails a place is named: the lowest component at which a failing window starts, or 0 where the rule has no
+// windows.
 pub enum Verdict {
     Works,
-    Fails,
+    Fails(u64),
     Refused(u64),
 }
 

@@ -1,4 +1,3 @@
--- Windows as masked words, the lowest of them, and what the verdict's contract settles.
+-- Windows as masked words, and what the verdict's contract settles.
 pub mod Windows
-pub mod Lowest
 pub mod Outcome

@@ -11,11 +11,11 @@ use Rattle.verdict.specs.Outcome.{Judged}
 module _ {rule : Rule} {n : ℕ} {weights : List ℕ} {state : ℕ} where
   pub judged : {r : Verdict} → r ≡ verdictOf rule n weights state → Judged rule n weights state r
   unfolding verdictOf
-  judged {r} e = record { answer = judges r _ _ .1 e }
+  judged {r} e = record { answer = judges r _ _ _ .1 e }
 
   pub verdict-is : {r : Verdict} → Judged rule n weights state r → r ≡ verdictOf rule n weights state
   unfolding verdictOf
-  verdict-is {r} h = judges r _ _ .0 (h .answer)
+  verdict-is {r} h = judges r _ _ _ .0 (h .answer)
 
   pub same-verdict : {r s : Verdict} → Judged rule n weights state r → Judged rule n weights state s → r ≡ s
   same-verdict p q = verdict-is p ∙ sym (verdict-is q)

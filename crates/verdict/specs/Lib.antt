@@ -1,3 +1,2 @@
--- What the verdict's contracts cite: `Judged` is the public call's, `First` what its own functions are called.
+-- What the verdict's contract cites.
 pub mod Outcome
-pub mod First

@@ -2,12 +2,14 @@
 ghost use mathlib.Core.Path.{_≡_};
 ghost use Prim.Native.Nat.{_+_, _-_, _/_, _%_, _^_, _<_, _≤_, min};
 ghost use lib.Count.{ones};
+ghost use lib.Dec.{leb};
 ghost use lib.ListN.{length};
-ghost use Rattle.rules.specs.State.{heldIn};
-ghost use Rattle.rules.specs.Verdict.{weightDown, someWindow, fails};
+ghost use Rattle.rules.specs.Below.{first};
+ghost use Rattle.rules.specs.State.{heldIn, starts};
+ghost use Rattle.rules.specs.Verdict.{weightDown, someWindow, fails, firstWindow, placeOf};
 ghost use Rattle.rules.specs.Refusal.{most, highOne};
 ghost use Rattle.rules.specs.Accepted.{Accepted};
-ghost use Rattle.verdict.specs.First.{firstWindow};
+ghost use Rattle.rules.specs.Answer.{judgment};
 ghost use Rattle.verdict.specs.Outcome.{Judged};
 use rules::Rule;
 use rules::Verdict;
@@ -52,7 +54,7 @@ fn held_from(n: u64, a: u64, w: u64, width: u64) -> u64
 // The lowest of the starts at which a window holds `need` ones or more; the number of starts where none does.
 fn first_window(n: u64, width: u64, need: u64, w: u64, starts: u64) -> u64
     requires { ⌜ (1 ≤ width) × (width ≤ n) × (n ≤ most) × (w < 2 ^ n) × (starts ≤ n) ⌝ }
-    ensures { λ r. ⌜ r ≡ firstWindow n width need w starts ⌝ }
+    ensures { λ r. ⌜ r ≡ first (λ a. leb need (heldIn n a w width)) starts ⌝ }
 {
     let mut a: u64 = 0;
     while a < starts {
@@ -64,16 +66,38 @@ fn first_window(n: u64, width: u64, need: u64, w: u64, starts: u64) -> u64
     starts
 }
 
-// Kinds 4 to 7: on the ring a window starts anywhere, on the line so that it ends by n.
-fn some_window(ring: bool, n: u64, width: u64, need: u64, w: u64) -> bool
-    requires { ⌜ (1 ≤ width) × (width ≤ n) × (n ≤ most) × (w < 2 ^ n) ⌝ }
-    ensures { λ r. ⌜ r ≡ someWindow ring n width need w ⌝ }
+// On the ring a window starts anywhere, on the line so that it ends by n.
+fn starts_of(ring: bool, n: u64, width: u64) -> u64
+    requires { ⌜ (1 ≤ width) × (width ≤ n) × (n ≤ most) ⌝ }
+    ensures { λ r. ⌜ r ≡ starts ring n width ⌝ }
 {
     if ring {
-        return first_window(n, width, need, w, n) < n;
+        return n;
     }
-    let starts = n + 1 - width;
-    first_window(n, width, need, w, starts) < starts
+    n + 1 - width
+}
+
+// Kinds 4 to 7: the lowest start of a failing window is the place, counted from 1.
+fn judge_windows(ring: bool, n: u64, width: u64, need: u64, w: u64) -> Verdict
+    requires { ⌜ (1 ≤ width) × (width ≤ n) × (n ≤ most) × (w < 2 ^ n) ⌝ }
+    ensures { λ r. ⌜ r ≡ judgment (someWindow ring n width need w) (firstWindow ring n width need w) ⌝ }
+{
+    let starts = starts_of(ring, n, width);
+    let a = first_window(n, width, need, w, starts);
+    if a < starts {
+        return Verdict::Fails(a + 1);
+    }
+    Verdict::Works
+}
+
+// Kinds 1 to 3: place 0.
+fn judge_sum(failing: bool) -> Verdict
+    ensures { λ r. ⌜ r ≡ judgment failing 0 ⌝ }
+{
+    if failing {
+        return Verdict::Fails(0);
+    }
+    Verdict::Works
 }
 
 // Kind 6: a window no longer than the line, which it then holds whole.
@@ -109,20 +133,20 @@ fn high_one(n: u64, w: u64) -> bool
 }
 
 // The rows of the table, for a rule that was accepted.
-fn fails_on(rule: Rule, n: u64, weights: &[u16], w: u64) -> bool
+fn judge(rule: Rule, n: u64, weights: &[u16], w: u64) -> Verdict
     requires { ⌜ (Accepted rule n (now weights)) × (w < 2 ^ n) ⌝ }
-    ensures { λ r. ⌜ r ≡ fails rule n (now (weights .entry)) w ⌝ }
+    ensures { λ r. ⌜ r ≡ judgment (fails rule n (now (weights .entry)) w) (placeOf rule n w) ⌝ }
 {
     let kind = rule.kind;
     let failed = ones_of(w);
     match kind {
-        1 => rule.first <= failed,
-        2 => rule.first <= weighed(n, weights, w),
-        3 => rule.first <= failed && failed <= rule.second,
-        4 => some_window(false, n, rule.first, rule.first, w),
-        5 => some_window(true, n, rule.first, rule.first, w),
-        6 => some_window(false, n, fitting(rule.second, n), 2, w),
-        _ => some_window(true, n, rule.second, 2, w),
+        1 => judge_sum(rule.first <= failed),
+        2 => judge_sum(rule.first <= weighed(n, weights, w)),
+        3 => judge_sum(!refusals::outside(rule.first, failed, rule.second)),
+        4 => judge_windows(false, n, rule.first, rule.first, w),
+        5 => judge_windows(true, n, rule.first, rule.first, w),
+        6 => judge_windows(false, n, fitting(rule.second, n), 2, w),
+        _ => judge_windows(true, n, rule.second, 2, w),
     }
 }
 
@@ -137,8 +161,5 @@ pub fn verdict_on(rule: Rule, n: u64, weights: &[u16], state: u64) -> Verdict
     if high_one(n, state) {
         return Verdict::Refused(9);
     }
-    if fails_on(rule, n, weights, state) {
-        return Verdict::Fails;
-    }
-    Verdict::Works
+    judge(rule, n, weights, state)
 }

@@ -40,6 +40,15 @@ fn judged(bytes: &[u8], at: usize, size: usize) -> Verdict
     verdict_with(rule, n, state, bytes, at + HEAD, size - HEAD)
 }
 
+// Puts a line of a name and a number into the buffer and answers where it ends.
+fn put_numbered(name: &[u8], number: u64, out: &mut [u8], at: usize) -> usize
+    requires { ⌜ at ≤ length (now out) ⌝ }
+    ensures { λ r. ⌜ r ≤ length (now (out .exit)) ⌝ }
+{
+    let end = text::put_named(name, number, out, at);
+    text::put(out, end, b"\n")
+}
+
 // Puts a verdict's line into the buffer and answers where it ends.
 fn put_verdict(v: Verdict, out: &mut [u8], at: usize) -> usize
     requires { ⌜ at ≤ length (now out) ⌝ }
@@ -47,11 +56,8 @@ fn put_verdict(v: Verdict, out: &mut [u8], at: usize) -> usize
 {
     match v {
         Verdict::Works => text::put(out, at, b"works\n"),
-        Verdict::Fails => text::put(out, at, b"fails\n"),
-        Verdict::Refused(number) => {
-            let end = text::put_named(b"refused ", number, out, at);
-            text::put(out, end, b"\n")
-        }
+        Verdict::Fails(place) => put_numbered(b"fails ", place, out, at),
+        Verdict::Refused(number) => put_numbered(b"refused ", number, out, at),
     }
 }
 

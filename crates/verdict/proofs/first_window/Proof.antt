@@ -8,8 +8,7 @@ use borrow.Author.Needs.{needs}
 use borrow.Author.Tests.{le-leb, lt-leb}
 use Rattle.rules.specs.Below.{some}
 use Rattle.rules.specs.State.{heldIn}
-use Rattle.verdict.specs.First.{firstWindow}
-use Rattle.verdict.proofs.Lowest.{nowhere-yet, passed, found, nowhere}
+use Rattle.rules.proofs.Lowest.{nowhere-yet, passed, found, nowhere}
 use Rattle.verdict.proofs.first_window.Statement.{statement}
 use Rattle.verdict.proofs.first_window.Tie as tie
 
@@ -26,7 +25,6 @@ held-from-requires : tie.Need-held-from-requires Inv-loop μ-loop
 held-from-requires c κs = omega arith
 
 returns : tie.Need-returns Inv-loop μ-loop
-unfolding firstWindow
 returns c =
     sym
     (found _ _ _ (c .before .before .loop-test .taken) (c .before .before .before .loop .inv .1)
@@ -43,7 +41,6 @@ loop-again c =
     (omega arith, passed _ _ (c .before .before .before .loop .inv .1) (lt-leb _ _ (rw (c .before .held-from .ensures) at (c .if1 .left))))
 
 returns-2 : tie.Need-returns-2 Inv-loop μ-loop
-unfolding firstWindow
 returns-2 c =
     let e : c .before .loop .a ≡ c .before .before .args .starts = omega arith in
     sym (nowhere _ _ (rw e at (c .before .loop .inv .1)))

@@ -1,16 +1,17 @@
 -- `verdict::verdict_on` meets its contract: refusal 9 stands after those that every call shares, and a rule that is accepted is judged by its
 -- row. Assumes nothing.
-use mathlib.Core.Path.{_≡_, refl, sym, _∙_}
-use mathlib.Core.Bool.{Bool, true, false, cond}
+use mathlib.Core.Path.{_≡_, sym, _∙_}
+use mathlib.Core.Bool.{true, false, cond}
 use mathlib.Core.List.{List}
 use Prim.Native.Nat.{ℕ}
 use borrow.Author.Needs.{needs}
 use borrow.Author.Tests.{leb-false}
 use Rattle.rules.specs.declared.Rule.{Rule}
-use Rattle.rules.specs.declared.Verdict.the-variants.{Works, Fails, Refused}
-use Rattle.rules.specs.Verdict.{fails}
+use Rattle.rules.specs.declared.Verdict.{Verdict}
+use Rattle.rules.specs.declared.Verdict.the-variants.{Refused}
+use Rattle.rules.specs.Verdict.{fails, placeOf}
 use Rattle.rules.specs.Refusal.{highOne}
-use Rattle.rules.specs.Answer.{verdictOf, unless}
+use Rattle.rules.specs.Answer.{judgment, verdictOf, unless}
 use Rattle.rules.specs.Accepted.{Accepted}
 use Rattle.refusals.specs.Shared.{ruleRefusal}
 use Rattle.rules.proofs.Unless.{unless-some, after-none, after-some}
@@ -26,11 +27,13 @@ module _ (rule : Rule) (n : ℕ) (ws : List ℕ) (w : ℕ) where
   refused r e h =
       judged (sym (rw (verdict-after rule n ws w, ← e, after-some r (cond (highOne n w) 9 0) h) (unless-some r Refused _ h)))
 
-  accepted-is : (high failing : Bool) → ruleRefusal rule n ws ≡ 0 → highOne n w ≡ high → fails rule n ws w ≡ failing
-      → Judged rule n ws w (cond high (Refused 9) (cond failing Fails Works))
+  high-is : ruleRefusal rule n ws ≡ 0 → highOne n w ≡ true → Judged rule n ws w (Refused 9)
   unfolding verdictOf unless
-  accepted-is true failing z h f = judged (rw (verdict-after rule n ws w, after-none _ (cond (highOne n w) 9 0) z, h))
-  accepted-is false failing z h f = judged (rw (verdict-after rule n ws w, after-none _ (cond (highOne n w) 9 0) z, h, f))
+  high-is z h = judged (rw (verdict-after rule n ws w, after-none _ (cond (highOne n w) 9 0) z, h))
+
+  accepted-is : {r : Verdict} → ruleRefusal rule n ws ≡ 0 → highOne n w ≡ false → r ≡ judgment (fails rule n ws w) (placeOf rule n w) → Judged rule n ws w r
+  unfolding verdictOf unless
+  accepted-is z h e = judged (rw (verdict-after rule n ws w, after-none _ (cond (highOne n w) 9 0) z, h) e)
 
 rule-refusal-requires : tie.Need-rule-refusal-requires
 rule-refusal-requires c κs = search needs
@@ -49,23 +52,15 @@ high-one-requires : tie.Need-high-one-requires
 high-one-requires c κs = (sound c .size-low, sound c .size-high)
 
 returns-2 : tie.Need-returns-2
-returns-2 c = accepted-is _ _ _ _ true _ (none (c .before .before)) (sym (c .before .high-one .ensures) ∙ c .if2 .taken) refl
+returns-2 c = high-is _ _ _ _ (none (c .before .before)) (sym (c .before .high-one .ensures) ∙ c .if2 .taken)
 
-fails-on-requires : tie.Need-fails-on-requires
-fails-on-requires c κs =
+judge-requires : tie.Need-judge-requires
+judge-requires c κs =
     (sound (c .before .before), leb-false _ _ (sym (c .before .high-one .ensures) ∙ c .if2 .left))
 
 returns-3 : tie.Need-returns-3
 returns-3 c =
-    accepted-is _ _ _ _ false true (none (c .before .before .before .before))
-    (sym (c .before .before .before .high-one .ensures) ∙ c .before .before .if2 .left)
-    (sym (c .before .fails-on .ensures) ∙ c .if3 .taken)
-
-returns-4 : tie.Need-returns-4
-returns-4 c =
-    accepted-is _ _ _ _ false false (none (c .before .before .before .before))
-    (sym (c .before .before .before .high-one .ensures) ∙ c .before .before .if2 .left)
-    (sym (c .before .fails-on .ensures) ∙ c .if3 .left)
+    accepted-is _ _ _ _ (none (c .before .before .before)) (sym (c .before .before .high-one .ensures) ∙ c .before .if2 .left) (c .judge .ensures)
 
 pub verdict-on-spec : {M : Type 1} → statement M
 verdict-on-spec =
@@ -75,6 +70,5 @@ verdict-on-spec =
     returns
     high-one-requires
     returns-2
-    fails-on-requires
-    returns-3
-    returns-4)
+    judge-requires
+    returns-3)
