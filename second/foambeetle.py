@@ -18,7 +18,7 @@ TABLE_CELLS = 7800  # document 01, 'Refusal numbers', row 7
 MOST_SYSTEMS = 32  # document 01, 'Refusal numbers', row 12
 HEADER_BYTES = 20  # document 01, 'Deck file and printing'
 KINDS = range(1, 8)  # document 01, 'Refusal numbers', row 1
-WORKS, FAILS = "works", "fails"
+WORKS = "works"
 DEAD = "dead"
 
 
@@ -30,6 +30,12 @@ class Rule(NamedTuple):
 
 class Refusal(NamedTuple):
     number: int
+
+
+class Fails(NamedTuple):
+    """A failing verdict, with the place that it names."""
+
+    place: int
 
 
 class System(NamedTuple):
@@ -54,7 +60,7 @@ def mask(window):
 
 @lru_cache(maxsize=None)
 def line_windows(n, length):
-    # document 01, 'The seven verdicts', row 4: "in a row, on the line"
+    # document 01, 'The seven verdicts', rows 4 and 6: "in a row, on the line"
     return [mask(range(start, start + length)) for start in range(1, n - length + 2)]
 
 
@@ -70,11 +76,13 @@ def failed_weight(state, weights):
 
 
 def window_rule(rule, n):
-    # document 01, 'The seven verdicts', rows 4, 5 and 7: which windows, and how many failed in one
+    # document 01, 'The seven verdicts', rows 4 to 7: which windows, and how many failed in one
     if rule.kind == 4:
         return line_windows(n, rule.first), rule.first
     if rule.kind == 5:
         return ring_windows(n, rule.first), rule.first
+    if rule.kind == 6:
+        return line_windows(n, rule.second), 2
     return ring_windows(n, rule.second), 2
 
 
@@ -96,6 +104,16 @@ def fails(rule, n, state, weights):
         return two_near(rule.second, state)
     windows, least = window_rule(rule, n)
     return any((state & window).bit_count() >= least for window in windows)
+
+
+def place(rule, n, state):
+    # document 02, request 04: "for kinds 4 to 7 the lowest component at which a failing window starts", "for kinds 1 to 3 place 0"
+    if rule.kind <= 3:
+        return 0
+    if rule.kind == 6 and n <= rule.second:
+        return 1  # "a kind 6 line no longer than r starts at 1"
+    windows, least = window_rule(rule, n)
+    return next(component for component, window in enumerate(windows, 1) if (state & window).bit_count() >= least)
 
 
 # ---- the memory of a reading -------------------------------------------------
@@ -441,7 +459,8 @@ def verdict(rule, n, state, weights):
     number = verdict_refusal(rule, n, state, weights)
     if number:
         return Refusal(number)
-    return FAILS if fails(rule, n, state, weights) else WORKS
+    # document 02, request 04: "works, or fails with a place"
+    return Fails(place(rule, n, state)) if fails(rule, n, state, weights) else WORKS
 
 
 def count_table(rule, n, weights, room=TABLE_CELLS, slots=MOST_FANS + 1):

@@ -8,9 +8,10 @@ table and figures of wider windows; document 000 prints no number beside its equ
 from fractions import Fraction
 from typing import Any, NamedTuple
 
-from foambeetle import FAILS, MOST_FANS, UNIT, WORKS, Refusal, Rule
+from foambeetle import MOST_FANS, UNIT, WORKS, Fails, Refusal, Rule
 
 ACCEPTED = "accepted"  # the document says no more than that it is no refusal
+FAILING = "failing"  # document 01 prints no place
 
 
 class Count(NamedTuple):
@@ -54,6 +55,8 @@ def agrees(answer, printed):
     """Is the answer what is printed?"""
     if printed == ACCEPTED:
         return not isinstance(answer, Refusal)
+    if printed == FAILING:
+        return isinstance(answer, Fails)
     if isinstance(answer, Refusal) or isinstance(printed, Refusal):
         return answer == printed
     if isinstance(printed, dict):
@@ -125,9 +128,9 @@ COUNTED_EXAMPLES = [
 
 JUDGED_EXAMPLES = [
     Judged(EXAMPLES + "G", Rule(6, 2, 3), 7, 9, [], WORKS),
-    Judged(EXAMPLES + "G", Rule(6, 2, 3), 7, 5, [], FAILS),
+    Judged(EXAMPLES + "G", Rule(6, 2, 3), 7, 5, [], FAILING),
     Judged(EXAMPLES + "H", Rule(6, 2, 3), 7, 33, [], WORKS),
-    Judged(EXAMPLES + "H", Rule(7, 2, 3), 7, 33, [], FAILS),
+    Judged(EXAMPLES + "H", Rule(7, 2, 3), 7, 33, [], FAILING),
 ]
 
 RATED_EXAMPLES = [

@@ -13,7 +13,7 @@ import sources
 import words
 from files import DAMAGES, random_deck, random_files
 from foambeetle import (
-    DEAD, FAILS, KINDS, ROWS, TABLE_CELLS, UNIT, WORKS, Deck, Refusal, Rule, System, bad_rule,
+    DEAD, KINDS, ROWS, TABLE_CELLS, UNIT, WORKS, Deck, Fails, Refusal, Rule, System, bad_rule,
     count_slots_after, count_table, counts_by_choice, counts_by_reading, counts_by_words, deck_bytes,
     decklist_output, deckworth_output, exact_sum, exact_sum_by_words, fails, figures, file_refusal, line_windows, low_and_high,
     low_and_high_by_words, pascal_row, rate, read_deck, verdict, working_table_after, worth, worth_of_file,
@@ -160,6 +160,35 @@ def told_by_memory(rule, n, state, weights):
     return memory == DEAD or not row.end(rule, memory)
 
 
+def place_by_text(rule, text):
+    """The place of a failing verdict by looking at the state as text, component 1 first."""
+    kind, first, second = rule
+    places = [place for place, mark in enumerate(text) if mark == "1"]
+    if kind <= 3:
+        return 0
+    if kind in (4, 5):
+        return 1 + (text if kind == 4 else text + text).find("1" * first)
+    if kind == 6:
+        return 1 + min(max(0, right - second + 1) for left, right in zip(places, places[1:]) if right - left < second)
+    return 1 + min(start for start in range(len(text)) if (text + text)[start:start + second].count("1") > 1)
+
+
+def places_two_ways():
+    # document 02, request 04: all words of small n, and words of n up to 64
+    systems = [(rule, n, weights, range(2 ** n)) for rule, n, weights in small_systems(7)]
+    systems += [(rule, n, [], range(2 ** n)) for n, rule in short_lines() if not bad_rule(rule, n, [])]
+    rng = random.Random(29)
+    systems += [(rule, len(survivals), weights, [rng.getrandbits(len(survivals)) & rng.getrandbits(len(survivals)) for _ in range(4)])
+                for rule, survivals, weights in random_systems(31, 700, 64)]
+    for rule, n, weights, states in systems:
+        for state in states:
+            answer = verdict(rule, n, state, weights)
+            if isinstance(answer, Fails):
+                yield answer.place, place_by_text(rule, f"{state:0{n}b}"[::-1])
+            else:
+                yield told_by_text(rule, f"{state:0{n}b}"[::-1], weights), False
+
+
 def verdicts_three_ways():
     for rule, n, weights in small_systems(7):
         for state in range(2 ** n):
@@ -288,7 +317,7 @@ def refusals_of_states_and_counts():
     for rule, n, state, weights, number in states:
         yield verdict(rule, n, state, weights), Refusal(number)
     yield verdict(Rule(1, 4, 0), 64, 2 ** 63, []), WORKS
-    yield verdict(Rule(1, 1, 0), 3, 4, [121, 65535]), FAILS
+    yield verdict(Rule(1, 1, 0), 3, 4, [121, 65535]), Fails(0)
     tables = (
         (Rule(0, 0, 0), 0, [], 0, 0, 1), (Rule(2, 0, 0), 65, [], 0, 0, 2),
         (Rule(2, 0, 0), 3, [], 0, 0, 5), (Rule(2, 0, 0), 3, [1] * 4, 7800, 4, 5),
@@ -484,7 +513,7 @@ def lent_tables():
 
 
 GROUPS = (
-    published_figures, table_1_exactly, example_file, traps, source_equations, pascal, verdicts_three_ways, long_verdicts_three_ways,
+    published_figures, table_1_exactly, example_file, traps, source_equations, pascal, verdicts_three_ways, places_two_ways, long_verdicts_three_ways,
     counts_three_ways, enclosure, figures_two_ways, lines_no_longer_than_the_window, rules_accepted, refusals_of_calls,
     refusals_of_states_and_counts, stretches_read_inside_only, deck_files, printed_and_packed,
     header_damage, lent_tables, worths_by_words, worths_of_parts, plain_worths, refusals_of_worths, worths_of_files,

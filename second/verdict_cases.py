@@ -4,12 +4,12 @@ import random
 from typing import NamedTuple
 
 import published
-from foambeetle import FAILS, KINDS, WORKS, Refusal, Rule, fails, verdict
+from foambeetle import KINDS, WORKS, Fails, Refusal, Rule, fails, verdict
 from samples import (
     random_rule, random_weights, rules_in_range, short_lines, spoil_rule, unread_weights, weights_of_total, wrong_rules,
 )
 
-ANSWERS_WANTED = {WORKS, FAILS} | {f"refused {number}" for number in (1, 2, 5, 6, 9)}
+ANSWERS_WANTED = {WORKS} | {f"fails {place}" for place in range(65)} | {f"refused {number}" for number in (1, 2, 5, 6, 9)}
 LENGTHS = (1, 2, 3, 5, 8, 13, 21, 31, 32, 33, 48, 62, 63, 64)
 SMALL_WEIGHTS = {
     1: ([1], [3]),
@@ -30,7 +30,9 @@ class Case(NamedTuple):
 
     def line(self):
         answer = verdict(self.rule, self.n, self.state, self.weights)
-        return f"refused {answer.number}" if isinstance(answer, Refusal) else answer
+        if isinstance(answer, Refusal):
+            return f"refused {answer.number}"
+        return f"fails {answer.place}" if isinstance(answer, Fails) else answer
 
 
 def published_cases():
@@ -168,7 +170,19 @@ def short_line_cases(rng):
             yield Case(rule, n, state, unread_weights(rng))
 
 
+def place_cases(rng):
+    """Failing windows at every start, by themselves and below another: the lowest is named, on rings also where it runs past n."""
+    for n, k in ((5, 2), (8, 3), (64, 3)):
+        for start in range(n):
+            beside = run_word(n, rng.randrange(n), k)
+            for kind in (4, 5):
+                yield from (Case(Rule(kind, k, 0), n, run_word(n, start, k) | more, []) for more in (0, beside))
+            for kind in (6, 7):
+                two = 1 << start | 1 << (start + k - 1) % n
+                yield from (Case(Rule(kind, 2, k), n, two | more, []) for more in (0, beside))
+
+
 def make_cases():
     rng = random.Random(101)
     return [*published_cases(), *small_cases(rng), *long_cases(rng), *full_window_cases(), *stray_bit_cases(rng),
-            *weight_cases(rng), *refused_cases(rng), *short_line_cases(rng)]
+            *weight_cases(rng), *refused_cases(rng), *short_line_cases(rng), *place_cases(rng)]

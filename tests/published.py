@@ -12,7 +12,7 @@ sys.path.insert(0, str(root / "second"))
 
 import published  # noqa: E402
 from cases import MODULES  # noqa: E402
-from foambeetle import Refusal  # noqa: E402
+from foambeetle import Fails, Refusal  # noqa: E402
 from words import pack  # noqa: E402
 
 LISTS = {"verdict": published.VERDICTS, "figures": published.FIGURES, "counts": published.COUNTS}
@@ -23,6 +23,8 @@ def answer_of(line):
     words = line.partition(" cells ")[0].split()
     if words[0] == "refused":
         return Refusal(int(words[1]))
+    if words[0] == "fails":
+        return Fails(int(words[1]))
     if words[0] == "low":
         return int(words[1]), int(words[3])
     return [int(word) for word in words[1:]] if words[0] == "counts" else line
