@@ -11,7 +11,10 @@ use Rattle.rules.specs.declared.Rating.{Rating}
 use Rattle.rules.specs.declared.Rating.the-variants as rating
 use Rattle.rules.specs.declared.Counting.{Counting}
 use Rattle.rules.specs.declared.Counting.the-variants as counting
+use Rattle.rules.specs.declared.Writing.{Writing}
+use Rattle.rules.specs.declared.Writing.the-variants as writing
 use Rattle.rules.specs.Answer.{unless, Given, Judges, judgment, Rates, Counts}
+use Rattle.rules.specs.Writing.{Writes}
 use Rattle.rules.proofs.Unless.{unless-some, unless-none}
 
 -- a case `Refused`, and a case that is none
@@ -71,4 +74,19 @@ counts r refusal = (to r, λ e. rw e (from refusal))
 
     from : (refusal : ℕ) → Counts (countingBy refusal) refusal
     from zero = refl
+    from (suc q) = (refl, omega arith)
+
+abbrev writingBy : (refusal size : ℕ) → Writing
+writingBy refusal size = unless refusal writing.Refused (writing.Written size)
+
+pub writes : (r : Writing) (refusal size : ℕ) → Writes r refusal size ↔ (r ≡ writingBy refusal size)
+unfolding unless
+writes r refusal size = (to r, λ e. rw e (from refusal))
+  where
+    to : (r : Writing) → Writes r refusal size → r ≡ writingBy refusal size
+    to (writing.Written l) h = none-is writing.Refused _ refusal (h .0) (ap writing.Written (h .1))
+    to (writing.Refused number) h = given-is writing.Refused _ number refusal h
+
+    from : (refusal : ℕ) → Writes (writingBy refusal size) refusal size
+    from zero = (refl, refl)
     from (suc q) = (refl, omega arith)

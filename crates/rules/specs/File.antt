@@ -111,6 +111,16 @@ systemNumbers [] = []
 systemNumbers (s ∷ ss) =
     s .rule .kind ∷ s .rule .first ∷ s .rule .second ∷ s .a ∷ s .b ∷ systemNumbers ss
 
+-- a system by its five numbers, and the systems of a list of numbers, five each; what is left of a part system is none
+abbrev pub perSystem : ℕ
+perSystem = 5
+
+abbrev pub fiveOf : (ℕ → ℕ) → System
+fiveOf f = record { rule = record { kind = f 0; first = f 1; second = f 2 }; a = f 3; b = f 4 }
+
+unfoldable pub systemsOf : List ℕ → List System
+systemsOf numbers = listBelow (length numbers / perSystem) (λ s. fiveOf (λ i. getD numbers (perSystem * s + i) 0))
+
 -- the layout
 unfoldable pub fileOf : Deck → List ℕ
 fileOf d =
@@ -198,9 +208,12 @@ answerIn bytes s = systemOf (deckIn bytes) (systemIn bytes s)
 abbrev pub halfWord : ℕ
 halfWord = 2 ^ 32
 
+abbrev pub packedRefusal : ℕ → ℕ
+packedRefusal number = (halfWord - 1) * halfWord + number
+
 abbrev pub packed : Rating → ℕ
 packed (Range low high) = low * halfWord + high
-packed (Refused number) = (halfWord - 1) * halfWord + number
+packed (Refused number) = packedRefusal number
 
 -- 14: system number 0 or above the file's count
 abbrev pub badNumber : List ℕ → ℕ → Bool

@@ -39,3 +39,9 @@ pub enum Counting {
     Counted,
     Refused(u64),
 }
+
+// Whether a deck file was written, and its length.
+pub enum Writing {
+    Written(u64),
+    Refused(u64),
+}
