@@ -2,14 +2,14 @@
 -- Assumes nothing.
 use mathlib.Core.Path.{_≡_, refl, ap, _∙_}
 use mathlib.Core.List.{List, [], _∷_, _++_, append-assoc}
-use Prim.Native.Nat.{ℕ, zero, suc, _+_, _*_, _<_}
+use Prim.Native.Nat.{ℕ, zero, suc, _+_, _*_, _/_, _%_, _<_}
 use native.Mathlib.Nat.{add-zero}
 use native.Mathlib.Numerals.{towards-suc}
 use native.Mathlib.Omega.{arith}
 use lib.ListN.{length, getD}
 use Rattle.rules.specs.declared.System.{System}
 use Rattle.rules.specs.Below.{listBelow}
-use Rattle.rules.specs.File.{numberAt, nthNumber, numbersFrom, systemNumbers, systemBytes, systemAt, nthSystem}
+use Rattle.rules.specs.File.{numberAt, nthNumber, numbersFrom, systemNumbers, perSystem, fiveOf, systemsOf, systemBytes, systemAt, nthSystem}
 use Rattle.deck.specs.Read.{noSystem}
 use Rattle.rules.proofs.Lists.{below-is}
 
@@ -23,10 +23,7 @@ unfolding systemNumbers
 numbers-append [] ts = refl
 numbers-append (s ∷ ss) ts = rw (numbers-append ss ts)
 
--- the system whose numbers f gives
-abbrev fiveOf : (ℕ → ℕ) → System
-fiveOf f = record { rule = record { kind = f 0; first = f 1; second = f 2 }; a = f 3; b = f 4 }
-
+-- a system by its five numbers
 five-same : (f g : ℕ → ℕ) → ((i : ℕ) → i < 5 → f i ≡ g i) → fiveOf f ≡ fiveOf g
 five-same f g h = λ x. record {
   rule = record { kind = h 0 (omega arith) x; first = h 1 (omega arith) x; second = h 2 (omega arith) x };
@@ -68,17 +65,32 @@ below-five : (n : ℕ) (f : ℕ → ℕ)
 unfolding listBelow
 below-five n f = simp (add-zero, towards-suc, append-assoc)
 
-pub numbers-of : (bytes : List ℕ) (at m : ℕ)
-    → systemNumbers (listBelow m (nthSystem bytes at)) ≡ numbersFrom 2 bytes at (5 * m)
+-- systems made place by place have the numbers that they are made of
+numbers-below : (f : ℕ → ℕ) (m : ℕ) → systemNumbers (listBelow m (λ s. fiveOf (λ i. f (5 * s + i)))) ≡ listBelow (5 * m) f
 unfolding systemNumbers listBelow
-numbers-of bytes at zero = refl
-numbers-of bytes at (suc m) =
-    let f = nthNumber 2 bytes at in
+numbers-below f zero = refl
+numbers-below f (suc m) =
     let e : 5 * suc m ≡ 5 * m + 5 = omega arith in
     rw (
       e,
       below-five (5 * m) f,
-      at-five bytes at m,
-      numbers-append (listBelow m (nthSystem bytes at)) (fiveOf (λ i. f (5 * m + i)) ∷ []),
-      numbers-of bytes at m,
+      numbers-append (listBelow m (λ s. fiveOf (λ i. f (5 * s + i)))) (fiveOf (λ i. f (5 * m + i)) ∷ []),
+      numbers-below f m,
     )
+
+pub numbers-of : (bytes : List ℕ) (at m : ℕ)
+    → systemNumbers (listBelow m (nthSystem bytes at)) ≡ numbersFrom 2 bytes at (5 * m)
+numbers-of bytes at m =
+    (λ x. systemNumbers (listBelow m (λ s. at-five bytes at s x))) ∙ numbers-below (nthNumber 2 bytes at) m
+
+-- request 01: whole systems listed as numbers have these numbers, and a deck's systems are those of their numbers
+pub listed-numbers : (numbers : List ℕ) → length numbers % perSystem ≡ 0 → systemNumbers (systemsOf numbers) ≡ numbers
+unfolding systemsOf
+listed-numbers numbers whole =
+    numbers-below (λ i. getD numbers i 0) (length numbers / perSystem)
+    ∙ below-is numbers 0 (5 * (length numbers / perSystem)) _ (omega arith) (λ i h. refl)
+
+pub listed-systems : (ss : List System) → systemsOf (systemNumbers ss) ≡ ss
+unfolding systemsOf
+listed-systems ss =
+    below-is ss noSystem (length (systemNumbers ss) / perSystem) _ (omega (arith, numbers-length ss)) (λ s h. five-in ss s)

@@ -1,7 +1,7 @@
 // The layout of a deck file: where the header has each number, how long each part is and where it begins.
 ghost use mathlib.Core.Path.{_≡_};
 ghost use Prim.Native.Nat.{_^_, _<_};
-ghost use Rattle.rules.specs.File.{weightsOffset, systemsOffset};
+ghost use Rattle.rules.specs.File.{weightsOffset, systemsOffset, fileLength};
 
 pub const MOST_FANS: usize = 64;
 
@@ -48,4 +48,12 @@ pub fn systems_offset(n: usize) -> usize
     ensures { λ r. ⌜ r ≡ systemsOffset n ⌝ }
 {
     weights_offset(n) + WEIGHT_BYTES * n
+}
+
+// How long a file of n fans and m systems is.
+pub fn file_length(n: usize, m: usize) -> usize
+    requires { ⌜ (n < 2 ^ 16) × (m < 2 ^ 16) ⌝ }
+    ensures { λ r. ⌜ r ≡ fileLength n m ⌝ }
+{
+    systems_offset(n) + SYSTEM_BYTES * m
 }

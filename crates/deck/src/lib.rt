@@ -1,5 +1,5 @@
 // The deck file of document 01: its refusals, and the reader that hands its deck on.
-mod layout; // layout.rt: where each number of a file stands
+pub mod layout; // layout.rt: where each number of a file stands
 mod number; // number.rt: numbers that bytes spell
 mod parts; // parts.rt: the survival numbers, the weights and the systems, in arrays
 
@@ -54,7 +54,7 @@ fn bad_layout(bytes: &[u8]) -> bool
     if number::number4(bytes, layout::SYSTEMS_FIELD) as usize != from {
         return true;
     }
-    bytes.len() != from + layout::SYSTEM_BYTES * m
+    bytes.len() != layout::file_length(n, m)
 }
 
 // A file's refusal, checked 10, 11, 2, 12, 13; 0 where there is none.

@@ -65,26 +65,24 @@ returns-3 c =
       ne-eqb _ _ (c .if3 .taken),
     )
 
-mul-result : tie.Need-mul-result
-mul-result c = omega (arith, counts-fit (c .before .before .before .before .before .before .before .before))
-
-add-result : tie.Need-add-result
-add-result c = omega (arith, counts-fit (c .before .before .before .before .before .before .before .before))
+file-length-requires : tie.Need-file-length-requires
+file-length-requires c κs = counts-fit (c .before .before .before .before .before .before .before .before)
 
 returns-4 : tie.Need-returns-4
 returns-4 c =
-    let at = c .before .before .before .before .before .before .before in
+    let at = c .before .before .before .before .before .before .before .before in
     rw (
-      ← c .before .number43 .ensures,
-      ← c .before .before .before .before .before .number42 .ensures,
+      c .file-length .ensures,
+      ← c .before .before .number43 .ensures,
+      ← c .before .before .before .before .before .before .number42 .ensures,
       ← at .number4 .ensures,
       ← at .before .number22 .ensures,
       ← at .before .before .number2 .ensures,
-      ← c .before .before .systems-offset .ensures,
-      ← c .before .before .before .before .weights-offset .ensures,
-      eq-eqb _ _ (c .before .before .before .before .before .before .if1 .left),
-      eq-eqb _ _ (c .before .before .before .if2 .left),
-      eq-eqb _ _ (c .if3 .left),
+      ← c .before .before .before .systems-offset .ensures,
+      ← c .before .before .before .before .before .weights-offset .ensures,
+      eq-eqb _ _ (c .before .before .before .before .before .before .before .if1 .left),
+      eq-eqb _ _ (c .before .before .before .before .if2 .left),
+      eq-eqb _ _ (c .before .if3 .left),
     )
 
 pub bad-layout-spec : {M : Type 1} → statement M
@@ -101,6 +99,5 @@ bad-layout-spec =
     systems-offset-requires
     number4-requires-3
     returns-3
-    mul-result
-    add-result
+    file-length-requires
     returns-4)
