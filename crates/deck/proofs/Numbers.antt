@@ -73,7 +73,7 @@ all-length width [] = rw mul-zero
 all-length width (x ∷ xs) =
     length-append (bytesOf width x) (allBytes width xs) ∙ rw (bytes-length width x, all-length width xs, mul-suc) (omega arith)
 
-all-append : (width : ℕ) (xs ys : List ℕ) → allBytes width (xs ++ ys) ≡ allBytes width xs ++ allBytes width ys
+pub all-append : (width : ℕ) (xs ys : List ℕ) → allBytes width (xs ++ ys) ≡ allBytes width xs ++ allBytes width ys
 unfolding allBytes
 all-append width [] ys = refl
 all-append width (x ∷ xs) ys = rw (all-append width xs ys, append-assoc)

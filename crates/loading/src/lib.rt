@@ -3,13 +3,9 @@ ghost use mathlib.Core.Path.{_≡_};
 ghost use Rattle.rules.specs.File.{packed, loadingOf, worthLoadingOf};
 ghost use Rattle.loading.specs.Outcome.{openRefusal, Answered, numberOf, endsAfter, Told};
 ghost use Rattle.loading.specs.Packing.{Packable};
+use refusals::HALF_WORD;
 use rules::Rating;
 use rules::Worth;
-
-// The numbers that half of the answer holds, and what a refusal's number is added to.
-const HALF_WORD: u64 = 4294967296;
-
-const REFUSED: u64 = (HALF_WORD - 1) * HALF_WORD;
 
 // The file's own refusal, then 14 for a system that it does not have; 0 for none.
 fn refusal(file: &[u8], system: u64) -> u64
@@ -54,7 +50,7 @@ pub fn pack(rating: Rating) -> u64
 {
     match rating {
         Rating::Range { low, high } => low * HALF_WORD + high,
-        Rating::Refused(number) => REFUSED + number,
+        Rating::Refused(number) => refusals::packed(number),
     }
 }
 

@@ -16,8 +16,8 @@ add-result c = omega (arith, rw (c .before .rating .given .1) at (c .before .bef
 enum-known-rating-2 : tie.Need-enum-known-rating-2
 enum-known-rating-2 c = search needs
 
-add-result-2 : tie.Need-add-result-2
-add-result-2 c = omega (arith, rw (c .before .rating2 .given .1) at (c .before .before .before .pre))
+packed-requires : tie.Need-packed-requires
+packed-requires c κs = omega (arith, rw (c .before .rating2 .given .1) at (c .before .before .before .pre))
 
 returns : tie.Need-returns
 returns c = rw (c .before .rating .given .1)
@@ -33,6 +33,6 @@ pack-spec =
     mul-result
     add-result
     enum-known-rating-2
-    add-result-2
+    packed-requires
     returns
     returns-2)

@@ -1,0 +1,2 @@
+-- The laws of the writer, from the ground up.
+pub mod Laying
