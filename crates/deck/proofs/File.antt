@@ -30,19 +30,19 @@ header-length n m =
     length-append (allBytes 2 (counts n m)) (allBytes 4 (offsets n)) ∙ rw (all-length 2 (counts n m), all-length 4 (offsets n))
 
 -- a file's part before the weights, and its part before the systems
-abbrev toWeights : Deck → List ℕ
+abbrev pub toWeights : Deck → List ℕ
 toWeights d = headerOf (length (d .survival)) (length (d .systems)) ++ allBytes survivalBytes (d .survival)
 
-abbrev toSystems : Deck → List ℕ
+abbrev pub toSystems : Deck → List ℕ
 toSystems d = toWeights d ++ allBytes weightBytes (d .weights)
 
-weights-from : (d : Deck) → length (toWeights d) ≡ weightsOffset (length (d .survival))
+pub weights-from : (d : Deck) → length (toWeights d) ≡ weightsOffset (length (d .survival))
 weights-from d =
     let n = length (d .survival) in
     let m = length (d .systems) in
     length-append (headerOf n m) (allBytes survivalBytes (d .survival)) ∙ rw (header-length n m, all-length survivalBytes (d .survival))
 
-systems-from : (d : Deck) → length (toSystems d) ≡ weightsOffset (length (d .survival)) + weightBytes * length (d .weights)
+pub systems-from : (d : Deck) → length (toSystems d) ≡ weightsOffset (length (d .survival)) + weightBytes * length (d .weights)
 systems-from d = length-append (toWeights d) (allBytes weightBytes (d .weights)) ∙ rw (weights-from d, all-length weightBytes (d .weights))
 
 pub file-length : (d : Deck) → length (fileOf d) ≡ weightsOffset (length (d .survival)) + weightBytes * length (d .weights) + systemBytes * length (d .systems)

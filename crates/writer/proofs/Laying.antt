@@ -41,6 +41,10 @@ module _ (at : ℕ) (room : List ℕ) where
         append-assoc (take at room) xs ys,
       )
 
+pub laid-next : (at next : ℕ) (room xs ys : List ℕ) {between last : List ℕ} → between ≡ laid at xs room → last ≡ laid next ys between
+    → next ≡ at + length xs → at ≤ length room → last ≡ laid at (xs ++ ys) room
+laid-next at next room xs ys one two e fits = two ∙ ap (laid next ys) one ∙ laid-more at room xs ys next e fits
+
 -- laid from the front on
 pub laid-front : (bytes room : List ℕ) → laid 0 bytes room ≡ bytes ++ drop (length bytes) room
 unfolding laid
