@@ -2,7 +2,7 @@
 -- and it tells the answer: ranges and refusals never collide. Assumes nothing.
 use mathlib.Core.Path.{_≡_, sym, ap, ap₂, _∙_}
 use mathlib.Core.Bool.{Bool, true, false, cond}
-use mathlib.Core.List.{List, [], _∷_}
+use mathlib.Core.List.{List}
 use Prim.Native.Nat.{ℕ, _≤_}
 use native.Mathlib.Omega.{arith}
 use lib.ListN.{replicate}
@@ -12,30 +12,20 @@ use Rattle.rules.specs.declared.Rating.the-variants.{Range, Refused}
 use Rattle.rules.specs.State.{S}
 use Rattle.rules.specs.Figure.{figure}
 use Rattle.rules.specs.Asked.{Asked, partOf, weightsOf}
-use Rattle.rules.specs.Refusal.{cells, firstOf, figuresRefusal}
+use Rattle.rules.specs.Refusal.{cells, figuresRefusal}
 use Rattle.rules.specs.Answer.{figuresOf}
 use Rattle.rules.specs.File.{Deck, askedBy, badNumber, fileRefusal, systemOf, packed, loadingOf}
 use Rattle.rules.proofs.Unless.{unless-by}
 use Rattle.rules.proofs.Conditions.{figure-within}
-use Rattle.rules.proofs.Accepted.{figures-ratable}
+use Rattle.rules.proofs.Accepted.{first-le, first-none, figures-ratable}
 use Rattle.loading.specs.Outcome.{Answered}
 use Rattle.loading.specs.Packing.{mostRefusal, Packable}
-
--- a refusal of a list of conditions is 0 or one of the list's numbers
-first-le : (n : ℕ) (b : Bool) (cs : List (ℕ × Bool)) → n ≤ mostRefusal → firstOf cs ≤ mostRefusal → firstOf ((n, b) ∷ cs) ≤ mostRefusal
-unfolding firstOf
-first-le n true cs h l = h
-first-le n false cs h l = l
-
-first-none : firstOf [] ≤ mostRefusal
-unfolding firstOf
-first-none = omega arith
 
 figures-le : (q : Asked) (table : List ℕ) → figuresRefusal q table ≤ mostRefusal
 unfolding figuresRefusal
 figures-le q table =
     first-le 1 _ _ (omega arith) (first-le 2 _ _ (omega arith) (first-le 3 _ _ (omega arith) (first-le 4 _ _ (omega arith)
-    (first-le 5 _ _ (omega arith) (first-le 6 _ _ (omega arith) (first-le 7 _ _ (omega arith) first-none))))))
+    (first-le 5 _ _ (omega arith) (first-le 6 _ _ (omega arith) (first-le 7 _ _ (omega arith) (first-none mostRefusal)))))))
 
 pub figures-packable : (q : Asked) (table : List ℕ) → Packable (figuresOf q table)
 unfolding figuresOf
@@ -53,7 +43,7 @@ unfolding loadingOf fileRefusal
 loading-packable bytes s =
     unless-by Packable _ Refused _
     (first-le 10 _ _ (omega arith) (first-le 11 _ _ (omega arith) (first-le 2 _ _ (omega arith) (first-le 12 _ _ (omega arith)
-    (first-le 13 _ _ (omega arith) first-none)))))
+    (first-le 13 _ _ (omega arith) (first-none mostRefusal))))))
     (λ e. numbered (badNumber bytes s) _ (system-packable _ _))
   where
     numbered : (b : Bool) (answer : Rating) → Packable answer → Packable (cond b (Refused 14) answer)

@@ -2,7 +2,7 @@
 -- definitions, so the third condition holds of them. Assumes nothing.
 use mathlib.Core.Path.{_≡_, refl}
 use mathlib.Core.Bool.{Bool, true, false, not}
-use mathlib.Core.List.{List, _∷_}
+use mathlib.Core.List.{List, [], _∷_}
 use Prim.Native.Nat.{ℕ, zero, suc, _-_, _≤_}
 use native.Mathlib.Omega.{arith}
 use lib.Dec.{eqb, ltb}
@@ -35,6 +35,16 @@ first-of n b cs e = rw e
 pub first-after : (n : ℕ) (b : Bool) (cs : List (ℕ × Bool)) → b ≡ false → firstOf ((n, b) ∷ cs) ≡ firstOf cs
 unfolding firstOf
 first-after n b cs e = rw e
+
+-- a refusal of a list of conditions is 0 or one of the list's numbers
+pub first-le : {most : ℕ} (n : ℕ) (b : Bool) (cs : List (ℕ × Bool)) → n ≤ most → firstOf cs ≤ most → firstOf ((n, b) ∷ cs) ≤ most
+unfolding firstOf
+first-le n true cs h l = h
+first-le n false cs h l = l
+
+pub first-none : (most : ℕ) → firstOf [] ≤ most
+unfolding firstOf
+first-none most = omega arith
 
 -- an answer that is a range is no refusal, and is the definitions' range
 pub answered : (r low high : ℕ) (answer : Rating) → unless r Refused answer ≡ Range low high → (r ≡ 0) × (answer ≡ Range low high)

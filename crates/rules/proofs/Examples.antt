@@ -1,7 +1,7 @@
--- Document 01, "Proved examples": A to K as one table, and one theorem that every row of it holds, computed by the checker; and a
--- second one, of worths, which document 01 does not know. Assumes nothing.
+-- Document 01, "Proved examples": A to K as one table, and one theorem that every row of it holds, computed by the checker; and two
+-- more, of worths and of the writer, which document 01 does not know. Assumes nothing.
 use mathlib.Core.Path.{_≡_, refl}
-use mathlib.Core.List.{List, [], _∷_}
+use mathlib.Core.List.{List, [], _∷_, _++_}
 use Prim.Native.Nat.{ℕ, suc, _^_}
 use lib.Count.{ones}
 use Rattle.rules.specs.declared.Rule.{Rule}
@@ -12,6 +12,8 @@ use Rattle.rules.specs.declared.Rating.the-variants.{Range}
 use Rattle.rules.specs.declared.Worth.{Worth}
 use Rattle.rules.specs.declared.Worth.the-variants as worth
 use Rattle.rules.specs.declared.Worth.the-variants.{Ends}
+use Rattle.rules.specs.declared.Writing.the-variants as writing
+use Rattle.rules.specs.declared.Writing.the-variants.{Written}
 use Rattle.rules.specs.Below.{sumBelow, held, some, first, listBelow, total}
 use Rattle.rules.specs.State.{S, ruleOf, numberOf}
 use Rattle.rules.specs.Verdict.{weightDown, someWindow, twoNear, fails, firstWindow, firstNear, placeOf}
@@ -23,6 +25,8 @@ use Rattle.rules.specs.Asked.{askedOf}
 use Rattle.rules.specs.Refusal.{cells, after, aboveUnit, weightsOut, ranged, firstOf, verdictRefusal, figuresRefusal}
 use Rattle.rules.specs.Answer.{unless, judgment, verdictOf, figuresOf}
 use Rattle.rules.specs.Worth.{worthOf}
+use Rattle.rules.specs.File.{bytesOf, allBytes, headerOf, systemNumbers, systemsOf, fileOf}
+use Rattle.rules.specs.Writing.{Typed, typedOf, bytesFor, writeRefusal, writingOf, roomWritten}
 use lib.IntN.{pos, negℤ}
 use lib.ListN.{length, replicate}
 
@@ -76,6 +80,30 @@ pub worths : (weighed (ruleOf 1 1 0) 2 3 four 2 ≡ Ends (pos (2 ^ 29)) (pos (2 
     × (weighed (ruleOf 3 0 0) 1 1 four 1 ≡ Ends (negℤ (pos S)) (negℤ (pos S)))
 unfolding sumBelow held some listBelow total numberOf someWindow twoNear fails weightDown ones moved ended readingOf rounded value stretch aboveUnit weightsOut ranged firstOf after figuresRefusal unless worthOf
 worths = (refl, refl, refl, refl, refl, refl, refl)
+
+-- request 01: document 01's file in hex as the office types it, its room full, one byte short and one long, and the order of refusals
+abbrev three : Typed
+three = typedOf (2 ^ 29 ∷ 2 ^ 29 ∷ 2 ^ 29 ∷ []) (0 ∷ 0 ∷ 0 ∷ []) (1 ∷ 2 ∷ 0 ∷ 1 ∷ 3 ∷ 4 ∷ 2 ∷ 0 ∷ 1 ∷ 3 ∷ 4 ∷ 4 ∷ 0 ∷ 1 ∷ 3 ∷ [])
+
+abbrev printed : List ℕ
+printed =
+    1 ∷ 0 ∷ 0 ∷ 0 ∷ 3 ∷ 0 ∷ 3 ∷ 0 ∷ 20 ∷ 0 ∷ 0 ∷ 0 ∷ 32 ∷ 0 ∷ 0 ∷ 0 ∷ 38 ∷ 0 ∷ 0 ∷ 0
+    ∷ 0 ∷ 0 ∷ 0 ∷ 32 ∷ 0 ∷ 0 ∷ 0 ∷ 32 ∷ 0 ∷ 0 ∷ 0 ∷ 32 ∷ 0 ∷ 0 ∷ 0 ∷ 0 ∷ 0 ∷ 0
+    ∷ 1 ∷ 0 ∷ 2 ∷ 0 ∷ 0 ∷ 0 ∷ 1 ∷ 0 ∷ 3 ∷ 0
+    ∷ 4 ∷ 0 ∷ 2 ∷ 0 ∷ 0 ∷ 0 ∷ 1 ∷ 0 ∷ 3 ∷ 0
+    ∷ 4 ∷ 0 ∷ 4 ∷ 0 ∷ 0 ∷ 0 ∷ 1 ∷ 0 ∷ 3 ∷ 0
+    ∷ []
+
+pub writings : (bytesFor three ≡ printed)
+    × (writingOf three (replicate 68 7) ≡ Written 68)
+    × (roomWritten three (replicate 69 7) ≡ printed ++ (7 ∷ []))
+    × (writingOf three (replicate 67 7) ≡ writing.Refused 16)
+    × (roomWritten three (replicate 67 7) ≡ replicate 67 7)
+    × (writingOf (typedOf [] (1 ∷ []) []) [] ≡ writing.Refused 2)
+    × (writingOf (typedOf (S ∷ []) [] []) [] ≡ writing.Refused 5)
+    × (writingOf (typedOf (S ∷ []) (1 ∷ []) (1 ∷ 1 ∷ 0 ∷ 1 ∷ [])) [] ≡ writing.Refused 12)
+unfolding listBelow bytesOf allBytes headerOf systemNumbers systemsOf fileOf firstOf writeRefusal unless writingOf roomWritten
+writings = (refl, refl, refl, refl, refl, refl, refl, refl)
 
 pub examples : All table
 unfolding All Holds table sumBelow held some first firstWindow firstNear placeOf judgment listBelow total numberOf someWindow twoNear fails weightDown ones countIf countsOf moved ended readingOf rounded value stretch aboveUnit weightsOut ranged firstOf verdictRefusal figuresRefusal unless verdictOf figuresOf

@@ -23,7 +23,7 @@ returns : tie.Need-returns
 returns c = rw (c .before .rating .given .1)
 
 returns-2 : tie.Need-returns-2
-returns-2 c = rw (c .before .rating2 .given .1)
+returns-2 c = rw (c .before .before .rating2 .given .1) (c .packed .ensures)
 
 pub pack-spec : {M : Type 1} → statement M
 pack-spec =

@@ -1,0 +1,2 @@
+-- What the office's call cites: its outcome.
+pub mod Outcome
