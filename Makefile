@@ -11,11 +11,20 @@ sources := crates.txt $(shell find crates -name must-fail -prune -o -print)
 programs := $(filter-out %_cases,$(patsubst crates/%/src/main.rt,%,$(wildcard crates/*/src/main.rt)))
 proved := $(programs:%=target/stamp/%)
 linked := $(programs:%=target/programs/%)
-library := target/lib/libfoambeetle.a target/lib/libfoambeetle.so.$(version) target/lib/foambeetle.h
+# the libraries: the crate whose calls each exports, and what it is for
+libraries := foambeetle foambeetle_office
+crate_of_foambeetle := loading
+about_foambeetle := How likely it is that a deck's fans last the voyage
+crate_of_foambeetle_office := office
+about_foambeetle_office := Writes the deck file that the ship reads
+archives := $(libraries:%=target/lib/lib%.a)
+shared := $(libraries:%=target/lib/lib%.so.$(version))
+headers := $(libraries:%=target/lib/%.h)
 pages := $(wildcard man/*.[0-9])
 place = $(DESTDIR)$(PREFIX)
-installed := $(programs:%=bin/%) include/foambeetle.h lib/libfoambeetle.a lib/libfoambeetle.so lib/libfoambeetle.so.$(major) \
-    lib/libfoambeetle.so.$(version) lib/pkgconfig/foambeetle.pc $(foreach page,$(pages),share/man/man$(subst .,,$(suffix $(page)))/$(notdir $(page)))
+library_files = include/$(1).h lib/lib$(1).a lib/lib$(1).so lib/lib$(1).so.$(major) lib/lib$(1).so.$(version) lib/pkgconfig/$(1).pc
+installed := $(programs:%=bin/%) $(foreach name,$(libraries),$(call library_files,$(name))) \
+    $(foreach page,$(pages),share/man/man$(subst .,,$(suffix $(page)))/$(notdir $(page)))
 progress := tests/progress.py target/build.log
 # a compiler for x86-64, and the kit's C code for programs that take words or open files
 cc = $(shell tests/tools.sh | head -n 1)
@@ -36,16 +45,22 @@ run: target/stamp/decklist ## prints a deck's figures (DECK=file; samples/hold1.
 test: ## the gate: every proof from nothing, every must-fail edit, every program, the other tests; log in target/ci.log
 	@tests/all.sh
 
-lib: $(library) ## target/lib: libfoambeetle.a, libfoambeetle.so and foambeetle.h, for C on x86-64
+lib: $(archives) $(shared) $(headers) ## target/lib: libfoambeetle for the ship, libfoambeetle_office for ashore, .a, .so and .h, for C on x86-64
 
-install: lib $(linked) ## programs, library, header and man pages to PREFIX (/usr/local), below DESTDIR where it is given
+# a library's names without its version, and its pkg-config file
+define put_beside
+@ln -sf lib$(1).so.$(version) "$(place)/lib/lib$(1).so.$(major)"
+@ln -sf lib$(1).so.$(version) "$(place)/lib/lib$(1).so"
+@sed -e "s|@PREFIX@|$(PREFIX)|" -e "s|@VERSION@|$(version)|" -e "s|@NAME@|$(1)|" -e "s|@ABOUT@|$(about_$(1))|" include/library.pc.in > "$(place)/lib/pkgconfig/$(1).pc"
+
+endef
+
+install: lib $(linked) ## programs, libraries, headers and man pages to PREFIX (/usr/local), below DESTDIR where it is given
 	@mkdir -p $(foreach folder,$(sort $(dir $(installed))),"$(place)/$(folder)")
 	@install -m 755 $(linked) "$(place)/bin"
-	@install -m 644 target/lib/foambeetle.h "$(place)/include"
-	@install -m 644 target/lib/libfoambeetle.a target/lib/libfoambeetle.so.$(version) "$(place)/lib"
-	@ln -sf libfoambeetle.so.$(version) "$(place)/lib/libfoambeetle.so.$(major)"
-	@ln -sf libfoambeetle.so.$(version) "$(place)/lib/libfoambeetle.so"
-	@sed -e "s|@PREFIX@|$(PREFIX)|" -e "s|@VERSION@|$(version)|" include/foambeetle.pc.in > "$(place)/lib/pkgconfig/foambeetle.pc"
+	@install -m 644 $(headers) "$(place)/include"
+	@install -m 644 $(archives) $(shared) "$(place)/lib"
+	$(foreach name,$(libraries),$(call put_beside,$(name)))
 	@for page in $(pages); do install -m 644 "$$page" "$(place)/share/man/man$${page##*.}/" || exit 1; done
 	@echo "installed below $(place): $(installed)"
 
@@ -67,19 +82,20 @@ $(linked): target/programs/%: target/stamp/%
 	@mkdir -p $(@D)
 	@$(cc) -static -o $@ target/obj/$*.o $(kit_code)
 
-target/staticlib/libloading.a: $(sources)
-	@$(progress) rt staticlib loading
+$(foreach name,$(libraries),target/staticlib/lib$(crate_of_$(name)).a): target/staticlib/lib%.a: $(sources)
+	@$(progress) rt staticlib $*
 
-target/lib/libfoambeetle.a: target/staticlib/libloading.a
+$(foreach name,$(libraries),$(eval target/lib/lib$(name).a: target/staticlib/lib$(crate_of_$(name)).a))
+$(archives):
 	@mkdir -p $(@D)
 	@cp $< $@
 
-target/lib/foambeetle.h: include/foambeetle.h
+$(headers): target/lib/%: include/%
 	@mkdir -p $(@D)
 	@cp $< $@
 
-target/lib/libfoambeetle.so.$(version): target/lib/libfoambeetle.a
-	@$(cc) -shared -nostartfiles -Wl,-soname,libfoambeetle.so.$(major),--no-undefined -Wl,-z,noexecstack \
+$(shared): target/lib/lib%.so.$(version): target/lib/lib%.a
+	@$(cc) -shared -nostartfiles -Wl,-soname,lib$*.so.$(major),--no-undefined -Wl,-z,noexecstack \
 	    -o $@ -Wl,--whole-archive $< -Wl,--no-whole-archive
-	@ln -sf $(@F) $(@D)/libfoambeetle.so.$(major)
-	@ln -sf $(@F) $(@D)/libfoambeetle.so
+	@ln -sf $(@F) $(@D)/lib$*.so.$(major)
+	@ln -sf $(@F) $(@D)/lib$*.so

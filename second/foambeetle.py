@@ -17,6 +17,7 @@ MOST_WEIGHT = 120  # document 01, 'The seven verdicts': "their total at most 120
 TABLE_CELLS = 7800  # document 01, 'Refusal numbers', row 7
 MOST_SYSTEMS = 32  # document 01, 'Refusal numbers', row 12
 HEADER_BYTES = 20  # document 01, 'Deck file and printing'
+SYSTEM_NUMBERS = 5  # document 01, 'Deck file and printing': "kind, first, second, a, b"
 KINDS = range(1, 8)  # document 01, 'Refusal numbers', row 1
 WORKS = "works"
 DEAD = "dead"
@@ -563,9 +564,46 @@ def deck_bytes(deck):
     fields = [(1, 2), (0, 2), (n, 2), (m, 2), (at_survivals, 4), (at_weights, 4), (at_systems, 4)]
     fields += [(survival, 4) for survival in deck.survivals]
     fields += [(weight, 2) for weight in deck.weights]
-    for system in deck.systems:
-        fields += [(number, 2) for number in (*system.rule, system.a, system.b)]
+    fields += [(number, 2) for number in system_numbers(deck.systems)]
     return b"".join(number.to_bytes(size, "little") for number, size in fields)
+
+
+def system_numbers(systems):
+    # document 01, 'Deck file and printing': "kind, first, second, a, b", one system after the other
+    return [number for system in systems for number in (*system.rule, system.a, system.b)]
+
+
+def listed_systems(numbers):
+    # document 01, 'Deck file and printing': "kind, first, second, a, b"
+    fives = [numbers[at:at + SYSTEM_NUMBERS] for at in range(0, len(numbers), SYSTEM_NUMBERS)]
+    return [System(Rule(kind, first, second), a, b) for kind, first, second, a, b in fives]
+
+
+def part_system(numbers):
+    # document 02, request 01: "a part system too"
+    return len(numbers) % SYSTEM_NUMBERS != 0
+
+
+def write_refusal(survivals, weights, numbers, room):
+    # document 02, request 01: "Refusals: 2, weights' length not n as 5, 12 (a part system too), then 16, room too short, in that order"
+    n, m = len(survivals), len(numbers) // SYSTEM_NUMBERS
+    if bad_length(n):
+        return 2
+    if len(weights) != n:
+        return 5
+    if part_system(numbers) or not 1 <= m <= MOST_SYSTEMS:
+        return 12
+    return 16 if len(room) < layout(n, m)[-1] else None
+
+
+def write_deck(survivals, weights, numbers, room):
+    """The length or the refusal, and the room afterwards."""
+    # document 02, request 01: "bytes out into lent room, whose rest stays untouched", "nothing is written on any of them"
+    number = write_refusal(survivals, weights, numbers, room)
+    if number:
+        return Refusal(number), room
+    data = deck_bytes(Deck(survivals, weights, listed_systems(numbers)))
+    return len(data), data + room[len(data):]
 
 
 def rate_system(deck, system):

@@ -15,8 +15,8 @@ from files import DAMAGES, random_deck, random_files
 from foambeetle import (
     DEAD, KINDS, ROWS, TABLE_CELLS, UNIT, WORKS, Deck, Fails, Refusal, Rule, System, bad_rule,
     count_slots_after, count_table, counts_by_choice, counts_by_reading, counts_by_words, deck_bytes,
-    decklist_output, deckworth_output, exact_sum, exact_sum_by_words, fails, figures, file_refusal, line_windows, low_and_high,
-    low_and_high_by_words, pascal_row, rate, read_deck, verdict, working_table_after, worth, worth_of_file,
+    decklist_output, deckworth_output, exact_sum, exact_sum_by_words, fails, figures, file_refusal, line_windows, listed_systems, low_and_high,
+    low_and_high_by_words, pascal_row, rate, read_deck, system_numbers, verdict, working_table_after, worth, worth_of_file, write_deck,
 )
 from published import DECK_FILE, DECK_LINES
 from samples import all_rules, longer_windows, random_rule, random_survivals, random_weights, rules_in_range, short_lines
@@ -478,6 +478,37 @@ def printed_and_packed():
     yield seen, {0, 1, 3, 4, 5, 6}
 
 
+def decks_written():
+    """What is written reads back as the same deck, and an accepted file written again is the same, in rooms of any length that suffices."""
+    # document 02, request 01: "What it writes, the reader reads back as the same deck, and an accepted file written again gives the same bytes"
+    rng = random.Random(31)
+    for data in [DECK_FILE, *list(random_files(32, 120))[::2]]:
+        deck = read_deck(data)
+        numbers = system_numbers(deck.systems)
+        yield listed_systems(numbers), deck.systems
+        for more in (0, 1, rng.randrange(900)):
+            room = bytes(rng.randrange(256) for _ in range(len(data) + more))
+            yield write_deck(deck.survivals, deck.weights, numbers, room), (len(data), data + room[len(data):])
+        yield write_deck(deck.survivals, deck.weights, numbers, room[:len(data) - 1]), (Refusal(16), room[:len(data) - 1])
+
+
+def refusals_of_writing():
+    # document 02, request 01: "2, weights' length not n as 5, 12 (a part system too), then 16, room too short, in that order"
+    short, room = b"\7" * 35, b"\7" * 36
+    five = [9, 0, 0, 0, 0]
+    cases = (
+        ([], [1], [], b"", 2), ([], [], five, room, 2), ([0] * 65, [0] * 65, five, b"\7" * 9999, 2), ([0] * 65, [], [], b"", 2),
+        ([0], [], [], b"", 5), ([0], [1, 1], five[:4], short, 5), ([0] * 64, [0] * 63, five, b"\7" * 9999, 5),
+        ([0], [1], [], short, 12), ([0], [1], five[:4], short, 12), ([0], [1], five + [1], room + room, 12), ([0], [1], five * 33, room * 12, 12),
+        ([0], [1], five, short, 16), ([0], [1], five, b"", 16), ([0], [1], five * 2, room + b"\7" * 9, 16),
+    )
+    for survivals, weights, numbers, lent, number in cases:
+        yield write_deck(survivals, weights, numbers, lent), (Refusal(number), lent)
+    # "It doesn't judge rules or survival numbers"
+    yield write_deck([2 ** 32 - 1], [65535], [65535] * 5, room)[0], 36
+    yield write_deck([0] * 64, [0] * 64, five * 32, b"\7" * 724)[0], 724
+
+
 def header_damage():
     # document 01, 'Refusal numbers': "A file is checked 10, 11, 2, 12, 13", the earlier wins
     order = ((0, 2, 11), (2, 1, 11), (4, 0, 2), (4, 65, 2), (6, 0, 12), (6, 33, 12), (8, 21, 13),
@@ -516,7 +547,7 @@ GROUPS = (
     published_figures, table_1_exactly, example_file, traps, source_equations, pascal, verdicts_three_ways, places_two_ways, long_verdicts_three_ways,
     counts_three_ways, enclosure, figures_two_ways, lines_no_longer_than_the_window, rules_accepted, refusals_of_calls,
     refusals_of_states_and_counts, stretches_read_inside_only, deck_files, printed_and_packed,
-    header_damage, lent_tables, worths_by_words, worths_of_parts, plain_worths, refusals_of_worths, worths_of_files,
+    decks_written, refusals_of_writing, header_damage, lent_tables, worths_by_words, worths_of_parts, plain_worths, refusals_of_worths, worths_of_files,
 )
 
 

@@ -20,9 +20,12 @@ def rated_lines(data):
     return decklist_output(data).split("\n", 1)[1]
 
 
-# The programs, and the C samples of the library's calls, each with what the second program prints for it.
+# The libraries, for the ship and for the office.
+SHIP, OFFICE = LIBRARIES = "foambeetle", "foambeetle_office"
+# The programs, and the C samples of the ship's calls, each with what the second program prints for it; the sample of the office's, which writes EXAMPLE.
 PROGRAMS = {"decklist": decklist_output, "deckworth": deckworth_output}
 SAMPLES = {"rate": rated_lines, "worth": deckworth_output}
+WRITER, EXAMPLE = "write", "example.deck"
 
 
 def run(words, data=b"", **more):
@@ -59,10 +62,10 @@ def build(source, program, *words, compiler=None, standard="-std=c99"):
     return room / program
 
 
-def static(source, program):
-    """The same, linked with the library's archive into one file; the words that start it."""
-    library = root / "target/lib"
-    return [*tools()[1], build(source, program, "-static", f"-I{library}", library / "libfoambeetle.a")]
+def static(source, program, library=SHIP):
+    """The same, linked with a library's archive into one file; the words that start it."""
+    folder = root / "target/lib"
+    return [*tools()[1], build(source, program, "-static", f"-I{folder}", folder / f"lib{library}.a")]
 
 
 def decks():
@@ -77,6 +80,11 @@ def compare_samples(what, words, output, by_name=False):
     """The sample decks through a program, each on its standard input, and where the program opens it itself by its name too."""
     got = [run([*words, *([deck] if by_name else [])], deck.read_bytes()).decode() for deck in decks()]
     return compare(f"samples through {what}", got, [output(deck.read_bytes()) for deck in decks()])
+
+
+def compare_example(what, words):
+    """The office's sample, which writes the scope document's deck."""
+    return compare(f"the example written by {what}", [run(words)], [(root / "samples" / EXAMPLE).read_bytes()])
 
 
 def reported(wrong, said):

@@ -1,11 +1,11 @@
-"""What make install puts below a folder: programs that start without the kit, a library that a program finds by pkg-config, man pages. make
+"""What make install puts below a folder: programs that start without the kit, libraries that a program finds by pkg-config, man pages. make
 uninstall takes all of it away again."""
 
 import os
 import shutil
 import sys
 
-from common import PROGRAMS, SAMPLES, build, compare_samples, held, make, room, root, run, sample, tools
+from common import LIBRARIES, OFFICE, PROGRAMS, SAMPLES, SHIP, WRITER, build, compare_example, compare_samples, held, make, room, root, run, sample, tools
 
 STAGE = room / "stage"
 PREFIX = "/usr"
@@ -23,21 +23,27 @@ def alone(program):
 
 
 def pkg_config_version():
-    """The pkg-config file names the version of the file VERSION."""
-    lines = (PLACE / "lib/pkgconfig/foambeetle.pc").read_text().splitlines()
-    return f"Version: {(root / 'VERSION').read_text().strip()}" in lines
+    """The pkg-config files name the version of the file VERSION."""
+    line = f"Version: {(root / 'VERSION').read_text().strip()}"
+    return all(line in (PLACE / f"lib/pkgconfig/{library}.pc").read_text().splitlines() for library in LIBRARIES)
 
 
 def pages_there():
-    """Every program has its man page."""
-    return all((PLACE / f"share/man/man1/{program}.1").exists() for program in PROGRAMS)
+    """Every program and every library has its man page."""
+    pages = [*(f"man1/{program}.1" for program in PROGRAMS), *(f"man3/{library}.3" for library in LIBRARIES)]
+    return all((PLACE / "share/man" / page).exists() for page in pages)
 
 
-def library_words():
+def library_words(library):
     """The words that pkg-config gives for what was installed."""
     own = {**os.environ, "PKG_CONFIG_LIBDIR": str(PLACE / "lib/pkgconfig"), "PKG_CONFIG_SYSROOT_DIR": str(STAGE), "PKG_CONFIG_ALLOW_SYSTEM_CFLAGS": "1",
            "PKG_CONFIG_ALLOW_SYSTEM_LIBS": "1"}
-    return run(["pkg-config", "--cflags", "--libs", "foambeetle"], env=own).decode().split()
+    return run(["pkg-config", "--cflags", "--libs", library], env=own).decode().split()
+
+
+def installed_sample(name, library):
+    """A C sample built with those words, and the words that start it."""
+    return [*tools()[1], build(sample(name), f"{name}_installed", "-static", *library_words(library))]
 
 
 def samples_agree():
@@ -45,10 +51,9 @@ def samples_agree():
     if shutil.which("pkg-config") is None:
         print("skipped: programs built by pkg-config, which is not there")
         return True
-    good = True
+    good = compare_example("the installed library", installed_sample(WRITER, OFFICE))
     for name, output in SAMPLES.items():
-        program = build(sample(name), f"{name}_installed", "-static", *library_words())
-        good &= compare_samples(f"the installed library, by {name}", [*tools()[1], program], output, by_name=True)
+        good &= compare_samples(f"the installed library, by {name}", installed_sample(name, SHIP), output, by_name=True)
     return good
 
 

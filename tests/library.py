@@ -1,4 +1,4 @@
-"""The library as C programs meet it: it exports the header's calls and nothing else, needs memcpy and memset alone, and answers in a static
+"""Each library as C programs meet it: it exports its header's calls and nothing else, needs memcpy and memset alone, and answers in a static
 program, a position-independent one, over the shared library, from C++ and through Python's ctypes.
 
 Where the machine is not x86-64 the programs run under the emulator; what cannot is skipped with a line that says so.
@@ -11,20 +11,27 @@ import shutil
 import sys
 from pathlib import Path
 
-from common import SAMPLES, build, compare, compare_samples, decks, make, root, run, sample, static, tools
+from common import LIBRARIES, OFFICE, SAMPLES, SHIP, WRITER, build, compare, compare_example, compare_samples, decks, make, root, run, sample, static, tools
 
-from foambeetle import Refusal, rate, read_deck, worth_of_file
+from foambeetle import Refusal, rate, read_deck, system_numbers, worth_of_file, write_deck
 
 LIBRARY = root / "target/lib"
-SHARED = LIBRARY / "libfoambeetle.so"
 NEEDED = {"memcpy", "memset"}
 NATIVE = platform.machine() == "x86_64"
 HERE = f"-I{LIBRARY}", f"-L{LIBRARY}", f"-Wl,-rpath,{LIBRARY}"
 
 
-def header_calls():
+def archive(library):
+    return LIBRARY / f"lib{library}.a"
+
+
+def shared(library):
+    return LIBRARY / f"lib{library}.so"
+
+
+def header_calls(library):
     """The functions that the header declares and does not define."""
-    text = re.sub(r"/\*.*?\*/", "", (LIBRARY / "foambeetle.h").read_text(), flags=re.S)
+    text = re.sub(r"/\*.*?\*/", "", (LIBRARY / f"{library}.h").read_text(), flags=re.S).replace('extern "C" {', "")
     return set(re.findall(r"\b(foambeetle_\w+)\([^()]*\);", re.sub(r"\{[^{}]*\}", "", text)))
 
 
@@ -35,14 +42,13 @@ def symbols(*words):
     return {line.split()[0].partition("@")[0] for line in lines if not line.endswith(":")}
 
 
-def names():
+def names(library):
     """What the archive and the shared library export and need, against the header."""
-    archive = LIBRARY / "libfoambeetle.a"
-    exported = [symbols("--extern-only", "--defined-only", archive), symbols("--dynamic", "--extern-only", "--defined-only", SHARED)]
-    needed = [symbols("--undefined-only", archive), symbols("--dynamic", "--undefined-only", SHARED)]
-    good = all(found == header_calls() for found in exported) and all(found <= NEEDED for found in needed)
-    print(f"exported {exported}, needed {needed}, the header's calls {header_calls()}")
-    return good
+    exported = [symbols("--extern-only", "--defined-only", archive(library)), symbols("--dynamic", "--extern-only", "--defined-only", shared(library))]
+    needed = [symbols("--undefined-only", archive(library)), symbols("--dynamic", "--undefined-only", shared(library))]
+    calls = header_calls(library)
+    print(f"{library}: exported {exported}, needed {needed}, the header's calls {calls}")
+    return all(found == calls for found in exported) and all(found <= NEEDED for found in needed)
 
 
 def starter():
@@ -53,18 +59,18 @@ def starter():
     return [*tools()[1], loader, "--library-path", f"{loader.parent}:{LIBRARY}"]
 
 
-def built(name):
+def built(name, library):
     """A C sample, built each way: what to call it, and the words that start it."""
     source = sample(name)
-    yield "a static program", static(source, f"{name}_static")
-    pie = build(source, f"{name}_pie", "-pie", "-fPIE", *HERE, LIBRARY / "libfoambeetle.a")
+    yield "a static program", static(source, f"{name}_static", library)
+    pie = build(source, f"{name}_pie", "-pie", "-fPIE", *HERE, archive(library))
     yield "a position-independent program", [*starter(), pie]
-    yield "the shared library", [*starter(), build(source, f"{name}_shared", *HERE, "-lfoambeetle")]
+    yield "the shared library", [*starter(), build(source, f"{name}_shared", *HERE, f"-l{library}")]
     plus = tools()[0].removesuffix("gcc") + "g++"
     if shutil.which(plus) is None:
         print(f"skipped: the library from C++, since there is no {plus}")
         return
-    yield "C++", [*starter(), build(source, f"{name}_plus", *HERE, "-lfoambeetle", compiler=plus, standard="-std=c++17")]
+    yield "C++", [*starter(), build(source, f"{name}_plus", *HERE, f"-l{library}", compiler=plus, standard="-std=c++17")]
 
 
 def rated_by_ctypes(library, data, system):
@@ -82,8 +88,26 @@ def worth_by_ctypes(library, data, system, fan):
     return Refusal(refusal) if refusal and tuple(ends) == before else tuple(ends)
 
 
+def written_by_ctypes(library, survivals, weights, numbers, room):
+    """The answer, and the room afterwards."""
+    lists = (ctypes.c_uint32, survivals), (ctypes.c_uint16, weights), (ctypes.c_uint16, numbers), (ctypes.c_uint8, room)
+    lent = [(kind * len(values))(*values) for kind, values in lists]
+    call = library.foambeetle_write
+    call.argtypes, call.restype = [word for one in lent for word in (type(one), ctypes.c_size_t)], ctypes.c_uint64
+    answer = call(*(word for one in lent for word in (one, len(one))))
+    return answer, bytes(lent[-1])
+
+
+def python_written():
+    """The sample decks, written again."""
+    library = ctypes.CDLL(str(shared(OFFICE)))
+    found = [read_deck(deck.read_bytes()) for deck in decks()]
+    typed = [(deck.survivals, deck.weights, system_numbers(deck.systems), b"\7" * 800) for deck in found]
+    return compare("decks written through ctypes", [written_by_ctypes(library, *one) for one in typed], [write_deck(*one) for one in typed])
+
+
 def python_answers():
-    library = ctypes.CDLL(str(SHARED))
+    library = ctypes.CDLL(str(shared(SHIP)))
     asked = [(deck.read_bytes(), system) for deck in decks() for system in range(len(read_deck(deck.read_bytes()).systems) + 2)]
     good = compare("answers through ctypes", [rated_by_ctypes(library, *one) for one in asked], [rate(*one) for one in asked])
     fans = [(data, system, fan) for data, system in asked for fan in (0, 1, len(read_deck(data).survivals), 2 ** 64 - 1)]
@@ -92,14 +116,16 @@ def python_answers():
 
 def main():
     make("lib")
-    good = names()
+    good = all([names(library) for library in LIBRARIES])
     for name, output in SAMPLES.items():
-        for what, words in built(name):
+        for what, words in built(name, SHIP):
             good &= compare_samples(f"{what}, by {name}", words, output, by_name=True)
+    for what, words in built(WRITER, OFFICE):
+        good &= compare_example(what, words)
     if NATIVE:
-        good &= python_answers()
+        good &= python_answers() & python_written()
     else:
-        print(f"skipped: the shared library through ctypes, since this Python is for {platform.machine()}")
+        print(f"skipped: the shared libraries through ctypes, since this Python is for {platform.machine()}")
     return 0 if good else 1
 
 

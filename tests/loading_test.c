@@ -9,23 +9,13 @@
  * last two lines are the deepest that each call went. */
 #define _GNU_SOURCE
 #include <inttypes.h>
-#include <signal.h>
-#include <stdio.h>
-#include <stdlib.h>
-#include <string.h>
-#include <sys/mman.h>
-#include <sys/resource.h>
-#include <sys/wait.h>
 #include <ucontext.h>
-#include <unistd.h>
 
 #include "foambeetle.h"
+#include "pages.h"
 
-/* As large as a page can be on the machines that this runs on, emulated or not. */
-#define PAGE 65536u
 /* Document 02, request 07. */
 #define STACK 70000u
-#define PAINT 0xa5
 #define ENDS (2 * sizeof(int64_t))
 /* The bytes of the ends' page that are looked at beside the ends. */
 #define BESIDE 256u
@@ -60,43 +50,6 @@ static struct {
     uint64_t rated, refused;
 } call;
 
-static void stop(const char *why) {
-    fprintf(stderr, "loading_test: %s\n", why);
-    exit(1);
-}
-
-/* Does reading this byte stop a program? */
-static int guarded(const uint8_t *byte) {
-    const struct rlimit no_core = {0, 0};
-    int status;
-    pid_t child = fork();
-
-    if (child < 0)
-        stop("cannot fork");
-    if (child == 0) {
-        setrlimit(RLIMIT_CORE, &no_core);
-        close(STDERR_FILENO);
-        _exit(*(const volatile uint8_t *)byte);
-    }
-    if (waitpid(child, &status, 0) != child)
-        stop("cannot wait");
-    return WIFSIGNALED(status) && WTERMSIG(status) == SIGSEGV;
-}
-
-/* So many pages that may be read and written, between two that may not. */
-static uint8_t *make_pages(size_t count) {
-    uint8_t *all = mmap(NULL, (count + 3) * PAGE, PROT_NONE, MAP_PRIVATE | MAP_ANONYMOUS, -1, 0);
-    uint8_t *pages = all + (PAGE - (uintptr_t)all % PAGE) % PAGE + PAGE;
-
-    if (all == MAP_FAILED)
-        stop("no memory for the guard pages");
-    if (mprotect(pages, count * PAGE, PROT_READ | PROT_WRITE))
-        stop("the pages cannot be made readable");
-    if (!guarded(pages - 1) || !guarded(pages + count * PAGE))
-        stop("the guard pages can be read");
-    return pages;
-}
-
 static void run_rate(void) {
     of_rate.top = __builtin_frame_address(0);
     call.rated = foambeetle_rate(call.file, call.length, call.asked.system);
@@ -109,7 +62,6 @@ static void run_worth(void) {
 
 static void make_stack(struct stack *stack) {
     stack->bytes = make_pages(STACK / PAGE + 1);
-    memset(stack->bytes, PAINT, STACK);
 }
 
 static void run_on(struct stack *stack, void (*run)(void)) {
@@ -139,14 +91,6 @@ static void make_calls(const uint8_t *file, size_t length, struct asked asked, u
     call.ends = (int64_t *)ends;
     run_on(&of_rate, run_rate);
     run_on(&of_worth, run_worth);
-}
-
-static int painted(const uint8_t *from, size_t length) {
-    size_t at = 0;
-
-    while (at < length && from[at] == PAINT)
-        at++;
-    return at == length;
 }
 
 /* Both calls with what they are lent at these places, and `beside` next to the ends: the answer, and nothing else changed. */
@@ -187,18 +131,6 @@ static void print_answer(struct asked asked, struct answer answer) {
         printf(" lower %" PRId64 " upper %" PRId64 "\n", answer.ends[0], answer.ends[1]);
 }
 
-/* A number of so many bytes; 0 at the end of the input. */
-static int read_number(unsigned size, uint64_t *number) {
-    uint8_t bytes[8];
-
-    *number = 0;
-    if (fread(bytes, 1, size, stdin) != size)
-        return 0;
-    while (size > 0)
-        *number = *number * 256 + bytes[--size];
-    return 1;
-}
-
 /* The answers to all that is asked of a file. */
 static void print_file(size_t length) {
     uint64_t count;
@@ -218,7 +150,6 @@ int main(void) {
 
     file_page = make_pages(1);
     ends_page = make_pages(1);
-    memset(ends_page, PAINT, PAGE);
     make_stack(&of_rate);
     make_stack(&of_worth);
     while (read_number(4, &length)) {

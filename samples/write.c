@@ -1,0 +1,26 @@
+/* Writes the deck of example.deck to standard output by the office's call: write > FILE */
+#include <stdio.h>
+
+#include "foambeetle_office.h"
+
+/* Three fans, each as likely to last as not, and three systems: kind, first, second, and the first and last fan of the stretch. */
+static const uint32_t survival[] = {FOAMBEETLE_UNIT / 2, FOAMBEETLE_UNIT / 2, FOAMBEETLE_UNIT / 2};
+static const uint16_t weights[] = {0, 0, 0};
+static const uint16_t systems[] = {
+    1, 2, 0, 1, 3,
+    4, 2, 0, 1, 3,
+    4, 4, 0, 1, 3,
+};
+
+#define COUNT(list) (sizeof(list) / sizeof(list)[0])
+
+int main(void) {
+    static uint8_t file[FOAMBEETLE_LONGEST_FILE];
+    uint64_t answer = foambeetle_write(survival, COUNT(survival), weights, COUNT(weights), systems, COUNT(systems), file, sizeof file);
+
+    if (foambeetle_refused(answer)) {
+        fprintf(stderr, "refused %u\n", (unsigned)foambeetle_refusal(answer));
+        return 1;
+    }
+    return fwrite(file, 1, (size_t)answer, stdout) != answer;
+}

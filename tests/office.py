@@ -1,0 +1,119 @@
+"""The office's call against the second program, byte for byte.
+
+2,000 random decks, each typed into a room that just suffices, one a byte longer and one a byte shorter, and with one thing wrong by turns, or two, so that
+the order of the refusals shows, go through a C program linked with libfoambeetle_office.a, with guard pages on either side of what it lends. What is
+written reads back as the deck that was typed.
+"""
+
+import random
+import struct
+import sys
+
+from common import OFFICE, compare, make, root, run, static
+
+from files import random_deck
+from foambeetle import Refusal, listed_systems, packed, read_deck, system_numbers, write_deck
+
+DECKS = 2000
+PAINT = b"\xa5"  # of tests/pages.h
+FIVE = [1, 1, 0, 1, 1]
+WORD = 2 ** 16
+
+
+def at_random(rng, deck):
+    """A deck's lists: as they are, or with numbers that a rating would refuse, since a writer judges none."""
+    typed = deck.survivals, deck.weights, system_numbers(deck.systems)
+    if rng.random() < 0.5:
+        return typed
+    return tuple([rng.randrange(most) for _ in numbers] for most, numbers in zip((2 ** 32, WORD, WORD), typed))
+
+
+def wrong_fans(rng, survivals, weights, numbers):
+    return rng.choice(([], survivals[:1] * 65, survivals[:1] * 70)), weights, numbers
+
+
+def wrong_fans_and_weights(rng, survivals, weights, numbers):
+    n = rng.choice((0, 65, 1000, WORD + len(survivals)))
+    return survivals[:1] * n, weights[:1] * n, numbers
+
+
+def wrong_weights(rng, survivals, weights, numbers):
+    return survivals, rng.choice((weights[1:], weights + [1], [], weights[:1] * (WORD + len(weights)))), numbers
+
+
+def wrong_systems(rng, survivals, weights, numbers):
+    return survivals, weights, rng.choice(([], FIVE * 33, FIVE * 64, FIVE[:1] * (5 * WORD + 5)))
+
+
+def part_systems(rng, survivals, weights, numbers):
+    left = rng.choice(([1], FIVE[:4]))
+    return survivals, weights, rng.choice((FIVE[:4], FIVE + [1], numbers + left, FIVE * 32 + left))
+
+
+DAMAGES = (wrong_fans, wrong_fans_and_weights, wrong_weights, wrong_systems, part_systems)
+
+
+def damaged(rng, typed):
+    """One thing wrong, or two."""
+    for damage in rng.sample(DAMAGES, rng.choice((1, 2))):
+        typed = damage(rng, *typed)
+    return typed
+
+
+def cases():
+    """What is typed, and the length of the room."""
+    rng = random.Random(41)
+    for _ in range(DECKS):
+        typed = at_random(rng, random_deck(rng))
+        length = 20 + 6 * len(typed[0]) + 2 * len(typed[2])
+        for more in (0, 1, -1, rng.randint(-length, 100)):
+            yield typed, length + more
+        yield damaged(rng, typed), rng.choice((0, length - 1, length, 9999))
+
+
+def to_write(typed, length):
+    """A case as tests/office_test.c reads it."""
+    survivals, weights, numbers = typed
+    sizes = *map(len, typed), length
+    return struct.pack(f"<4I{len(survivals)}I{len(weights)}H{len(numbers)}H", *sizes, *survivals, *weights, *numbers)
+
+
+def told(typed, length):
+    """The line that tests/office_test.c prints."""
+    answer, room = write_deck(*typed, PAINT * length)
+    return f"{packed(answer) if isinstance(answer, Refusal) else answer:x} {room.hex()}"
+
+
+def back(line):
+    """The deck that the second program's reader finds in what was written."""
+    length, room = line.split(" ")
+    return tuple(read_deck(bytes.fromhex(room)[:int(length, 16)]))
+
+
+def refused(line):
+    return line.startswith("ffffffff")
+
+
+def compare_read(asked, said):
+    """Every file that was written, read: the lists that were typed, so that writing them again is the same call."""
+    pairs = [(typed, back(line)) for (typed, _), line in zip(asked, said) if not refused(line)]
+    return compare("decks read back", [deck for _, deck in pairs], [(*typed[:2], listed_systems(typed[2])) for typed, _ in pairs])
+
+
+def seen(said):
+    """Every refusal was met."""
+    numbers = {int(line.split(" ")[0][8:], 16) for line in said if refused(line)}
+    print(f"refusals met: {sorted(numbers)}")
+    return numbers == {2, 5, 12, 16}
+
+
+def main():
+    make("lib")
+    asked = list(cases())
+    said = run(static(root / "tests/office_test.c", "office_test", OFFICE), b"".join(to_write(*case) for case in asked)).decode().splitlines()
+    good = compare("decks through the office's call", said, [told(*case) for case in asked])
+    return 0 if good & compare_read(asked, said) & seen(said) else 1
+
+
+if __name__ == "__main__":
+    sys.exit(main())
