@@ -30,10 +30,12 @@ fn refusal(survival: &[u32], weights: &[u16], systems: &[u16], room: &[u8]) -> u
     if refusals::size_out(n as u64) {
         return 2;
     }
-    if weights.len() != n {
+    let unpaired = weights.len() != n;
+    let parted = bad_fives(systems.len());
+    if unpaired {
         return 5;
     }
-    if bad_fives(systems.len()) {
+    if parted {
         return 12;
     }
     if room.len() < layout::file_length(n, systems.len() / PER_SYSTEM) {

@@ -6,7 +6,7 @@ use Prim.Native.Nat.{ℕ, _^_, _≤_, _<_}
 use native.Mathlib.Omega.{arith}
 use lib.ListN.{length}
 use borrow.Author.Needs.{needs}
-use borrow.Author.Tests.{lt-ltb, le-ltb, eq-eqb, ne-eqb, not-false}
+use borrow.Author.Tests.{lt-ltb, le-ltb, eqb-true, not-false}
 use Rattle.rules.specs.File.{mostFans, mostSystems}
 use Rattle.rules.specs.Refusal.{badSize, firstOf}
 use Rattle.rules.specs.Writing.{Typed, typedOf, bytesFor, unpaired, badFives, shortFor, writeRefusal}
@@ -41,21 +41,21 @@ left5 : (c : tie.Else1) → Left from5 (typed (c .before)) (lent (c .before))
 unfolding writeRefusal
 left5 c = first-after 2 _ _ (sym (c .before .size-out .ensures) ∙ c .if1 .left)
 
-left12 : (c : tie.Else2) → Left from12 (typed (c .before .before)) (lent (c .before .before))
-left12 c = left5 (c .before) ∙ first-after 5 _ _ (ap not (eq-eqb _ _ (c .if2 .left)))
+left12 : (c : tie.Else2) → Left from12 (typed (c .before .before .before)) (lent (c .before .before .before))
+left12 c = left5 (c .before .before) ∙ first-after 5 _ _ (c .if2 .left)
 
 left16 : (c : tie.Else3) → Left from16 (typed (c .before .before .before .before)) (lent (c .before .before .before .before))
-left16 c = left12 (c .before .before) ∙ first-after 12 _ _ (sym (c .before .bad-fives .ensures) ∙ c .if3 .left)
+left16 c = left12 (c .before) ∙ first-after 12 _ _ (sym (c .before .before .bad-fives .ensures) ∙ c .if3 .left)
 
 -- n and the number of systems are small, and the file as long as the code has it
 small : (c : tie.Else3) → (length (typed (c .before .before .before .before) .survival) ≤ mostFans) × (count (typed (c .before .before .before .before)) ≤ mostSystems)
 small c =
     let first = c .before .before .before in
     let fans = within-true 1 _ mostFans (not-false _ (sym (first .before .size-out .ensures) ∙ first .if1 .left)) in
-    (fans .1, fives _ (sym (c .before .bad-fives .ensures) ∙ c .if3 .left) .2)
+    (fans .1, fives _ (sym (c .before .before .bad-fives .ensures) ∙ c .if3 .left) .2)
 
 long : (c : tie.After-file-length) → c .file-length .result ≡ length (bytesFor (typed (c .before .before .before .before .before)))
-long c = c .file-length .ensures ∙ sym (bytes-long _ (c .before .before .before .if2 .left))
+long c = c .file-length .ensures ∙ sym (bytes-long _ (eqb-true _ _ (not-false _ (c .before .before .if2 .left))))
 
 size-out-requires : tie.Need-size-out-requires
 size-out-requires c κs = search needs
@@ -64,14 +64,14 @@ returns : tie.Need-returns
 unfolding writeRefusal
 returns c = sym (first-of 2 _ _ (sym (c .before .size-out .ensures) ∙ c .if1 .taken))
 
-returns-2 : tie.Need-returns-2
-returns-2 c = sym (left5 (c .before) ∙ first-of 5 _ _ (ap not (ne-eqb _ _ (c .if2 .taken))))
-
 bad-fives-requires : tie.Need-bad-fives-requires
 bad-fives-requires c κs = search needs
 
+returns-2 : tie.Need-returns-2
+returns-2 c = sym (left5 (c .before .before) ∙ first-of 5 _ _ (c .if2 .taken))
+
 returns-3 : tie.Need-returns-3
-returns-3 c = sym (left12 (c .before .before) ∙ first-of 12 _ _ (sym (c .before .bad-fives .ensures) ∙ c .if3 .taken))
+returns-3 c = sym (left12 (c .before) ∙ first-of 12 _ _ (sym (c .before .before .bad-fives .ensures) ∙ c .if3 .taken))
 
 file-length-requires : tie.Need-file-length-requires
 file-length-requires c κs = (omega (arith, small c .0), omega (arith, small c .1))
@@ -89,8 +89,8 @@ refusal-spec =
     (tie.spec
     size-out-requires
     returns
-    returns-2
     bad-fives-requires
+    returns-2
     returns-3
     file-length-requires
     returns-4
