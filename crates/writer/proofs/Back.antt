@@ -1,28 +1,27 @@
 -- Request 01: "What it writes, the reader reads back as the same deck, and an accepted file written again gives the same bytes." The bytes are the
 -- layout's, so the layout's two theorems serve. Assumes nothing.
-use mathlib.Core.Path.{_≡_, refl, sym, ap, _∙_}
-use mathlib.Core.Bool.{false}
-use mathlib.Core.List.{List, [], _++_}
+use mathlib.Core.Path.{_≡_, ap, _∙_}
+use mathlib.Core.List.{List, _++_}
 use Prim.Native.Nat.{ℕ, _%_, _^_, _≤_}
 use native.Mathlib.Omega.{arith}
 use lib.ListN.{length, take, drop}
 use lib.Seq.{take-append-seam}
 use borrow.Author.Tests.{le-ltb, le-leb, eq-eqb}
 use Rattle.rules.specs.declared.Writing.{Writing}
-use Rattle.rules.specs.declared.Writing.the-variants.{Written, Refused}
+use Rattle.rules.specs.declared.Writing.the-variants.{Written}
 use Rattle.rules.specs.Refusal.{firstOf}
-use Rattle.rules.specs.File.{Deck, perSystem, mostFans, mostSystems, fileOf, deckIn, fileRefusal}
+use Rattle.rules.specs.File.{Deck, perSystem, mostSystems, fileOf, deckIn, fileRefusal}
 use Rattle.rules.specs.Writing.{Typed, deckOf, bytesFor, typedFrom, writeRefusal, writingOf, roomWritten}
 use Rattle.rules.proofs.Unless.{unless-none}
 use Rattle.deck.specs.declared.Read.{Read}
 use Rattle.deck.specs.Read.{arraysOf}
 use Rattle.deck.specs.Outcome.{Handed}
 use Rattle.deck.specs.Bounds.{Under, Bytes, Bounds}
-use Rattle.deck.proofs.File.{file-accepted, deck-back, file-back, deck-bounds}
+use Rattle.deck.proofs.File.{deck-back, file-back, deck-bounds}
 use Rattle.deck.proofs.Kept.{read-file}
 use Rattle.deck.proofs.Systems.{numbers-length, listed-numbers, listed-systems}
 use Rattle.writer.specs.Outcome.{Wrote}
-use Rattle.writer.proofs.Writable.{count, count-is, Writable, writable}
+use Rattle.writer.proofs.Writable.{count, count-is, writable}
 use Rattle.writer.proofs.Outcome.{writing-is}
 
 -- numbers as their fields hold them: lists of u32 and u16

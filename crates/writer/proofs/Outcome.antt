@@ -1,6 +1,6 @@
 -- The contract settles the outcome: the answer is the definitions', so any two outcomes that it allows are equal, the answer and the room. Assumes
 -- nothing.
-use mathlib.Core.Path.{_≡_, refl, sym, _∙_}
+use mathlib.Core.Path.{_≡_, sym, _∙_}
 use mathlib.Core.List.{List}
 use Prim.Native.Nat.{ℕ}
 use native.Mathlib.Omega.{arith}

@@ -1,7 +1,6 @@
 -- `deck::bad_layout` meets its contract: the first test that differs decides, else the length's. No sum wraps, since n and m are numbers of two
 -- bytes. Assumes nothing.
 use Prim.Native.Nat.{_^_, _<_}
-use native.Mathlib.Omega.{arith}
 use borrow.Author.Tests.{eq-eqb, ne-eqb}
 use borrow.Author.Needs.{needs}
 use Rattle.deck.proofs.Numbers.{spelled-fits}

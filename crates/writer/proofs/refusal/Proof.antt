@@ -1,14 +1,14 @@
 -- `writer::refusal` meets its contract: past a check that answered no, the refusal is that of the checks after it. Assumes nothing.
-use mathlib.Core.Path.{_≡_, sym, ap, _∙_}
-use mathlib.Core.Bool.{Bool, true, false, not}
+use mathlib.Core.Path.{_≡_, sym, _∙_}
+use mathlib.Core.Bool.{Bool}
 use mathlib.Core.List.{List, [], _∷_}
-use Prim.Native.Nat.{ℕ, _^_, _≤_, _<_}
+use Prim.Native.Nat.{ℕ, _≤_}
 use native.Mathlib.Omega.{arith}
 use lib.ListN.{length}
 use borrow.Author.Needs.{needs}
 use borrow.Author.Tests.{lt-ltb, le-ltb, eqb-true, not-false}
 use Rattle.rules.specs.File.{mostFans, mostSystems}
-use Rattle.rules.specs.Refusal.{badSize, firstOf}
+use Rattle.rules.specs.Refusal.{firstOf}
 use Rattle.rules.specs.Writing.{Typed, typedOf, bytesFor, unpaired, badFives, shortFor, writeRefusal}
 use Rattle.rules.proofs.Seven.{within-true}
 use Rattle.rules.proofs.Accepted.{first-of, first-after}
