@@ -22,16 +22,14 @@
 extern "C" {
 #endif
 
-/* The numbers of a system: kind, first, second, a, b. */
-#define FOAMBEETLE_SYSTEM_NUMBERS 5
-
 /* The length of the longest file. */
 #define FOAMBEETLE_LONGEST_FILE 724
 
 /* Writes the version 1 deck file of n fans into the front of the room, which has `length` bytes; the rest of it stays
- * untouched. `w` and `s` are how many numbers `weights` and `systems` have: n, and five for each system. No pointer is
- * null, also where its list is empty, and the room overlaps no list. The answer is the file's length, or, for a refusal,
- * (2^32 - 1) times 2^32 plus its number; then nothing is written. */
+ * untouched. `w` and `s` are how many numbers `weights` and `systems` have: n, and five for each system, its kind,
+ * first, second, and the first and last fan of its stretch. No pointer is null, also where its list is empty, and the
+ * room overlaps no list. The answer is the file's length, or, for a refusal, (2^32 - 1) times 2^32 plus its number; then
+ * nothing is written. */
 uint64_t foambeetle_write(const uint32_t *survival, size_t n, const uint16_t *weights, size_t w, const uint16_t *systems, size_t s,
                           uint8_t *room, size_t length);
 

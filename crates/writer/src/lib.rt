@@ -31,11 +31,11 @@ fn refusal(survival: &[u32], weights: &[u16], systems: &[u16], room: &[u8]) -> u
         return 2;
     }
     let unpaired = weights.len() != n;
-    let parted = bad_fives(systems.len());
+    let bad_systems = bad_fives(systems.len());
     if unpaired {
         return 5;
     }
-    if parted {
+    if bad_systems {
         return 12;
     }
     if room.len() < layout::file_length(n, systems.len() / PER_SYSTEM) {
