@@ -51,7 +51,8 @@ lib: $(archives) $(shared) $(headers) ## target/lib: libfoambeetle for the ship,
 define put_beside
 @ln -sf lib$(1).so.$(version) "$(place)/lib/lib$(1).so.$(major)"
 @ln -sf lib$(1).so.$(version) "$(place)/lib/lib$(1).so"
-@sed -e "s|@PREFIX@|$(PREFIX)|" -e "s|@VERSION@|$(version)|" -e "s|@NAME@|$(1)|" -e "s|@ABOUT@|$(about_$(1))|" include/library.pc.in > "$(place)/lib/pkgconfig/$(1).pc"
+@sed -e "s|@PREFIX@|$(PREFIX)|" -e "s|@VERSION@|$(version)|" -e "s|@NAME@|$(1)|" -e "s|@ABOUT@|$(about_$(1))|" \
+    include/library.pc.in > "$(place)/lib/pkgconfig/$(1).pc"
 
 endef
 

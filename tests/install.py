@@ -5,7 +5,9 @@ import os
 import shutil
 import sys
 
-from common import LIBRARIES, OFFICE, PROGRAMS, SAMPLES, SHIP, WRITER, build, compare_example, compare_samples, held, make, room, root, run, sample, tools
+from common import (
+    LIBRARIES, OFFICE, PROGRAMS, SAMPLES, SHIP, WRITER, build, compare_example, compare_samples, held, make, room, root, run, sample, tools,
+)
 
 STAGE = room / "stage"
 PREFIX = "/usr"

@@ -11,7 +11,9 @@ import shutil
 import sys
 from pathlib import Path
 
-from common import LIBRARIES, OFFICE, SAMPLES, SHIP, WRITER, build, compare, compare_example, compare_samples, decks, make, root, run, sample, static, tools
+from common import (
+    LIBRARIES, OFFICE, SAMPLES, SHIP, WRITER, build, compare, compare_example, compare_samples, decks, make, root, run, sample, static, tools,
+)
 
 from foambeetle import Refusal, rate, read_deck, system_numbers, worth_of_file, write_deck
 
