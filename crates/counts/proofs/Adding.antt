@@ -19,7 +19,7 @@ use Rattle.counts.specs.Cells.{Stored, Outside}
 use Rattle.counts.specs.Sums.{lighter, cellAt, Sums, Weighed, Addable, Turnable, Turned}
 use Rattle.counts.proofs.Cells.{below-or, outside-none, outside-set, outside-then, outside-wider, zero-cell, zero-outside}
 use Rattle.counts.proofs.From.{from-end, from-above, from-zero, from-suc, from-fits}
-use Rattle.counts.proofs.InARow.{shift-at, shift-past}
+use Rattle.counts.proofs.InARow.{shift-at, shift-past, sum-past}
 
 -- what the components from i on add up to
 pub total-drop : (i : ℕ) (xs : List ℕ) → i < length xs → total (drop i xs) ≡ getD xs i 0 + total (drop (i + 1) xs)
@@ -27,16 +27,6 @@ unfolding total
 total-drop i xs l = rw (add-one i, drop-cons xs i 0 l)
 
 -- ---- sums of columns
-
-sum-none : (c : ℕ) (f : ℕ → ℕ) → ((s : ℕ) → s < c → f s ≡ 0) → sumBelow c f ≡ 0
-unfolding sumBelow
-sum-none zero f e = refl
-sum-none (suc c) f e = omega (arith, sum-none c f (λ s l. e s (omega arith)), e c (omega arith))
-
-sum-one : (c : ℕ) (f : ℕ → ℕ) → f 0 ≡ 1 → ((s : ℕ) → 0 < s → s < suc c → f s ≡ 0) → sumBelow (suc c) f ≡ 1
-unfolding sumBelow
-sum-one zero f o e = omega arith
-sum-one (suc c) f o e = omega (arith, sum-one c f o (λ s l h. e s l (omega arith)), e (suc c) (omega arith) (omega arith))
 
 -- a row and, w further on, the row below
 sum-both : (c w : ℕ) (f g : ℕ → ℕ) → sumBelow c (λ s. f s + shift g w s) ≡ sumBelow c f + sumBelow (c - w) g
@@ -159,16 +149,20 @@ module _ {k : ℕ} {weights t t₁ : List ℕ} (able : Weighed k weights t) (z :
   none-outside = outside-set 0 1 (omega arith) (omega arith) (zero-outside t cells (able .long) z)
 
   pub none-read : Sums k weights 0 0 (set t₁ 0 1)
+  unfolding sumBelow
   none-read = record { is = go; none = λ j s m h l. first-cell j s m h (omega arith) }
     where
       go : (j c : ℕ) → j ≤ most → c ≤ k → sumBelow c (cellAt (set t₁ 0 1) j) ≡ lighter k weights 0 j c
-      go zero zero m l = sum-none 0 (cellAt (set t₁ 0 1) 0) (λ s h. absurd (omega arith)) ∙ sym (lighter-none k weights)
+      go zero zero m l = sym (lighter-none k weights)
       go zero (suc c) m l =
-          sum-one c (cellAt (set t₁ 0 1) 0) (getD-set-same t₁ 0 1 0 (omega (arith, able .long, zero-outside t cells (able .long) z .long)))
-          (λ s h g. first-cell 0 s m (omega (arith, able .small)) (omega arith))
-          ∙ sym (lighter-one k weights c l)
+          sum-past 1 (suc c) (cellAt (set t₁ 0 1) 0) (omega arith) (λ s h g. first-cell 0 s m (omega (arith, able .small)) (omega arith))
+          ∙ omega (
+            arith,
+            getD-set-same t₁ 0 1 0 (omega (arith, able .long, zero-outside t cells (able .long) z .long)),
+            lighter-one k weights c l,
+          )
       go (suc j) c m l =
-          sum-none c (cellAt (set t₁ 0 1) (suc j)) (λ s h. first-cell (suc j) s m (omega (arith, able .small)) (omega arith))
+          sum-past 0 c (cellAt (set t₁ 0 1) (suc j)) (omega arith) (λ s h g. first-cell (suc j) s m (omega (arith, able .small)) (omega arith))
           ∙ sym (from-above (row1 k (numberOf weights)) (below (k - c) k (k - c)) 0 (suc j) (omega arith))
 
 -- ---- one component more

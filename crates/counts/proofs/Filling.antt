@@ -9,7 +9,7 @@ use lib.Seq.{getD-set-same, getD-set-other}
 use borrow.Author.Tests.{lt-ltb, le-ltb}
 use Rattle.rules.specs.Below.{sumBelow}
 use Rattle.rules.specs.Memory.{live, row4}
-use Rattle.rules.proofs.Sums.{sum-same}
+use Rattle.rules.proofs.Sums.{sum-add, sum-same}
 use Rattle.pascal.specs.Ways.{waysOf}
 use Rattle.pascal.proofs.Triangle.{ways-sum, ways-fit}
 use Rattle.counts.specs.From.{bins, shift}
@@ -17,7 +17,7 @@ use Rattle.counts.specs.Cells.{Outside, Stored}
 use Rattle.counts.specs.Bins.{width, Sized, Bins, Made, goneAt, term, aroundAt}
 use Rattle.counts.proofs.Cells.{below-or, outside-set, outside-wider, zero-cell, zero-outside}
 use Rattle.counts.proofs.From.{from-le}
-use Rattle.counts.proofs.InARow.{shift-at, shift-past, bins-first, bins-slide}
+use Rattle.counts.proofs.InARow.{shift-at, shift-past, bins-first, bins-slide, sum-past}
 
 -- ---- what fits
 
@@ -95,21 +95,11 @@ rows-more {k} {n} {b} {off} {before} {after} s low h o w =
 
 -- ---- a ring's sum
 
--- a part of a sum is no more than the whole, and terms that are none may be left out
+-- a part of a sum is no more than the whole
 sum-le : (a b : ℕ) (f : ℕ → ℕ) → a ≤ b → sumBelow a f ≤ sumBelow b f
-unfolding sumBelow
-sum-le a zero f l = let e : a ≡ 0 = omega arith in rw e (omega arith)
-sum-le a (suc b) f l = ⊎-elim (λ (h : a < suc b). omega (arith, sum-le a b f (omega arith))) whole (below-or a (suc b))
-  where
-    whole : suc b ≤ a → sumBelow a f ≤ sumBelow (suc b) f
-    whole h = let e : a ≡ suc b = omega arith in rw e (omega arith)
-
-sum-past : (a d : ℕ) (f : ℕ → ℕ) → ((m : ℕ) → a ≤ m → f m ≡ 0) → sumBelow (a + d) f ≡ sumBelow a f
-unfolding sumBelow
-sum-past a zero f e = let o : a + 0 ≡ a = omega arith in rw o
-sum-past a (suc d) f e =
-    let o : a + suc d ≡ suc (a + d) = omega arith in
-    rw o (omega (arith, sum-past a d f e, e (a + d) (omega arith)))
+sum-le a b f l =
+    let o : a + (b - a) ≡ b = omega arith in
+    omega (arith, rw o at (sum-add a (b - a) f))
 
 -- a sum that fits with one term more
 pub sum-step : (f : ℕ → ℕ) (most m : ℕ) {s : ℕ} → sumBelow most f < 2 ^ 64 → m < most → s ≡ sumBelow m f
@@ -134,8 +124,7 @@ around-is {k} {n} {rows} {t} v j h l m =
     few : suc j < k → sumBelow k f ≡ sumBelow (min k (suc j)) f
     few g =
         let a : min k (suc j) ≡ suc j = omega arith in
-        let b : suc j + (k - suc j) ≡ k = omega arith in
-        rw a (rw b at (sum-past (suc j) (k - suc j) f (λ m p. ap (λ x. suc m * x) (shift-past (bins k v) m j (omega arith)) ∙ omega arith)))
+        rw a (sum-past (suc j) k f (omega arith) (λ m p q. ap (λ x. suc m * x) (shift-past (bins k v) m j (omega arith)) ∙ omega arith))
 
     many : k ≤ suc j → sumBelow k f ≡ sumBelow (min k (suc j)) f
     many g = let a : min k (suc j) ≡ k = omega arith in rw a

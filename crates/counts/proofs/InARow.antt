@@ -10,7 +10,7 @@ use lib.Dec.{ltb}
 use borrow.Author.Tests.{lt-ltb, le-ltb}
 use Rattle.rules.specs.Below.{sumBelow}
 use Rattle.rules.specs.Memory.{live, lead, pair, below, moved, ended, row4, row5, working5, failing5, end5}
-use Rattle.rules.proofs.Sums.{sum-same}
+use Rattle.rules.proofs.Sums.{sum-add, sum-scale}
 use Rattle.counts.specs.From.{from, line4, bins, shift}
 use Rattle.counts.proofs.Cells.{below-or}
 use Rattle.counts.proofs.From.{from-end, from-above, from-zero, from-suc, from-dead}
@@ -124,56 +124,19 @@ module _ (k : ℕ) where
     bins-slide b zero = omega (arith, bins-first b, bins-first (suc b), shift-past (bins k b) k 0 some)
     bins-slide b (suc j) = omega (arith, slide b j, shift-suc (bins k b) k j some)
 
--- ---- sums of shifted numbers
+-- ---- sums
 
-shift-zero : (f : ℕ → ℕ) → ((j : ℕ) → f j ≡ 0) → (u j : ℕ) → shift f u j ≡ 0
-unfolding shift
-shift-zero f e zero j = e j
-shift-zero f e (suc u) zero = refl
-shift-zero f e (suc u) (suc j) = shift-zero f e u j
-
-shift-same : (f g : ℕ → ℕ) → ((j : ℕ) → f j ≡ g j) → (u j : ℕ) → shift f u j ≡ shift g u j
-unfolding shift
-shift-same f g e zero j = e j
-shift-same f g e (suc u) zero = refl
-shift-same f g e (suc u) (suc j) = shift-same f g e u j
-
-shift-add : (f g h : ℕ → ℕ) → f 0 ≡ g 0 → ((j : ℕ) → f (suc j) ≡ g (suc j) + h j) → (u j : ℕ) → shift f u (suc j) ≡ shift g u (suc j) + shift h u j
-unfolding shift
-shift-add f g h e s zero j = s j
-shift-add f g h e s (suc zero) zero = omega (arith, e)
-shift-add f g h e s (suc (suc u)) zero = omega arith
-shift-add f g h e s (suc u) (suc j) = shift-add f g h e s u j
-
-abbrev shifted : (m : ℕ) (f : ℕ → ℕ) (j : ℕ) → ℕ
-shifted m f j = sumBelow m (λ u. shift f u j)
-
-shifted-zero : (m : ℕ) (f : ℕ → ℕ) (j : ℕ) → ((j : ℕ) → f j ≡ 0) → shifted m f j ≡ 0
-unfolding sumBelow
-shifted-zero zero f j e = refl
-shifted-zero (suc m) f j e = omega (arith, shifted-zero m f j e, shift-zero f e m j)
-
-shifted-first : (m : ℕ) (f : ℕ → ℕ) → shifted (suc m) f 0 ≡ f 0
-unfolding sumBelow shift
-shifted-first zero f = omega arith
-shifted-first (suc m) f = omega (arith, shifted-first m f)
-
-shifted-add : (m : ℕ) (f g h : ℕ → ℕ) (j : ℕ) → f 0 ≡ g 0 → ((j : ℕ) → f (suc j) ≡ g (suc j) + h j)
-    → shifted m f (suc j) ≡ shifted m g (suc j) + shifted m h j
-unfolding sumBelow
-shifted-add zero f g h j e s = refl
-shifted-add (suc m) f g h j e s = omega (arith, shifted-add m f g h j e s, shift-add f g h e s m j)
+-- terms that are none may be left out
+pub sum-past : (a b : ℕ) (f : ℕ → ℕ) → a ≤ b → ((m : ℕ) → a ≤ m → m < b → f m ≡ 0) → sumBelow b f ≡ sumBelow a f
+sum-past a b f l e =
+    let o : a + (b - a) ≡ b = omega arith in
+    omega (arith, rw o at (sum-add a (b - a) f), sum-scale (b - a) 0 (λ w. f (a + w)) f (λ w h. omega (arith, e (a + w) (omega arith) (omega arith))))
 
 -- each number once for itself and once for each before it
 weighted : (d : ℕ) (f : ℕ → ℕ) → sumBelow (suc d) (λ m. suc m * f m) ≡ sumBelow (suc d) f + sumBelow d (λ m. suc m * f (suc m))
 unfolding sumBelow
 weighted zero f = omega arith
 weighted (suc d) f = omega (arith, weighted d f)
-
-weighted-first : (d : ℕ) (f : ℕ → ℕ) → sumBelow (suc d) (λ m. suc m * shift f m 0) ≡ f 0
-unfolding sumBelow shift
-weighted-first zero f = omega arith
-weighted-first (suc d) f = omega (arith, weighted-first d f)
 
 -- ---- kind 5
 
@@ -182,124 +145,92 @@ abbrev tailed : (k t s i j : ℕ) → ℕ
 tailed k t s i j = from (row5 k) (below s k (pair t s)) i j
 
 module _ (k : ℕ) where
-  -- no bins: nothing is left to be failed
-  none-other : (u j : ℕ) → (u ≡ j → ⊥) → shift (bins k 0) u j ≡ 0
-  unfolding shift bins
-  none-other zero zero e = absurd (e refl)
-  none-other zero (suc j) e = refl
-  none-other (suc u) zero e = refl
-  none-other (suc u) (suc j) e = none-other u j (λ q. e (ap suc q))
+  tail-dead : (t s i j : ℕ) → k ≤ s → tailed k t s i j ≡ 0
+  tail-dead t s i j l = rw (le-ltb s k l) (from-dead (row5 k) i j)
 
-  none-same : (u : ℕ) → shift (bins k 0) u u ≡ 1
-  unfolding shift bins
-  none-same zero = refl
-  none-same (suc u) = none-same u
-
-  none-low : (m j : ℕ) → m ≤ j → shifted m (bins k 0) j ≡ 0
-  unfolding sumBelow
-  none-low zero j l = refl
-  none-low (suc m) j l = omega (arith, none-low m j (omega arith), none-other m j (λ e. omega arith))
-
-  none-high : (m j : ℕ) → j < m → shifted m (bins k 0) j ≡ 1
-  unfolding sumBelow
-  none-high zero j l = absurd (omega arith)
-  none-high (suc m) j l = ⊎-elim (λ h. omega (arith, none-high m j h, none-other m j (λ e. omega arith))) here (below-or j m)
+  tail-end : (t s : ℕ) → tailed k t s 0 0 ≡ cond (ltb (t + s) k) 1 0
+  unfolding ended end5
+  tail-end t s = ⊎-elim alive (λ l. tail-dead t s 0 0 l ∙ sym (rw (le-ltb (t + s) k (omega arith)))) (below-or s k)
     where
-      here : m ≤ j → shifted m (bins k 0) j + shift (bins k 0) m j ≡ 1
-      here h = let e : j ≡ m = omega arith in rw e (omega (arith, none-low m m (omega arith), none-same m))
+      alive : s < k → tailed k t s 0 0 ≡ cond (ltb (t + s) k) 1 0
+      alive l = rw (lt-ltb s k l) (from-end (row5 k) (live (pair t s)))
 
-  -- a bin with s: its next component works, or fails and makes it s + 1
-  begun : (s : ℕ) → s < k → (b : ℕ) → ran k s (b + 0) 0 ≡ bins k b 0
-  unfolding bins
-  begun s l zero = ran-none k s l
-  begun s l (suc v) = let a : suc v + 0 ≡ suc (v + 0) = omega arith in rw a (ran-zero k s (v + 0) l)
+  tail-zero : (t s i : ℕ) → s < k → tailed k t s (suc i) 0 ≡ tailed k t 0 i 0
+  unfolding moved working5
+  tail-zero t s i l = rw (lt-ltb s k l, lt-ltb 0 k (omega arith)) (from-zero (row5 k) (live (pair t s)) i)
 
-  further : (s : ℕ) → s < k → (b j : ℕ) → ran k s (b + suc j) (suc j) ≡ bins k b (suc j) + ran k (suc s) (b + j) j
-  further s l b j =
-      let a : b + suc j ≡ suc (b + j) = omega arith in
-      rw a (omega (arith, ran-suc k s (b + j) j l, bins-line k b (b + j) j (omega arith)))
+  tail-suc : (t s i j : ℕ) → s < k → tailed k t s (suc i) (suc j) ≡ tailed k t 0 i (suc j) + tailed k t (suc s) i j
+  unfolding moved working5 failing5
+  tail-suc t s i j l = rw (lt-ltb s k l, lt-ltb 0 k (omega arith)) (from-suc (row5 k) (live (pair t s)) i j)
 
-  -- the sum over the tails, one failed one further
-  later : (d v j : ℕ) → sumBelow (suc d) (λ m. suc m * shift (bins k v) m (suc j))
-      ≡ shifted (suc d) (bins k v) (suc j) + sumBelow d (λ m. suc m * shift (bins k v) m j)
-  unfolding shift
-  later d v j = weighted d (λ m. shift (bins k v) m (suc j))
+  tail-above : (t s i j : ℕ) → i < j → tailed k t s i j ≡ 0
+  tail-above t s i j l = from-above (row5 k) (below s k (pair t s)) i j l
 
-  gone : (t m b j s : ℕ) → k ≤ s → tailed k t s (suc b + j) j ≡ shifted (suc m) (λ j. ran k s (b + j) j) j
-  gone t m b j s l =
-      rw (le-ltb s k l) (from-dead (row5 k) (suc b + j) j)
-      ∙ sym (shifted-zero (suc m) (λ j. ran k s (b + j) j) j (λ j. ran-dead k s (b + j) j l))
+  tail-first : (i t s : ℕ) → t + s < k → tailed k t s i 0 ≡ 1
+  tail-first zero t s l = tail-end t s ∙ rw (lt-ltb (t + s) k l)
+  tail-first (suc i) t s l = tail-zero t s i (omega arith) ∙ tail-first i t 0 (omega arith)
 
-  module _ (t : ℕ) where
-    tail-dead : (s i j : ℕ) → k ≤ s → tailed k t s i j ≡ 0
-    tail-dead s i j l = rw (le-ltb s k l) (from-dead (row5 k) i j)
+  -- a lead of k is dead in the end
+  tail-none : (i t s j : ℕ) → k ≤ t → tailed k t s i j ≡ 0
+  tail-none zero t s zero l = tail-end t s ∙ rw (le-ltb (t + s) k (omega arith))
+  tail-none zero t s (suc j) l = tail-above t s 0 (suc j) (omega arith)
+  tail-none (suc i) t s zero l = ⊎-elim (λ h. tail-zero t s i h ∙ tail-none i t 0 0 l) (tail-dead t s (suc i) 0) (below-or s k)
+  tail-none (suc i) t s (suc j) l =
+      ⊎-elim (λ h. omega (arith, tail-suc t s i j h, tail-none i t 0 (suc j) l, tail-none i t (suc s) j l)) (tail-dead t s (suc i) (suc j))
+      (below-or s k)
 
-    tail-end : (s : ℕ) → s < k → tailed k t s 0 0 ≡ cond (ltb (t + s) k) 1 0
-    unfolding ended end5
-    tail-end s l = rw (lt-ltb s k l) (from-end (row5 k) (live (pair t s)))
+  -- the last component works, or fails and makes the lead longer
+  last-zero : (t s i : ℕ) → t < k → tailed k t s (suc i) 0 ≡ tailed k 0 s i 0
+  last-zero t s i l =
+      ⊎-elim (λ h. tail-zero t s i h ∙ tail-first i t 0 (omega arith) ∙ sym (tail-first i 0 s (omega arith)))
+      (λ h. tail-dead t s (suc i) 0 h ∙ sym (tail-dead 0 s i 0 h)) (below-or s k)
 
-    tail-zero : (s i : ℕ) → s < k → tailed k t s (suc i) 0 ≡ tailed k t 0 i 0
-    unfolding moved working5
-    tail-zero s i l = rw (lt-ltb s k l, lt-ltb 0 k (omega arith)) (from-zero (row5 k) (live (pair t s)) i)
+  last-dead : (t s i j : ℕ) → k ≤ s → tailed k t s (suc i) (suc j) ≡ tailed k 0 s i (suc j) + tailed k (suc t) s i j
+  last-dead t s i j l = omega (arith, tail-dead t s (suc i) (suc j) l, tail-dead 0 s i (suc j) l, tail-dead (suc t) s i j l)
 
-    tail-suc : (s i j : ℕ) → s < k → tailed k t s (suc i) (suc j) ≡ tailed k t 0 i (suc j) + tailed k t (suc s) i j
-    unfolding moved working5 failing5
-    tail-suc s i j l = rw (lt-ltb s k l, lt-ltb 0 k (omega arith)) (from-suc (row5 k) (live (pair t s)) i j)
+  last-suc : (i j t s : ℕ) → t < k → tailed k t s (suc i) (suc j) ≡ tailed k 0 s i (suc j) + tailed k (suc t) s i j
+  last-suc zero zero t s l =
+      let o : t + suc s ≡ suc t + s = omega arith in
+      let ends = rw o at (tail-end t (suc s)) ∙ sym (tail-end (suc t) s) in
+      ⊎-elim (λ h. omega (arith, tail-suc t s 0 0 h, tail-above t 0 0 1 (omega arith), tail-above 0 s 0 1 (omega arith), ends)) (last-dead t s 0 0)
+      (below-or s k)
+  last-suc zero (suc j) t s l = omega (
+    arith,
+    tail-above t s 1 (suc (suc j)) (omega arith),
+    tail-above 0 s 0 (suc (suc j)) (omega arith),
+    tail-above (suc t) s 0 (suc j) (omega arith),
+  )
+  last-suc (suc i) zero t s l =
+      let next = last-suc i 0 t 0 l in
+      ⊎-elim (λ h. omega (arith, tail-suc t s (suc i) 0 h, next, last-zero t (suc s) i l, tail-suc 0 s i 0 h, tail-zero (suc t) s i h))
+      (last-dead t s (suc i) 0) (below-or s k)
+  last-suc (suc i) (suc j) t s l =
+      let next = last-suc i (suc j) t 0 l in
+      let more = last-suc i j t (suc s) l in
+      ⊎-elim (λ h. omega (arith, tail-suc t s (suc i) (suc j) h, next, more, tail-suc 0 s i (suc j) h, tail-suc (suc t) s i j h))
+      (last-dead t s (suc i) (suc j)) (below-or s k)
 
-    -- all failed
-    all-low : (s j : ℕ) → t + s + j < k → tailed k t s j j ≡ 1
-    all-low s zero l = tail-end s (omega arith) ∙ rw (lt-ltb (t + s) k (omega arith))
-    all-low s (suc j) l = omega (
-      arith,
-      tail-suc s j j (omega arith),
-      from-above (row5 k) (below 0 k (pair t 0)) j (suc j) (omega arith),
-      all-low (suc s) j (omega arith),
-    )
+  -- so behind a lead of t as many states work as behind a bin with t: the one read from the end is the other
+  behind-none : (i j t : ℕ) → k ≤ t → tailed k t 0 i j ≡ ran k t i j
+  behind-none i j t l = tail-none i t 0 j l ∙ sym (ran-dead k t i j l)
 
-    all-high : (s j : ℕ) → k ≤ t + s + j → tailed k t s j j ≡ 0
-    all-high s zero l = ⊎-elim (λ h. tail-end s h ∙ rw (le-ltb (t + s) k (omega arith))) (tail-dead s 0 0) (below-or s k)
-    all-high s (suc j) l = ⊎-elim (go (all-high (suc s) j (omega arith))) (tail-dead s (suc j) (suc j)) (below-or s k)
-      where
-        go : tailed k t (suc s) j j ≡ 0 → s < k → tailed k t s (suc j) (suc j) ≡ 0
-        go e h = omega (arith, tail-suc s j j h, from-above (row5 k) (below 0 k (pair t 0)) j (suc j) (omega arith), e)
+  behind-lead : (i j t : ℕ) → tailed k t 0 i j ≡ ran k t i j
+  behind-lead zero zero t =
+      ⊎-elim (λ (h : t < k). tail-first 0 t 0 (omega arith) ∙ sym (ran-none k t h)) (behind-none 0 0 t) (below-or t k)
+  behind-lead zero (suc j) t = tail-above t 0 0 (suc j) (omega arith) ∙ sym (from-above (row4 k) (below t k t) 0 (suc j) (omega arith))
+  behind-lead (suc i) zero t =
+      ⊎-elim (λ (h : t < k). tail-first (suc i) t 0 (omega arith) ∙ sym (ran-zero k t i h ∙ first4 k i)) (behind-none (suc i) 0 t) (below-or t k)
+  behind-lead (suc i) (suc j) t =
+      let next = behind-lead i (suc j) 0 in
+      let more = behind-lead i j (suc t) in
+      ⊎-elim (λ (h : t < k). omega (arith, last-suc i j t 0 h, next, more, ran-line k (omega arith) i (suc j), ran-suc k t i j h))
+      (behind-none (suc i) (suc j) t) (below-or t k)
 
-    -- a tail of fewer than k less the lead, behind b + 1 bins of which the first has s
-    module _ (m b : ℕ) (few : t + suc m ≡ k) (before : (j : ℕ) → tailed k t 0 (b + j) j ≡ shifted (suc m) (bins k b) j) where
-      behind : (j s : ℕ) → tailed k t s (suc b + j) j ≡ shifted (suc m) (λ j. ran k s (b + j) j) j
-      behind zero s = ⊎-elim alive (gone t m b 0 s) (below-or s k)
-        where
-          alive : s < k → tailed k t s (suc b + 0) 0 ≡ shifted (suc m) (λ j. ran k s (b + j) j) 0
-          alive l =
-              let a : suc b + 0 ≡ suc (b + 0) = omega arith in
-              rw a
-              (tail-zero s (b + 0) l ∙ before 0 ∙ shifted-first m (bins k b) ∙ sym (begun s l b)
-              ∙ sym (shifted-first m (λ j. ran k s (b + j) j)))
-      behind (suc j) s = ⊎-elim (alive (behind j (suc s))) (gone t m b (suc j) s) (below-or s k)
-        where
-          alive : tailed k t (suc s) (suc b + j) j ≡ shifted (suc m) (λ j. ran k (suc s) (b + j) j) j → s < k
-              → tailed k t s (suc b + suc j) (suc j) ≡ shifted (suc m) (λ j. ran k s (b + j) j) (suc j)
-          alive e l =
-              let a : suc b + suc j ≡ suc (suc b + j) = omega arith in
-              let d : b + suc j ≡ suc b + j = omega arith in
-              rw a
-              (omega (
-                arith,
-                tail-suc s (suc b + j) j l,
-                rw d at (before (suc j)),
-                e,
-                shifted-add (suc m) (λ j. ran k s (b + j) j) (bins k b) (λ j. ran k (suc s) (b + j) j) j (begun s l b) (further s l b),
-              ))
-
-    -- the states behind a lead that v working components follow: v bins and the tail
-    behind-lead : (v m j : ℕ) → t + suc m ≡ k → tailed k t 0 (v + j) j ≡ shifted (suc m) (bins k v) j
-    unfolding bins
-    behind-lead zero m j e =
-        let a : 0 + j ≡ j = omega arith in
-        rw a
-        (⊎-elim (λ l. all-low 0 j (omega arith) ∙ sym (none-high (suc m) j l)) (λ l. all-high 0 j (omega arith) ∙ sym (none-low (suc m) j l))
-        (below-or j (suc m)))
-    behind-lead (suc v) m j e =
-        behind m v e (λ j. behind-lead v m j e) j 0 ∙ sum-same (suc m) _ _ (λ u l. shift-same _ _ (λ j. ran-line k (omega arith) (v + j) j) u j)
+  -- by the failed ones that are left to the bin: each bin's brim after the other
+  ran-sum : (d s b j : ℕ) → s + d ≡ k → ran k s (b + j) j ≡ sumBelow d (λ u. shift (bins k b) u j)
+  unfolding sumBelow
+  ran-sum zero s b j e = ran-dead k s (b + j) j (omega arith)
+  ran-sum (suc d) s b j e = omega (arith, brim k d s b (b + j) j e refl, ran-sum d (suc s) b j (omega arith))
 
   -- lead t
   abbrev led : (t i j : ℕ) → ℕ
@@ -318,26 +249,29 @@ module _ (k : ℕ) where
 
   led-all : (j t : ℕ) → k ≤ t + j → led t j j ≡ 0
   led-all zero t l = led-dead t 0 0 (omega arith)
-  led-all (suc j) t l = ⊎-elim (go (led-all j (suc t) (omega arith))) (led-dead t (suc j) (suc j)) (below-or t k)
-    where
-      go : led (suc t) j j ≡ 0 → t < k → led t (suc j) (suc j) ≡ 0
-      go e h = omega (arith, led-suc t j j h, from-above (row5 k) (below 0 k (pair t 0)) j (suc j) (omega arith), e)
+  led-all (suc j) t l =
+      ⊎-elim (λ h. omega (arith, led-suc t j j h, tail-above t 0 j (suc j) (omega arith), led-all j (suc t) (omega arith)))
+      (led-dead t (suc j) (suc j)) (below-or t k)
 
   led-around : (d t v j : ℕ) → t + d ≡ k → led t (suc v + j) j ≡ sumBelow d (λ m. suc m * shift (bins k v) m j)
-  unfolding sumBelow
+  unfolding sumBelow shift
   led-around zero t v j e = led-dead t (suc v + j) j (omega arith)
   led-around (suc d) t v zero e =
       let a : suc v + 0 ≡ suc (v + 0) = omega arith in
-      rw a (led-zero t (v + 0) (omega arith) ∙ behind-lead t v d 0 e ∙ shifted-first d (bins k v)) ∙ sym (weighted-first d (bins k v))
-  led-around (suc d) t v (suc j) e = go (led-around d (suc t) v j (omega arith))
-    where
-      go : led (suc t) (suc v + j) j ≡ sumBelow d (λ m. suc m * shift (bins k v) m j)
-          → led t (suc v + suc j) (suc j) ≡ sumBelow (suc d) (λ m. suc m * shift (bins k v) m (suc j))
-      go h =
-          let a : suc v + suc j ≡ suc (suc v + j) = omega arith in
-          let b : v + suc j ≡ suc v + j = omega arith in
-          rw a
-          (omega (arith, led-suc t (suc v + j) j (omega arith), rw b at (behind-lead t v d (suc j) e), h, later d v j))
+      let past = sum-past 1 (suc d) (λ m. suc m * shift (bins k v) m 0) (omega arith) (λ m p q. rw (shift-past (bins k v) m 0 p) (omega arith)) in
+      rw a (omega (arith, led-zero t (v + 0) (omega arith), tail-first (v + 0) t 0 (omega arith), past, bins-first k (omega arith) v))
+  led-around (suc d) t v (suc j) e =
+      let a : suc v + suc j ≡ suc (suc v + j) = omega arith in
+      let b : v + suc j ≡ suc v + j = omega arith in
+      rw a
+      (omega (
+        arith,
+        led-suc t (suc v + j) j (omega arith),
+        behind-lead (suc v + j) (suc j) t,
+        rw b at (ran-sum (suc d) t v (suc j) e),
+        led-around d (suc t) v j (omega arith),
+        weighted d (λ m. shift (bins k v) m (suc j)),
+      ))
 
   module _ (some : 0 < k) where
     -- sum over lead + tail = m < k of m + 1 times the bins between
