@@ -7,7 +7,7 @@ use Prim.Native.Nat.{ℕ, zero, suc, _+_, _-_, _*_, _^_, _≤_, _<_, min}
 use native.Mathlib.Numerals.{add-one}
 use native.Mathlib.Omega.{arith}
 use lib.ListN.{length, getD, drop, set, replicate}
-use lib.Seq.{drop-cons, getD-set-same, getD-set-other}
+use lib.Seq.{drop-cons}
 use borrow.Author.Tests.{lt-ltb, le-ltb}
 use Rattle.rules.specs.Below.{sumBelow, total}
 use Rattle.rules.specs.State.{numberOf}
@@ -17,7 +17,7 @@ use Rattle.rules.proofs.Sums.{sum-same}
 use Rattle.counts.specs.From.{from, shift}
 use Rattle.counts.specs.Cells.{Stored, Outside}
 use Rattle.counts.specs.Sums.{lighter, cellAt, Sums, Weighed, Addable, Turnable, Turned}
-use Rattle.counts.proofs.Cells.{below-or, outside-none, outside-set, outside-then, outside-wider, zero-cell, zero-outside}
+use Rattle.counts.proofs.Cells.{below-or, outside-none, outside-then, outside-wider, back-outside, back-first, back-cell}
 use Rattle.counts.proofs.From.{from-end, from-above, from-zero, from-suc, from-fits}
 use Rattle.counts.proofs.InARow.{shift-at, shift-past, sum-past}
 
@@ -141,28 +141,24 @@ module _ {w count rows low : ℕ} {before t : List ℕ} (able : Turnable w count
 pub weighed-same : {k : ℕ} {weights a b : List ℕ} → length b ≡ length a → Weighed k weights a → Weighed k weights b
 weighed-same e s = record { some = s .some; small = s .small; most = s .most; light = s .light; long = omega (arith, s .long) }
 
-module _ {k : ℕ} {weights t t₁ : List ℕ} (able : Weighed k weights t) (z : t₁ ≡ replicate cells 0 ++ drop cells t) where
-  first-cell : (j s : ℕ) → j ≤ most → s < heaviest → 0 < j + s → cellAt (set t₁ 0 1) j s ≡ 0
-  first-cell j s m h l = getD-set-other t₁ 0 (j * heaviest + s) 1 0 (λ d. omega arith) ∙ zero-cell t cells (able .long) z _ (omega arith)
+module _ {k : ℕ} {weights t t₁ : List ℕ} (able : Weighed k weights t) (z : t₁ ≡ set (replicate cells 0 ++ drop cells t) 0 1) where
+  pub none-outside : Outside 0 cells t t₁
+  none-outside = back-outside t cells (omega arith) (able .long) z
 
-  pub none-outside : Outside 0 cells t (set t₁ 0 1)
-  none-outside = outside-set 0 1 (omega arith) (omega arith) (zero-outside t cells (able .long) z)
+  first-cell : (j s : ℕ) → j ≤ most → s < heaviest → 0 < j + s → cellAt t₁ j s ≡ 0
+  first-cell j s m h l = back-cell t cells (omega arith) (able .long) z _ (omega arith) (omega arith)
 
-  pub none-read : Sums k weights 0 0 (set t₁ 0 1)
+  pub none-read : Sums k weights 0 0 t₁
   unfolding sumBelow
   none-read = record { is = go; none = λ j s m h l. first-cell j s m h (omega arith) }
     where
-      go : (j c : ℕ) → j ≤ most → c ≤ k → sumBelow c (cellAt (set t₁ 0 1) j) ≡ lighter k weights 0 j c
+      go : (j c : ℕ) → j ≤ most → c ≤ k → sumBelow c (cellAt t₁ j) ≡ lighter k weights 0 j c
       go zero zero m l = sym (lighter-none k weights)
       go zero (suc c) m l =
-          sum-past 1 (suc c) (cellAt (set t₁ 0 1) 0) (omega arith) (λ s h g. first-cell 0 s m (omega (arith, able .small)) (omega arith))
-          ∙ omega (
-            arith,
-            getD-set-same t₁ 0 1 0 (omega (arith, able .long, zero-outside t cells (able .long) z .long)),
-            lighter-one k weights c l,
-          )
+          sum-past 1 (suc c) (cellAt t₁ 0) (omega arith) (λ s h g. first-cell 0 s m (omega (arith, able .small)) (omega arith))
+          ∙ omega (arith, back-first t cells (omega arith) (able .long) z, lighter-one k weights c l)
       go (suc j) c m l =
-          sum-past 0 c (cellAt (set t₁ 0 1) (suc j)) (omega arith) (λ s h g. first-cell (suc j) s m (omega (arith, able .small)) (omega arith))
+          sum-past 0 c (cellAt t₁ (suc j)) (omega arith) (λ s h g. first-cell (suc j) s m (omega (arith, able .small)) (omega arith))
           ∙ sym (from-above (row1 k (numberOf weights)) (below (k - c) k (k - c)) 0 (suc j) (omega arith))
 
 -- ---- one component more

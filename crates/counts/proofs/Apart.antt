@@ -176,10 +176,10 @@ module _ (r : ℕ) where
       ∙ rw a (omega (arith, open7 d (suc x) i n j (omega arith) (omega arith) l, rw b at (owed7 i x (r - 1) j (omega arith) (omega arith))))
 
   -- what the second line comes to
-  line6-less : (n j : ℕ) → line6 r (n - 1 - 2 * (r - 1)) j ≡ waysOf (n - suc j * (r - 1) - 1) j
-  line6-less n zero = first6 r (n - 1 - 2 * (r - 1)) ∙ sym (ways-first (n - 1 * (r - 1) - 1))
+  line6-less : (n j : ℕ) → line6 r (n - 1 - 2 * (r - 1)) j ≡ waysOf (n - 1 - suc j * (r - 1)) j
+  line6-less n zero = first6 r (n - 1 - 2 * (r - 1)) ∙ sym (ways-first (n - 1 - 1 * (r - 1)))
   line6-less n (suc j) =
-      let a : n - 1 - 2 * (r - 1) - j * (r - 1) ≡ n - suc (suc j) * (r - 1) - 1 = omega arith in
+      let a : n - 1 - 2 * (r - 1) - j * (r - 1) ≡ n - 1 - suc (suc j) * (r - 1) = omega arith in
       rw a at (line6-ways r j (n - 1 - 2 * (r - 1)))
 
   pub ring7-is : (n j : ℕ) → r - 1 < n → from (row7 r) (live (lead 0)) n j ≡ ringOf (r - 1) n j
@@ -188,7 +188,7 @@ module _ (r : ℕ) where
   ring7-is n (suc j) l =
       let a : suc j - 1 ≡ j = omega arith in
       let b : n - (r - 1) - j * (r - 1) ≡ n - suc j * (r - 1) = omega arith in
-      rw (eqb·suc-zero, a, ← b, ← line6-ways r j (n - (r - 1)), b, ← line6-less n j) (open7 (r - 1) 0 n n j (omega arith) (omega arith) l)
+      rw (eqb·suc-zero, a, ← b, ← line6-ways r j (n - (r - 1)), ← line6-less n j) (open7 (r - 1) 0 n n j (omega arith) (omega arith) l)
 
 -- both terms together fit 64 bits
 pub ring-fits : (owed n j : ℕ) → owed < n → n ≤ 64 → ringOf owed n j < 2 ^ 64

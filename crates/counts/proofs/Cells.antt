@@ -92,21 +92,26 @@ drop-cell n a i l =
     let d : n + (i - n) ≡ i = omega arith in
     getD-drop n a (i - n) 0 ∙ ap (λ x. getD a x 0) d
 
--- the first n cells set to 0
-module _ (a : List ℕ) {b : List ℕ} (n : ℕ) (fits : n ≤ length a) (e : b ≡ replicate n 0 ++ drop n a) where
-  pub zero-cell : (p : ℕ) → p < n → getD b p 0 ≡ 0
-  zero-cell p l = rw e (append-low (replicate n 0) (drop n a) n p (length-replicate n 0) l ∙ getD-replicate n p 0 0 l)
-
-  zero-high : (p : ℕ) → n ≤ p → getD b p 0 ≡ getD a p 0
-  zero-high p l = rw e (append-high (replicate n 0) (drop n a) n p (length-replicate n 0) l ∙ drop-cell n a p l)
-
-  pub zero-outside : Outside 0 n a b
+-- the first n cells set to 0, and the first to 1
+module _ (a : List ℕ) {b : List ℕ} (n : ℕ) (some : 0 < n) (fits : n ≤ length a) (e : b ≡ set (replicate n 0 ++ drop n a) 0 1) where
+  zero-outside : Outside 0 n a (replicate n 0 ++ drop n a)
   zero-outside =
       record {
-        long = rw e (length-append (replicate n 0) (drop n a) ∙ omega (arith, length-replicate {A = ℕ} n 0, length-drop n a));
+        long = length-append (replicate n 0) (drop n a) ∙ omega (arith, length-replicate {A = ℕ} n 0, length-drop n a);
         low = λ p l. absurd (omega arith);
-        high = zero-high;
+        high = λ p l. append-high (replicate n 0) (drop n a) n p (length-replicate n 0) l ∙ drop-cell n a p l;
       }
+
+  pub back-outside : Outside 0 n a b
+  back-outside = rw e (outside-set 0 1 (omega arith) some zero-outside)
+
+  pub back-first : getD b 0 0 ≡ 1
+  back-first = rw e (getD-set-same (replicate n 0 ++ drop n a) 0 1 0 (omega (arith, zero-outside .long)))
+
+  pub back-cell : (p : ℕ) → 0 < p → p < n → getD b p 0 ≡ 0
+  back-cell p l h =
+      rw e
+      (getD-set-other (replicate n 0 ++ drop n a) 0 p 1 0 (λ d. omega arith) ∙ append-low (replicate n 0) (drop n a) n p (length-replicate n 0) h ∙ getD-replicate n p 0 0 h)
 
 -- a table whose first n cells were written, as a list
 pub stored-list : {f : ℕ → ℕ} {n : ℕ} {a b : List ℕ} → n ≤ length a → Stored f 0 0 n a b → b ≡ listBelow n f ++ drop n a

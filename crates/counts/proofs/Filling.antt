@@ -5,7 +5,6 @@ use mathlib.Core.List.{List, _++_}
 use Prim.Native.Nat.{ℕ, zero, suc, _+_, _-_, _*_, _^_, _≤_, _<_, min}
 use native.Mathlib.Omega.{arith}
 use lib.ListN.{length, getD, set, drop, replicate}
-use lib.Seq.{getD-set-same, getD-set-other}
 use borrow.Author.Tests.{lt-ltb, le-ltb}
 use Rattle.rules.specs.Below.{sumBelow}
 use Rattle.rules.specs.Memory.{live, row4}
@@ -13,9 +12,9 @@ use Rattle.rules.proofs.Sums.{sum-add, sum-same}
 use Rattle.pascal.specs.Ways.{waysOf}
 use Rattle.pascal.proofs.Triangle.{ways-sum, ways-fit}
 use Rattle.counts.specs.From.{bins, shift}
-use Rattle.counts.specs.Cells.{Outside, Stored}
+use Rattle.counts.specs.Cells.{Stored}
 use Rattle.counts.specs.Bins.{width, Sized, Bins, Made, goneAt, term, aroundAt}
-use Rattle.counts.proofs.Cells.{below-or, outside-set, outside-wider, zero-cell, zero-outside}
+use Rattle.counts.proofs.Cells.{below-or, outside-wider, back-outside, back-first, back-cell}
 use Rattle.counts.proofs.From.{from-le}
 use Rattle.counts.proofs.InARow.{shift-at, shift-past, bins-first, bins-slide, sum-past}
 
@@ -40,18 +39,17 @@ rows-fewer l h = record { is = λ b j p m. h .is b j p (omega arith) }
 pub sized-same : {k n : ℕ} {a b : List ℕ} → length b ≡ length a → Sized k n a → Sized k n b
 sized-same e s = record { some = s .some; most = s .most; long = omega (arith, s .long) }
 
-pub first-row : {k n : ℕ} {a b : List ℕ} → Sized k n a → b ≡ replicate width 0 ++ drop width a → Made k n 1 a (set b 0 1)
+pub first-row : {k n : ℕ} {a b : List ℕ} → Sized k n a → b ≡ set (replicate width 0 ++ drop width a) 0 1 → Made k n 1 a b
 unfolding bins
 first-row {k} {n} {a} {b} s e =
-    record { filled = record { is = go }; rest = outside-set 0 1 (omega arith) (omega arith) (outside-wider (omega arith) (omega arith) z) }
+    record { filled = record { is = go }; rest = outside-wider (omega arith) (omega arith) (back-outside a width (omega arith) fits e) }
   where
-    z : Outside 0 width a b
-    z = zero-outside a width (omega (arith, s .long)) e
+    fits : width ≤ length a
+    fits = omega (arith, s .long)
 
-    go : (r j p : ℕ) → r < 1 → r + j ≤ n + 1 → p ≡ r * width + j → getD (set b 0 1) p 0 ≡ bins k r j
-    go zero zero p l h q = let d : p ≡ 0 = omega arith in rw d (getD-set-same b 0 1 0 (omega (arith, z .long, s .long)))
-    go zero (suc j) p l h q =
-        getD-set-other b 0 p 1 0 (λ d. omega arith) ∙ zero-cell a width (omega (arith, s .long)) e p (omega (arith, s .most))
+    go : (r j p : ℕ) → r < 1 → r + j ≤ n + 1 → p ≡ r * width + j → getD b p 0 ≡ bins k r j
+    go zero zero p l h q = let d : p ≡ 0 = omega arith in rw d (back-first a width (omega arith) fits e)
+    go zero (suc j) p l h q = back-cell a width (omega arith) fits e p (omega arith) (omega (arith, s .most))
     go (suc r) j p l h q = absurd (omega arith)
 
 -- row b + 1 on the way, made up to column j
@@ -72,10 +70,10 @@ module _ {k n b off : ℕ} (j : ℕ) {before t : List ℕ} (s : Sized k n before
       many m = rw (le-ltb j k m) (row-kept (j - k) _ (omega arith) refl ∙ sym (shift-at (bins k b) k j m))
 
   -- the next number of the row, and that its sum fits before the term goes
-  pub slid : {held x g : ℕ} → held ≡ shift (bins k (suc b)) 1 j → x ≡ getD t (off + j) 0 → g ≡ goneAt k off j t
-      → (held + x ≡ bins k (suc b) j + g) × (held + x < 2 ^ 64)
-  slid e d f =
-      let c = d ∙ row-kept j _ (omega arith) refl in
+  pub slid : {held : ℕ} → held ≡ shift (bins k (suc b)) 1 j
+      → (held + getD t (off + j) 0 ≡ bins k (suc b) j + goneAt k off j t) × (held + getD t (off + j) 0 < 2 ^ 64)
+  slid e =
+      let c = row-kept j _ (omega arith) refl in
       (omega (arith, c, bins-slide k (s .some) b j, lets-go), omega (arith, c, slide-fits k b j (s .some) (omega (arith, s .most))))
 
 -- a row more

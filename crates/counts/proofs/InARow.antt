@@ -1,7 +1,7 @@
 -- Kinds 4 and 5. v working components leave v + 1 bins for the failed ones, each of fewer than k. From s and from s + 1 failed ones the same states work,
 -- but those that fill the bin to its brim: hence a sum that slides along. A ring is the bins between, and its lead and its tail together, fewer than k.
 -- Assumes nothing.
-use mathlib.Core.Path.{_≡_, refl, sym, ap, _∙_}
+use mathlib.Core.Path.{_≡_, refl, sym, _∙_}
 use mathlib.Core.Bool.{cond}
 use mathlib.Core.Logic.{⊎-elim}
 use Prim.Native.Nat.{ℕ, zero, suc, _+_, _-_, _*_, _≤_, _<_}

@@ -35,6 +35,12 @@ pub record Added (k : ℕ) (weights : List ℕ) (i : ℕ) (before after : List �
   pub is : (j : ℕ) → j ≤ most → sumBelow k (cellAt after j) ≡ lighter k weights i j k
   pub rest : Outside 0 cells before after
 
+-- a cell is added to another, and the sum fits 64 bits
+pub record Raisable (from to : ℕ) (table : List ℕ) : Type 0 where
+  pub read : from < length table
+  pub written : to < length table
+  pub fits : getD table to 0 + getD table from 0 < 2 ^ 64
+
 -- `count` cells are added to `count` others behind them, and the sums fit 64 bits
 pub record Addable (from to count : ℕ) (table : List ℕ) : Type 0 where
   pub apart : from + count ≤ to

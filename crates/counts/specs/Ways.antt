@@ -21,7 +21,7 @@ apartOf owed i j = waysOf (i - (j - 1) * owed) j
 -- the ring of n: each failed one is followed by `owed` that work, so n - j * owed places are left; or the ring's end falls among those that follow one,
 -- in one of `owed` ways, and the others have a place less
 unfoldable pub ringOf : (owed n j : ℕ) → ℕ
-ringOf owed n j = cond (eqb j 0) 1 (waysOf (n - j * owed) j + owed * waysOf (n - j * owed - 1) (j - 1))
+ringOf owed n j = cond (eqb j 0) 1 (waysOf (n - j * owed) j + owed * waysOf (n - 1 - j * owed) (j - 1))
 
 -- entry j
 unfoldable pub entryOf : Rule → (n j : ℕ) → ℕ

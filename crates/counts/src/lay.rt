@@ -29,12 +29,12 @@ fn entry(rule: Rule, n: usize, j: usize, table: &[u64]) -> u64
         return sums::total(rule.first as usize, j * sums::WIDTH, table);
     }
     if rule.kind == 4 {
-        return table[(n + 1 - j) * bins::WIDTH + j];
+        return bins::line(n, j, table);
     }
     if j == n {
         return 0;
     }
-    bins::around(rule.first as usize, (n - 1 - j) * bins::WIDTH + j, j, table)
+    bins::around(rule.first as usize, bins::between(n, j), j, table)
 }
 
 // The entries 0 to n.

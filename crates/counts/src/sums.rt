@@ -1,14 +1,23 @@
 // Kind 2: row j of the working table holds for each sum how many states of the components read so far have j failed that weigh as much.
 ghost use mathlib.Core.Path.{_≡_};
-ghost use Prim.Native.Nat.{_+_};
-ghost use lib.ListN.{length, getD};
+ghost use Prim.Native.Nat.{_+_, _-_, _≤_, _<_, min};
+ghost use lib.ListN.{length, getD, set};
 ghost use Rattle.rules.specs.Below.{sumBelow};
+ghost use Rattle.rules.specs.Refusal.{heaviest};
 ghost use Rattle.counts.specs.Cells.{Stored};
-ghost use Rattle.counts.specs.Sums.{Weighed, Added, Addable, Turnable, Turned, Summable};
+ghost use Rattle.counts.specs.Sums.{Weighed, Added, Raisable, Addable, Turnable, Turned, Summable};
 use crate::cut;
 
 // How far apart the rows stand: k is at most the heaviest total, and k itself is dead.
 pub const WIDTH: usize = 120;
+
+// Adds the cell at `from` to the one at `to`.
+fn raise(from: usize, to: usize, table: &mut [u64])
+    requires { ⌜ Raisable from to (now table) ⌝ }
+    ensures { λ _. ⌜ now (table .exit) ≡ set (now (table .entry)) to (getD (now (table .entry)) to 0 + getD (now (table .entry)) from 0) ⌝ }
+{
+    table[to] = table[to] + table[from];
+}
 
 // Adds the `count` cells from `from` on to those from `to` on.
 fn add(from: usize, to: usize, count: usize, table: &mut [u64])
@@ -17,7 +26,7 @@ fn add(from: usize, to: usize, count: usize, table: &mut [u64])
 {
     let mut s: usize = 0;
     while s < count {
-        table[to + s] = table[to + s] + table[from + s];
+        raise(from + s, to + s, table);
         s += 1;
     }
 }
@@ -35,21 +44,36 @@ fn turn(w: usize, count: usize, rows: usize, table: &mut [u64])
     }
 }
 
-// All components. A sum that those read so far cannot add up to has no states, and one that a failed one takes to k is dead.
+// How many columns count: a sum that those read so far cannot add up to has no states, and one that a failed one of weight w takes to k is dead.
+fn within(k: usize, w: usize, reach: usize) -> usize
+    requires { ⌜ reach ≤ heaviest ⌝ }
+    ensures { λ r. ⌜ r ≡ min (reach + 1) (k - w) ⌝ }
+{
+    cut::least(reach + 1, cut::less(k, w))
+}
+
+// All components.
 pub fn fill(k: usize, weights: &[u16], table: &mut [u64])
     requires { ⌜ Weighed k (now weights) (now table) ⌝ }
     ensures { λ _. ⌜ Added k (now (weights .entry)) (length (now (weights .entry))) (now (table .entry)) (now (table .exit)) ⌝ }
 {
-    cells::zero(table, cells::CELLS);
-    table[0] = 1;
+    cut::back(table, cells::CELLS);
     let mut reach: usize = 0;
     let mut i: usize = 0;
     while i < weights.len() {
         let w = weights[i] as usize;
-        turn(w, cut::least(reach + 1, cut::less(k, w)), i + 1, table);
+        turn(w, within(k, w, reach), i + 1, table);
         reach += w;
         i += 1;
     }
+}
+
+// A cell of the row at `from`.
+fn cell(from: usize, s: usize, table: &[u64]) -> u64
+    requires { ⌜ from + s < length (now table) ⌝ }
+    ensures { λ r. ⌜ r ≡ getD (now (table .entry)) (from + s) 0 ⌝ }
+{
+    table[from + s]
 }
 
 // The states of a row that weigh less than k.
@@ -60,7 +84,7 @@ pub fn total(k: usize, from: usize, table: &[u64]) -> u64
     let mut sum: u64 = 0;
     let mut s: usize = 0;
     while s < k {
-        sum += table[from + s];
+        sum += cell(from, s, table);
         s += 1;
     }
     sum

@@ -1,8 +1,9 @@
 // Kinds 1, 3, 6 and 7: an entry is one of Pascal's numbers, two of them, or 0.
 ghost use mathlib.Core.Path.{_≡_};
 ghost use mathlib.Core.Bool.{true};
-ghost use Prim.Native.Nat.{suc, _≤_, _<_};
+ghost use Prim.Native.Nat.{suc, _-_, _*_, _≤_, _<_};
 ghost use lib.ListN.{length};
+ghost use Rattle.pascal.specs.Ways.{waysOf};
 ghost use Rattle.pascal.specs.Folded.{foldedRule};
 ghost use Rattle.counts.specs.Cells.{Stored};
 ghost use Rattle.counts.specs.Ways.{failsAt, apartOf, ringOf, entryOf, Spread, Lookup};
@@ -22,13 +23,20 @@ fn fails_at(rule: Rule, j: u64) -> bool
     false
 }
 
+// The states of i components with j failed where each of `times` takes `owed` components away.
+fn left(owed: usize, i: usize, times: usize, j: usize, triangle: &[u64; pascal::ENTRIES]) -> u64
+    requires { ⌜ (i ≤ 64) × (times * owed ≤ 4096) × (foldedRule (now triangle) ≡ true) ⌝ }
+    ensures { λ r. ⌜ r ≡ waysOf (i - times * owed) j ⌝ }
+{
+    pascal::ways(triangle, cut::less(i, times * owed), j)
+}
+
 // The working states of a line of i components with j failed: each failed one but the last is followed by `owed` that work.
 fn apart(owed: usize, i: usize, j: usize, triangle: &[u64; pascal::ENTRIES]) -> u64
     requires { ⌜ Lookup owed i j (now triangle) ⌝ }
     ensures { λ r. ⌜ r ≡ apartOf owed i j ⌝ }
 {
-    let taken = cut::less(j, 1) * owed;
-    pascal::ways(triangle, cut::less(i, taken), j)
+    left(owed, i, cut::less(j, 1), j, triangle)
 }
 
 // The working states of a ring: each failed one is followed by `owed` that work, or the ring's end falls among those that follow one, in one of
@@ -40,9 +48,7 @@ fn ring(owed: usize, n: usize, j: usize, triangle: &[u64; pascal::ENTRIES]) -> u
     if j == 0 {
         return 1;
     }
-    let left = cut::less(n, j * owed);
-    pascal::ways(triangle, left, j)
-        + owed as u64 * pascal::ways(triangle, cut::less(left, 1), j - 1)
+    left(owed, n, j, j, triangle) + owed as u64 * left(owed, n - 1, j, j - 1, triangle)
 }
 
 // Entry j of the count table.

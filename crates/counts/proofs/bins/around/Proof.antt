@@ -25,29 +25,22 @@ loop-holds : tie.Need-loop-holds Inv-loop μ-loop
 unfolding sumBelow
 loop-holds c = (search needs, c .least .ensures ∙ omega arith, c .before .before .pre, refl)
 
+part-requires : tie.Need-part-requires Inv-loop μ-loop
+part-requires c κs =
+    let v = c .before .loop .inv in
+    let a = c .before .before .before .before .args in
+    record {
+      most = search needs;
+      row = search needs;
+      long = search needs;
+      fits = omega (arith, sum-step (term (a .top) (a .table .now)) _ _ (v .2 .fits) (omega arith) (v .3) .1);
+    }
+
 add-sum : tie.Need-add-sum Inv-loop μ-loop
-add-sum c = search needs
-
-sub-sum : tie.Need-sub-sum Inv-loop μ-loop
-sub-sum c = search needs
-
-mul-sum : tie.Need-mul-sum Inv-loop μ-loop
-mul-sum c = search needs
-
-shared-slice-read-sum : tie.Need-shared-slice-read-sum Inv-loop μ-loop
-shared-slice-read-sum c = search needs
-
-mul-sum-2 : tie.Need-mul-sum-2 Inv-loop μ-loop
-mul-sum-2 c =
+add-sum c =
     let v = c .before .before .loop .inv in
     let a = c .before .before .before .before .before .args in
-    omega (arith, sum-step (term (a .top) (a .table .now)) _ _ (v .2 .fits) (omega arith) (v .3) .1)
-
-add-sum-2 : tie.Need-add-sum-2 Inv-loop μ-loop
-add-sum-2 c =
-    let v = c .before .before .loop .inv in
-    let a = c .before .before .before .before .before .args in
-    omega (arith, sum-step (term (a .top) (a .table .now)) _ _ (v .2 .fits) (omega arith) (v .3) .1)
+    omega (arith, c .part .ensures, sum-step (term (a .top) (a .table .now)) _ _ (v .2 .fits) (omega arith) (v .3) .1)
 
 add-m : tie.Need-add-m Inv-loop μ-loop
 add-m c = search needs
@@ -76,12 +69,8 @@ around-spec =
     add-least
     least-requires
     loop-holds
+    part-requires
     add-sum
-    sub-sum
-    mul-sum
-    shared-slice-read-sum
-    mul-sum-2
-    add-sum-2
     add-m
     loop-less
     loop-again

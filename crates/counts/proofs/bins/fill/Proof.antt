@@ -4,7 +4,7 @@ use Prim.Native.Nat.{suc, _+_, _-_, _≤_}
 use native.Mathlib.Omega.{arith}
 use Rattle.counts.specs.Bins.{Sized, Made}
 use Rattle.counts.proofs.Cells.{outside-none, outside-then}
-use Rattle.counts.proofs.Filling.{rows-fewer, sized-same}
+use Rattle.counts.proofs.Filling.{first-row, rows-fewer, sized-same}
 use borrow.Author.Needs.{needs}
 use Rattle.counts.proofs.bins.fill.Statement.{statement}
 use Rattle.counts.proofs.bins.fill.Tie as tie
@@ -15,13 +15,13 @@ Inv-loop k n table₀ b₀ table b = (b ≤ n + 1) × Sized k n table₀ × Made
 abbrev μ-loop : tie.MeasureT-loop
 μ-loop k n table₀ b₀ table b = n + 1 - b
 
-first-requires : tie.Need-first-requires Inv-loop μ-loop
-first-requires c κs = search needs
+back-requires : tie.Need-back-requires Inv-loop μ-loop
+back-requires c κs = search needs
 
 loop-holds : tie.Need-loop-holds Inv-loop μ-loop
 loop-holds c =
     let p = c .before .before .before .before .before .pre in
-    let m = c .before .before .first .ensures in
+    let m = first-row p (c .before .before .back .ensures) in
     (search needs, sized-same (m .rest .long) p, record { filled = m .filled; rest = outside-none })
 
 next-requires : tie.Need-next-requires Inv-loop μ-loop
@@ -42,12 +42,12 @@ loop-again c =
     (omega arith, v .1, record { filled = rows-fewer (omega arith) (m .filled); rest = outside-then (v .2 .rest) (m .rest) })
 
 same-length : tie.Need-same-length Inv-loop μ-loop
-same-length c = c .before .loop .inv .2 .rest .long ∙ c .before .before .before .before .first .ensures .rest .long
+same-length c = c .before .loop .inv .2 .rest .long ∙ first-row (c .before .before .before .before .before .before .before .pre) (c .before .before .before .before .back .ensures) .rest .long
 
 returns : tie.Need-returns Inv-loop μ-loop
 returns c =
     let v = c .before .loop .inv in
-    record { filled = rows-fewer (omega arith) (v .2 .filled); rest = outside-then (c .before .before .before .before .first .ensures .rest) (v .2 .rest) }
+    record { filled = rows-fewer (omega arith) (v .2 .filled); rest = outside-then (first-row (c .before .before .before .before .before .before .before .pre) (c .before .before .before .before .back .ensures) .rest) (v .2 .rest) }
 
 pub fill-spec : {M : Type 1} → statement M
 fill-spec =
@@ -55,7 +55,7 @@ fill-spec =
     (tie.spec
     Inv-loop
     μ-loop
-    first-requires
+    back-requires
     loop-holds
     next-requires
     add-b

@@ -23,58 +23,34 @@ returns : tie.Need-returns
 unfolding entryAt
 returns c = rw (eq-eqb _ _ (c .before .if1 .taken)) (c .total .ensures)
 
-add-result : tie.Need-add-result
-add-result c = search needs
-
-sub-result : tie.Need-sub-result
-sub-result c = search needs
-
-mul-result : tie.Need-mul-result
-mul-result c = search needs
-
-add-result-2 : tie.Need-add-result-2
-add-result-2 c = search needs
-
-mul-result-2 : tie.Need-mul-result-2
-mul-result-2 c = search needs
-
-shared-slice-read-result : tie.Need-shared-slice-read-result
-shared-slice-read-result c = search needs
+line-requires : tie.Need-line-requires
+line-requires c κs = search needs
 
 returns-2 : tie.Need-returns-2
 unfolding entryAt
-returns-2 c = rw (ne-eqb _ _ (c .before .before .before .if1 .left), eq-eqb _ _ (c .before .if2 .taken))
+returns-2 c = rw (ne-eqb _ _ (c .before .before .before .if1 .left), eq-eqb _ _ (c .before .if2 .taken)) (c .line .ensures)
 
 returns-3 : tie.Need-returns-3
 unfolding entryAt
 returns-3 c = rw (ne-eqb _ _ (c .before .before .before .if1 .left), ne-eqb _ _ (c .before .if2 .left), eq-eqb _ _ (c .if3 .taken))
 
-sub-around : tie.Need-sub-around
-sub-around c = search needs
-
-sub-around-2 : tie.Need-sub-around-2
-sub-around-2 c = search needs
-
-mul-around : tie.Need-mul-around
-mul-around c = search needs
-
-add-around : tie.Need-add-around
-add-around c = search needs
+between-requires : tie.Need-between-requires
+between-requires c κs = search needs
 
 around-requires : tie.Need-around-requires
 unfolding entryAt
 around-requires c κs =
-    let p = c .before .before .before .before .before .before .pre in
+    let p = c .before .before .before .before .before .before .before .pre in
     record {
       most = omega (arith, p .0 .most, p .1);
       row = omega arith;
       long = omega (arith, p .0 .most, p .0 .long);
-      fits = rw (ne-eqb _ _ (c .before .before .before .if1 .left), ne-eqb _ _ (c .before .if2 .left), ne-eqb _ _ (c .if3 .left)) at (p .0 .fits _ (p .1));
+      fits = rw (c .between .ensures) (rw (ne-eqb _ _ (c .before .before .before .before .if1 .left), ne-eqb _ _ (c .before .before .if2 .left), ne-eqb _ _ (c .before .if3 .left)) at (p .0 .fits _ (p .1)));
     }
 
 returns-4 : tie.Need-returns-4
 unfolding entryAt
-returns-4 c = rw (ne-eqb _ _ (c .before .before .before .before .if1 .left), ne-eqb _ _ (c .before .before .if2 .left), ne-eqb _ _ (c .before .if3 .left)) (c .around .ensures)
+returns-4 c = rw (ne-eqb _ _ (c .before .before .before .before .before .if1 .left), ne-eqb _ _ (c .before .before .before .if2 .left), ne-eqb _ _ (c .before .before .if3 .left), ← c .before .between .ensures) (c .around .ensures)
 
 pub entry-spec : {M : Type 1} → statement M
 entry-spec =
@@ -83,17 +59,9 @@ entry-spec =
     mul-total
     total-requires
     returns
-    add-result
-    sub-result
-    mul-result
-    add-result-2
-    mul-result-2
-    shared-slice-read-result
+    line-requires
     returns-2
     returns-3
-    sub-around
-    sub-around-2
-    mul-around
-    add-around
+    between-requires
     around-requires
     returns-4)

@@ -1,6 +1,6 @@
 -- `fill` takes one component after the other, from none read to all. Assumes nothing.
-use mathlib.Core.Path.{_≡_, refl, ap, _∙_}
-use Prim.Native.Nat.{_+_, _-_, _≤_, min}
+use mathlib.Core.Path.{_≡_, refl, _∙_}
+use Prim.Native.Nat.{_+_, _-_, _≤_}
 use native.Mathlib.Omega.{arith}
 use lib.ListN.{length, drop}
 use Rattle.rules.specs.Below.{total}
@@ -24,16 +24,13 @@ Inv-loop k weights table₀ reach₀ i₀ table reach i =
 abbrev μ-loop : tie.MeasureT-loop
 μ-loop k weights table₀ reach₀ i₀ table reach i = length weights - i
 
-zero-requires : tie.Need-zero-requires Inv-loop μ-loop
-zero-requires c κs = search needs
-
-slice-write-table : tie.Need-slice-write-table Inv-loop μ-loop
-slice-write-table c = search needs
+back-requires : tie.Need-back-requires Inv-loop μ-loop
+back-requires c κs = search needs
 
 loop-holds : tie.Need-loop-holds Inv-loop μ-loop
 loop-holds c =
     let p = c .before .before .before .before .before .before .pre in
-    let z = c .before .before .zero .ensures in
+    let z = c .before .before .back .ensures in
     (search needs, weighed-same (none-outside p z .long) p, omega (arith, p .light), none-read p z, outside-none)
 
 mul-w : tie.Need-mul-w Inv-loop μ-loop
@@ -45,30 +42,24 @@ shared-slice-read-w c = search needs
 cast-w : tie.Need-cast-w Inv-loop μ-loop
 cast-w c = omega (arith, c .shared-slice-known2 .given (c .before .before .loop .i))
 
-add-least : tie.Need-add-least Inv-loop μ-loop
-add-least c = search needs
-
-less-requires : tie.Need-less-requires Inv-loop μ-loop
-less-requires c κs = search needs
-
-least-requires : tie.Need-least-requires Inv-loop μ-loop
-least-requires c κs = search needs
+within-requires : tie.Need-within-requires Inv-loop μ-loop
+within-requires c κs = search needs
 
 add-turn : tie.Need-add-turn Inv-loop μ-loop
 add-turn c = search needs
 
 turn-requires : tie.Need-turn-requires Inv-loop μ-loop
 turn-requires c κs =
-    let l = c .before .before .before .before .before .loop in
-    let taken = c .before .before .before .before .loop-test .taken in
+    let l = c .before .before .before .before .loop in
+    let taken = c .before .before .before .loop-test .taken in
     let v = l .inv in
-    sums-turnable (weighed-same (v .4 .long) (v .1)) (v .3) taken refl (c .before .least .ensures ∙ ap (min _) (c .before .before .less .ensures))
-    (omega (arith, v .2, total-drop (l .i) (c .before .before .before .before .before .before .before .before .before .before .before .before .args .weights .now) taken))
+    sums-turnable (weighed-same (v .4 .long) (v .1)) (v .3) taken refl (c .before .within .ensures)
+    (omega (arith, v .2, total-drop (l .i) (c .before .before .before .before .before .before .before .before .before .before .before .args .weights .now) taken))
 
 add-reach : tie.Need-add-reach Inv-loop μ-loop
 add-reach c =
-    let l = c .before .before .before .before .before .before .before .before .loop in
-    omega (arith, l .inv .2, total-drop (l .i) (c .before .before .before .before .before .before .before .before .before .before .before .before .before .before .before .args .weights .now) (c .before .before .before .before .before .before .before .loop-test .taken))
+    let l = c .before .before .before .before .before .before .before .loop in
+    omega (arith, l .inv .2, total-drop (l .i) (c .before .before .before .before .before .before .before .before .before .before .before .before .before .before .args .weights .now) (c .before .before .before .before .before .before .loop-test .taken))
 
 add-i : tie.Need-add-i Inv-loop μ-loop
 add-i c = search needs
@@ -78,12 +69,12 @@ loop-less c = search needs
 
 loop-again : tie.Need-loop-again Inv-loop μ-loop
 loop-again c =
-    let l = c .before .before .before .before .before .before .before .before .loop in
+    let l = c .before .before .before .before .before .before .before .loop in
     let v = l .inv in
-    let taken = c .before .before .before .before .before .before .before .loop-test .taken in
-    let next = total-drop (l .i) (c .before .before .before .before .before .before .before .before .before .before .before .before .before .before .before .args .weights .now) taken in
+    let taken = c .before .before .before .before .before .before .loop-test .taken in
+    let next = total-drop (l .i) (c .before .before .before .before .before .before .before .before .before .before .before .before .before .before .args .weights .now) taken in
     let able = weighed-same (v .4 .long) (v .1) in
-    let count = c .before .before .before .before .least .ensures ∙ ap (min _) (c .before .before .before .before .before .less .ensures) in
+    let count = c .before .before .before .before .within .ensures in
     let o = c .before .before .turn .ensures in (
       search needs,
       v .1,
@@ -93,13 +84,13 @@ loop-again c =
     )
 
 same-length : tie.Need-same-length Inv-loop μ-loop
-same-length c = c .before .loop .inv .4 .long ∙ none-outside (c .before .before .before .before .before .before .before .before .pre) (c .before .before .before .before .zero .ensures) .long
+same-length c = c .before .loop .inv .4 .long ∙ none-outside (c .before .before .before .before .before .before .before .before .pre) (c .before .before .before .before .back .ensures) .long
 
 returns : tie.Need-returns Inv-loop μ-loop
 returns c =
     let l = c .before .loop in
     let e : l .i ≡ length (c .before .before .before .before .before .before .before .before .args .weights .now) = omega arith in
-    record { is = λ j m. rw e at (l .inv .3) .is j _ m (omega arith); rest = outside-then (none-outside (c .before .before .before .before .before .before .before .before .pre) (c .before .before .before .before .zero .ensures)) (l .inv .4) }
+    record { is = λ j m. rw e at (l .inv .3) .is j _ m (omega arith); rest = outside-then (none-outside (c .before .before .before .before .before .before .before .before .pre) (c .before .before .before .before .back .ensures)) (l .inv .4) }
 
 pub fill-spec : {M : Type 1} → statement M
 fill-spec =
@@ -107,15 +98,12 @@ fill-spec =
     (tie.spec
     Inv-loop
     μ-loop
-    zero-requires
-    slice-write-table
+    back-requires
     loop-holds
     mul-w
     shared-slice-read-w
     cast-w
-    add-least
-    less-requires
-    least-requires
+    within-requires
     add-turn
     turn-requires
     add-reach

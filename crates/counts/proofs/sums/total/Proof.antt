@@ -20,20 +20,14 @@ loop-holds : tie.Need-loop-holds Inv-loop μ-loop
 unfolding sumBelow
 loop-holds c = (search needs, search needs, refl)
 
+cell-requires : tie.Need-cell-requires Inv-loop μ-loop
+cell-requires c κs = search needs
+
 add-sum : tie.Need-add-sum Inv-loop μ-loop
-add-sum c = search needs
-
-mul-sum : tie.Need-mul-sum Inv-loop μ-loop
-mul-sum c = search needs
-
-shared-slice-read-sum : tie.Need-shared-slice-read-sum Inv-loop μ-loop
-shared-slice-read-sum c = search needs
-
-add-sum-2 : tie.Need-add-sum-2 Inv-loop μ-loop
-add-sum-2 c =
+add-sum c =
     let v = c .before .before .loop .inv in
-    let a = c .before .before .before .args in
-    omega (arith, sum-step (λ s. getD (a .table .now) (a .from + s) 0) _ _ (v .1 .fits) (omega arith) (v .2) .1)
+    let a = c .before .before .before .before .args in
+    omega (arith, c .cell .ensures, sum-step (λ s. getD (a .table .now) (a .from + s) 0) _ _ (v .1 .fits) (omega arith) (v .2) .1)
 
 add-s : tie.Need-add-s Inv-loop μ-loop
 add-s c = search needs
@@ -44,12 +38,12 @@ loop-less c = search needs
 loop-again : tie.Need-loop-again Inv-loop μ-loop
 loop-again c =
     let v = c .before .before .loop .inv in
-    let a = c .before .before .before .args in
-    (omega arith, v .1, sum-step (λ s. getD (a .table .now) (a .from + s) 0) _ _ (v .1 .fits) (omega arith) (v .2) .0)
+    let a = c .before .before .before .before .args in
+    (omega arith, v .1, omega (arith, c .cell .ensures, sum-step (λ s. getD (a .table .now) (a .from + s) 0) _ _ (v .1 .fits) (omega arith) (v .2) .0))
 
 returns : tie.Need-returns Inv-loop μ-loop
 returns c =
-    let e : c .before .loop .s ≡ c .before .before .args .k = omega arith in
+    let e : c .before .loop .s ≡ c .before .before .before .args .k = omega arith in
     rw e at (c .before .loop .inv .2)
 
 pub total-spec : {M : Type 1} → statement M
@@ -59,10 +53,8 @@ total-spec =
     Inv-loop
     μ-loop
     loop-holds
+    cell-requires
     add-sum
-    mul-sum
-    shared-slice-read-sum
-    add-sum-2
     add-s
     loop-less
     loop-again

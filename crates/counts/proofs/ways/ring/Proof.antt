@@ -1,6 +1,6 @@
 -- `ring` is two lookups. Assumes nothing.
 use mathlib.Core.Path.{_≡_}
-use Prim.Native.Nat.{_+_, _*_}
+use Prim.Native.Nat.{_+_, _*_, _^_, _<_}
 use native.Mathlib.Nat.{mul-le-mul}
 use native.Mathlib.Omega.{arith}
 use borrow.Author.Tests.{ne-eqb}
@@ -14,55 +14,37 @@ returns : tie.Need-returns
 unfolding ringOf
 returns c = rw (c .if1 .taken)
 
-mul-less : tie.Need-mul-less
-mul-less c = let p = c .before .pre .0 in omega (arith, mul-le-mul (p .few) (p .owes))
+left-requires : tie.Need-left-requires
+left-requires c κs = let p = c .before .pre .0 in (p .size, omega (arith, mul-le-mul (p .few) (p .owes)), p .folded)
 
-less-requires : tie.Need-less-requires
-less-requires c κs = search needs
+sub-left : tie.Need-sub-left
+sub-left c = search needs
 
-ways-requires : tie.Need-ways-requires
-ways-requires c κs = search needs
+sub-left-2 : tie.Need-sub-left-2
+sub-left-2 c = search needs
 
-less-requires-2 : tie.Need-less-requires-2
-less-requires-2 c κs = search needs
+left-requires-2 : tie.Need-left-requires-2
+left-requires-2 c κs =
+    let p = c .before .before .pre .0 in
+    (omega (arith, p .size), omega (arith, mul-le-mul (p .few) (p .owes)), p .folded)
 
-sub-ways : tie.Need-sub-ways
-sub-ways c = search needs
-
-ways-requires-2 : tie.Need-ways-requires-2
-ways-requires-2 c κs = search needs
-
--- both terms are the ring's count
-both : (c : tie.After-ways2)
-    → (let a = c .before .before .before .before .before .args in c .before .before .ways .result + a .owed * c .ways2 .result ≡ ringOf (a .owed) (a .n) (a .j))
+-- both terms are the ring's count, which fits
+both : (c : tie.After-left2)
+    → (let a = c .before .before .before .args in let sum = c .before .left .result + a .owed * c .left2 .result in (sum ≡ ringOf (a .owed) (a .n) (a .j)) × (ringOf (a .owed) (a .n) (a .j) < 2 ^ 64))
 unfolding ringOf
 both c =
-    rw (ne-eqb _ _ (c .before .before .before .before .if1 .left), ← c .before .before .before .less .ensures, c .before .before .ways .ensures, ← c .before .less2 .ensures, c .ways2 .ensures)
+    let a = c .before .before .before .args in
+    (rw (ne-eqb _ _ (c .before .before .if1 .left), c .before .left .ensures, c .left2 .ensures), ring-fits (a .owed) (a .n) (a .j) (omega arith) (omega arith))
 
 mul-result : tie.Need-mul-result
-mul-result c =
-    let a = c .before .before .before .before .before .args in
-    omega (arith, both c, ring-fits (a .owed) (a .n) (a .j) (omega arith) (omega arith))
+mul-result c = omega (arith, both c)
 
 add-result : tie.Need-add-result
-add-result c =
-    let a = c .before .before .before .before .before .args in
-    omega (arith, both c, ring-fits (a .owed) (a .n) (a .j) (omega arith) (omega arith))
+add-result c = omega (arith, both c)
 
 returns-2 : tie.Need-returns-2
-returns-2 c = both c
+returns-2 c = both c .0
 
 pub ring-spec : {M : Type 1} → statement M
 ring-spec =
-    tie.close
-    (tie.spec
-    returns
-    mul-less
-    less-requires
-    ways-requires
-    less-requires-2
-    sub-ways
-    ways-requires-2
-    mul-result
-    add-result
-    returns-2)
+    tie.close (tie.spec returns left-requires sub-left sub-left-2 left-requires-2 mul-result add-result returns-2)
