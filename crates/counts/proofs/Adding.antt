@@ -2,11 +2,11 @@
 -- weight further on. Sums that no state has, or that are dead, are passed over. Assumes nothing.
 use mathlib.Core.Path.{_≡_, refl, sym, ap, _∙_}
 use mathlib.Core.Logic.{_⊎_, inl, inr, ⊎-elim}
-use mathlib.Core.List.{List, _++_}
+use mathlib.Core.List.{List}
 use Prim.Native.Nat.{ℕ, zero, suc, _+_, _-_, _*_, _^_, _≤_, _<_, min}
 use native.Mathlib.Numerals.{add-one}
 use native.Mathlib.Omega.{arith}
-use lib.ListN.{length, getD, drop, set, replicate}
+use lib.ListN.{length, getD, drop}
 use lib.Seq.{drop-cons}
 use borrow.Author.Tests.{lt-ltb, le-ltb}
 use Rattle.rules.specs.Below.{sumBelow, total}
@@ -17,7 +17,7 @@ use Rattle.rules.proofs.Sums.{sum-same}
 use Rattle.counts.specs.From.{from, shift}
 use Rattle.counts.specs.Cells.{Stored, Outside}
 use Rattle.counts.specs.Sums.{lighter, cellAt, Sums, Weighed, Addable, Turnable, Turned}
-use Rattle.counts.proofs.Cells.{below-or, outside-none, outside-then, outside-wider, back-outside, back-first, back-cell}
+use Rattle.counts.proofs.Cells.{below-or, outside-none, outside-then, outside-wider}
 use Rattle.counts.proofs.From.{from-end, from-above, from-zero, from-suc, from-fits}
 use Rattle.counts.proofs.InARow.{shift-at, shift-past, sum-past}
 
@@ -141,24 +141,21 @@ module _ {w count rows low : ℕ} {before t : List ℕ} (able : Turnable w count
 pub weighed-same : {k : ℕ} {weights a b : List ℕ} → length b ≡ length a → Weighed k weights a → Weighed k weights b
 weighed-same e s = record { some = s .some; small = s .small; most = s .most; light = s .light; long = omega (arith, s .long) }
 
-module _ {k : ℕ} {weights t t₁ : List ℕ} (able : Weighed k weights t) (z : t₁ ≡ set (replicate cells 0 ++ drop cells t) 0 1) where
-  pub none-outside : Outside 0 cells t t₁
-  none-outside = back-outside t cells (omega arith) (able .long) z
+module _ {k : ℕ} {weights t t′ : List ℕ} (able : Weighed k weights t) (w : Stored (λ p. 1 - p) 0 0 cells t t′) where
+  first-cell : (j s : ℕ) → j ≤ most → s < heaviest → cellAt t′ j s ≡ 1 - (j * heaviest + s)
+  first-cell j s m h = w .row .is (j * heaviest + s) _ (omega arith) (omega arith) (omega arith)
 
-  first-cell : (j s : ℕ) → j ≤ most → s < heaviest → 0 < j + s → cellAt t₁ j s ≡ 0
-  first-cell j s m h l = back-cell t cells (omega arith) (able .long) z _ (omega arith) (omega arith)
-
-  pub none-read : Sums k weights 0 0 t₁
+  pub none-read : Sums k weights 0 0 t′
   unfolding sumBelow
-  none-read = record { is = go; none = λ j s m h l. first-cell j s m h (omega arith) }
+  none-read = record { is = go; none = λ j s m h l. first-cell j s m h ∙ omega arith }
     where
-      go : (j c : ℕ) → j ≤ most → c ≤ k → sumBelow c (cellAt t₁ j) ≡ lighter k weights 0 j c
+      go : (j c : ℕ) → j ≤ most → c ≤ k → sumBelow c (cellAt t′ j) ≡ lighter k weights 0 j c
       go zero zero m l = sym (lighter-none k weights)
       go zero (suc c) m l =
-          sum-past 1 (suc c) (cellAt t₁ 0) (omega arith) (λ s h g. first-cell 0 s m (omega (arith, able .small)) (omega arith))
-          ∙ omega (arith, back-first t cells (omega arith) (able .long) z, lighter-one k weights c l)
+          sum-past 1 (suc c) (cellAt t′ 0) (omega arith) (λ s h g. first-cell 0 s m (omega (arith, able .small)) ∙ omega arith)
+          ∙ omega (arith, first-cell 0 0 m (omega arith), lighter-one k weights c l)
       go (suc j) c m l =
-          sum-past 0 c (cellAt t₁ (suc j)) (omega arith) (λ s h g. first-cell (suc j) s m (omega (arith, able .small)) (omega arith))
+          sum-past 0 c (cellAt t′ (suc j)) (omega arith) (λ s h g. first-cell (suc j) s m (omega (arith, able .small)) ∙ omega arith)
           ∙ sym (from-above (row1 k (numberOf weights)) (below (k - c) k (k - c)) 0 (suc j) (omega arith))
 
 -- ---- one component more

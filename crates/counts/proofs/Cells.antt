@@ -4,7 +4,7 @@ use mathlib.Core.Path.{_≡_, refl, sym, ap, _∙_}
 use mathlib.Core.Bool.{Bool, true, false}
 use mathlib.Core.Logic.{_⊎_, inl, inr, ⊎-elim}
 use mathlib.Core.List.{List, _++_}
-use Prim.Native.Nat.{ℕ, _+_, _-_, _≤_, _<_}
+use Prim.Native.Nat.{ℕ, zero, suc, _+_, _-_, _≤_, _<_}
 use native.Mathlib.Omega.{arith}
 use lib.Dec.{ltb}
 use lib.ListN.{length, getD, drop, set, replicate, length-set, length-append, length-drop, length-replicate, getD-replicate, List·getD-append}
@@ -92,26 +92,25 @@ drop-cell n a i l =
     let d : n + (i - n) ≡ i = omega arith in
     getD-drop n a (i - n) 0 ∙ ap (λ x. getD a x 0) d
 
--- the first n cells set to 0, and the first to 1
-module _ (a : List ℕ) {b : List ℕ} (n : ℕ) (some : 0 < n) (fits : n ≤ length a) (e : b ≡ set (replicate n 0 ++ drop n a) 0 1) where
-  zero-outside : Outside 0 n a (replicate n 0 ++ drop n a)
-  zero-outside =
-      record {
-        long = length-append (replicate n 0) (drop n a) ∙ omega (arith, length-replicate {A = ℕ} n 0, length-drop n a);
-        low = λ p l. absurd (omega arith);
-        high = λ p l. append-high (replicate n 0) (drop n a) n p (length-replicate n 0) l ∙ drop-cell n a p l;
-      }
+-- the first n cells set to 0, and then the first to 1
+pub one-first : {a b : List ℕ} (n : ℕ) → 0 < n → n ≤ length a → b ≡ replicate n 0 ++ drop n a → Stored (λ p. 1 - p) 0 0 n a (set b 0 1)
+one-first {a} {b} n some fits e =
+    record { row = record { is = cell }; rest = outside-wider (omega arith) (omega arith) (outside-set 0 1 (omega arith) some zeros) }
+  where
+    zeros : Outside 0 n a b
+    zeros =
+        rw e
+        (record {
+          long = length-append (replicate n 0) (drop n a) ∙ omega (arith, length-replicate {A = ℕ} n 0, length-drop n a);
+          low = λ p l. absurd (omega arith);
+          high = λ p l. append-high (replicate n 0) (drop n a) n p (length-replicate n 0) l ∙ drop-cell n a p l;
+        })
 
-  pub back-outside : Outside 0 n a b
-  back-outside = rw e (outside-set 0 1 (omega arith) some zero-outside)
-
-  pub back-first : getD b 0 0 ≡ 1
-  back-first = rw e (getD-set-same (replicate n 0 ++ drop n a) 0 1 0 (omega (arith, zero-outside .long)))
-
-  pub back-cell : (p : ℕ) → 0 < p → p < n → getD b p 0 ≡ 0
-  back-cell p l h =
-      rw e
-      (getD-set-other (replicate n 0 ++ drop n a) 0 p 1 0 (λ d. omega arith) ∙ append-low (replicate n 0) (drop n a) n p (length-replicate n 0) h ∙ getD-replicate n p 0 0 h)
+    cell : (k p : ℕ) → 0 ≤ k → k < n → p ≡ 0 + k → getD (set b 0 1) p 0 ≡ 1 - k
+    cell zero p l h q = let d : p ≡ 0 = omega arith in rw d (getD-set-same b 0 1 0 (omega (arith, zeros .long)))
+    cell (suc k) p l h q =
+        getD-set-other b 0 p 1 0 (λ d. omega arith)
+        ∙ rw e (append-low (replicate n 0) (drop n a) n p (length-replicate n 0) (omega arith) ∙ getD-replicate n p 0 0 (omega arith) ∙ omega arith)
 
 -- a table whose first n cells were written, as a list
 pub stored-list : {f : ℕ → ℕ} {n : ℕ} {a b : List ℕ} → n ≤ length a → Stored f 0 0 n a b → b ≡ listBelow n f ++ drop n a

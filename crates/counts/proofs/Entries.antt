@@ -13,7 +13,7 @@ use Rattle.rules.specs.Below.{sumBelow}
 use Rattle.rules.specs.State.{numberOf, ruleOf}
 use Rattle.rules.specs.Count.{countOf}
 use Rattle.rules.specs.Memory.{live, lead, readingOf, row1, row5, row7}
-use Rattle.rules.specs.Refusal.{inRange}
+use Rattle.rules.specs.Refusal.{inRange, cells}
 use Rattle.rules.specs.Accepted.{Accepted, One}
 use Rattle.rules.proofs.Accepted.{range2, range4, range5, range6, range7}
 use Rattle.rules.proofs.Conditions.{count-by-reading}
@@ -189,11 +189,12 @@ module _ {rule : Rule} {n : ℕ} {weights table : List ℕ} (able : Workable rul
   pub bins-worked : {after : List ℕ} → (rule .kind ≡ 2 → ⊥) → Made (rule .first) n (n + 2) table after → Worked rule n weights table after
   bins-worked o a = record { is = λ j l. laid a j l (able .kind) o; rest = a .rest }
 
-  pub layable : {after : List ℕ} → Worked rule n weights table after → Layable rule n after
-  layable w =
-      record {
-        most = able .accepted .size-high;
-        two = λ e. weighed e .small;
-        long = omega (arith, able .long, w .rest .long);
-        fits = λ j l. rw (w .is j l) (count-fit _ n j (able .accepted .size-high));
-      }
+pub layable : {rule : Rule} {n : ℕ} {weights table after : List ℕ} → Accepted rule n weights → cells ≤ length table → Worked rule n weights table after
+    → Layable rule n after
+layable {n = n} ok long w =
+    record {
+      most = ok .size-high;
+      two = λ e. omega (arith, range2 ok e .high, ok .weights-total e);
+      long = omega (arith, w .rest .long);
+      fits = λ j l. rw (w .is j l) (count-fit _ n j (ok .size-high));
+    }

@@ -14,7 +14,7 @@ use Rattle.pascal.proofs.Triangle.{ways-sum, ways-fit}
 use Rattle.counts.specs.From.{bins, shift}
 use Rattle.counts.specs.Cells.{Stored}
 use Rattle.counts.specs.Bins.{width, Sized, Bins, Made, goneAt, term, aroundAt}
-use Rattle.counts.proofs.Cells.{below-or, outside-wider, back-outside, back-first, back-cell}
+use Rattle.counts.proofs.Cells.{below-or, outside-wider, one-first}
 use Rattle.counts.proofs.From.{from-le}
 use Rattle.counts.proofs.InARow.{shift-at, shift-past, bins-first, bins-slide, sum-past}
 
@@ -38,19 +38,6 @@ rows-fewer l h = record { is = λ b j p m. h .is b j p (omega arith) }
 
 pub sized-same : {k n : ℕ} {a b : List ℕ} → length b ≡ length a → Sized k n a → Sized k n b
 sized-same e s = record { some = s .some; most = s .most; long = omega (arith, s .long) }
-
-pub first-row : {k n : ℕ} {a b : List ℕ} → Sized k n a → b ≡ set (replicate width 0 ++ drop width a) 0 1 → Made k n 1 a b
-unfolding bins
-first-row {k} {n} {a} {b} s e =
-    record { filled = record { is = go }; rest = outside-wider (omega arith) (omega arith) (back-outside a width (omega arith) fits e) }
-  where
-    fits : width ≤ length a
-    fits = omega (arith, s .long)
-
-    go : (r j p : ℕ) → r < 1 → r + j ≤ n + 1 → p ≡ r * width + j → getD b p 0 ≡ bins k r j
-    go zero zero p l h q = let d : p ≡ 0 = omega arith in rw d (back-first a width (omega arith) fits e)
-    go zero (suc j) p l h q = back-cell a width (omega arith) fits e p (omega arith) (omega (arith, s .most))
-    go (suc r) j p l h q = absurd (omega arith)
 
 -- row b + 1 on the way, made up to column j
 module _ {k n b off : ℕ} (j : ℕ) {before t : List ℕ} (s : Sized k n before) (h : Bins k n (suc b) before) (o : off ≡ b * width)
@@ -76,20 +63,26 @@ module _ {k n b off : ℕ} (j : ℕ) {before t : List ℕ} (s : Sized k n before
       let c = row-kept j _ (omega arith) refl in
       (omega (arith, c, bins-slide k (s .some) b j, lets-go), omega (arith, c, slide-fits k b j (s .some) (omega (arith, s .most))))
 
--- a row more
-pub rows-more : {k n b off : ℕ} {before after : List ℕ} → Sized k n before → b ≤ n → Bins k n (suc b) before → off ≡ b * width
-    → Stored (bins k (suc b)) (off + width) 0 (suc (n - b)) before after → Made k n (suc (suc b)) before after
-rows-more {k} {n} {b} {off} {before} {after} s low h o w =
+-- a row more, as far as its columns count
+pub rows-more : {k n rows count off : ℕ} {before after : List ℕ} → Sized k n before → Bins k n rows before → Stored (bins k rows) off 0 count before after
+    → off ≡ rows * width → rows ≤ n + 1 → n + 2 ≤ rows + count → count ≤ width → Made k n (suc rows) before after
+rows-more {k} {n} {rows} {after = after} s h w o low wide narrow =
     record {
-      filled = record { is = λ r j p l m q. ⊎-elim (old r j p m q) (new r j p l m q) (below-or r (suc b)) };
-      rest = outside-wider (omega arith) (omega (arith, s .most)) (w .rest);
+      filled = record { is = λ r j p l m q. ⊎-elim (old r j p m q) (new r j p l m q) (below-or r rows) };
+      rest = outside-wider (omega arith) (omega arith) (w .rest);
     }
   where
-    old : (r j p : ℕ) → r + j ≤ n + 1 → p ≡ r * width + j → r < suc b → getD after p 0 ≡ bins k r j
-    old r j p m q l = w .rest .low p (omega (arith, s .most)) ∙ h .is r j p l m q
+    old : (r j p : ℕ) → r + j ≤ n + 1 → p ≡ r * width + j → r < rows → getD after p 0 ≡ bins k r j
+    old r j p m q l = w .rest .low p (omega arith) ∙ h .is r j p l m q
 
-    new : (r j p : ℕ) → r < suc (suc b) → r + j ≤ n + 1 → p ≡ r * width + j → suc b ≤ r → getD after p 0 ≡ bins k r j
-    new r j p l m q g = let a : r ≡ suc b = omega arith in rw a (w .row .is j p (omega arith) (omega arith) (omega arith))
+    new : (r j p : ℕ) → r < suc rows → r + j ≤ n + 1 → p ≡ r * width + j → rows ≤ r → getD after p 0 ≡ bins k r j
+    new r j p l m q g = let a : r ≡ rows = omega arith in rw a (w .row .is j p (omega arith) (omega arith) (omega arith))
+
+-- no bin
+pub first-row : {k n : ℕ} {a b : List ℕ} → Sized k n a → b ≡ replicate width 0 ++ drop width a → Made k n 1 a (set b 0 1)
+unfolding bins
+first-row s e =
+    rows-more s (record { is = λ r j p l. absurd (omega arith) }) (one-first width (omega arith) (omega arith) e) refl (omega arith) (omega arith) (omega arith)
 
 -- ---- a ring's sum
 

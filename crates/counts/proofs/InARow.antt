@@ -64,7 +64,7 @@ module _ (k : ℕ) where
   -- b bins hold what a line of b - 1 working components does
   bins-line : (b i j : ℕ) → suc i ≡ b + suc j → bins k b (suc j) ≡ line4 k i (suc j)
   unfolding bins
-  bins-line zero i j e = sym (from-above (row4 k) (live 0) i (suc j) (omega arith))
+  bins-line zero i j e = omega (arith, from-above (row4 k) (live 0) i (suc j) (omega arith))
   bins-line (suc v) i j e = let a : v + suc j ≡ i = omega arith in rw a
 
   -- from s and from s + 1 failed ones the same states work, but those that fill the bin just to its brim

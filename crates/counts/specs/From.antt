@@ -1,5 +1,5 @@
 -- Counts read from a memory of a kind's own row, and what the recurrences are about.
-use Prim.Native.Nat.{ℕ, zero, suc, _+_}
+use Prim.Native.Nat.{ℕ, zero, suc, _+_, _-_}
 use Rattle.rules.specs.Count.{countIf}
 use Rattle.rules.specs.Memory.{Row, Memory, live, run, machineOf, row4, row6}
 
@@ -14,10 +14,9 @@ line4 k i j = from (row4 k) (live 0) i j
 abbrev pub line6 : (r i j : ℕ) → ℕ
 line6 r i j = from (row6 r) (live 0) i j
 
--- kind 4 by bins: v working components leave v + 1 bins for the failed ones, each of fewer than k. No bin holds none failed only.
+-- kind 4 by bins: v working components leave v + 1 bins for the failed ones, each of fewer than k. No bin holds none failed in one way, and no more.
 unfoldable pub bins : (k b j : ℕ) → ℕ
-bins k zero zero = 1
-bins k zero (suc j) = 0
+bins k zero j = 1 - j
 bins k (suc v) j = line4 k (v + j) j
 
 -- f at j - u, and 0 where u is above j

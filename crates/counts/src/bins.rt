@@ -51,7 +51,8 @@ pub fn fill(k: usize, n: usize, table: &mut [u64])
     requires { ⌜ Sized k n (now table) ⌝ }
     ensures { λ _. ⌜ Made k n (n + 2) (now (table .entry)) (now (table .exit)) ⌝ }
 {
-    cut::back(table, WIDTH);
+    cells::zero(table, WIDTH);
+    table[0] = 1;
     let mut b: usize = 0;
     while b <= n {
         next(k, n, b, table);

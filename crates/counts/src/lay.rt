@@ -3,13 +3,13 @@ ghost use mathlib.Core.Path.{_≡_};
 ghost use Prim.Native.Nat.{suc, _≤_, _<_};
 ghost use lib.ListN.{length};
 ghost use Rattle.counts.specs.Cells.{Stored};
-ghost use Rattle.counts.specs.Tally.{entryAt, Countable, Tallied, OnTable, Workable, Worked, Layable};
+ghost use Rattle.counts.specs.Tally.{entryAt, Workable, Worked, Layable};
 use crate::bins;
 use crate::sums;
 use rules::Rule;
 
 // The working table of the rule's kind.
-fn work(rule: Rule, n: usize, weights: &[u16], table: &mut [u64])
+pub fn work(rule: Rule, n: usize, weights: &[u16], table: &mut [u64])
     requires { ⌜ Workable rule n (now weights) (now table) ⌝ }
     ensures { λ _. ⌜ Worked rule n (now (weights .entry)) (now (table .entry)) (now (table .exit)) ⌝ }
 {
@@ -38,7 +38,7 @@ fn entry(rule: Rule, n: usize, j: usize, table: &[u64]) -> u64
 }
 
 // The entries 0 to n.
-fn lay(rule: Rule, n: usize, table: &[u64], room: &mut [u64])
+pub fn lay(rule: Rule, n: usize, table: &[u64], room: &mut [u64])
     requires { ⌜ Layable rule n (now table) × (n < length (now room)) ⌝ }
     ensures { λ _. ⌜ Stored (entryAt rule n (now (table .entry))) 0 0 (suc n) (now (room .entry)) (now (room .exit)) ⌝ }
 {
@@ -47,13 +47,4 @@ fn lay(rule: Rule, n: usize, table: &[u64], room: &mut [u64])
         room[j] = entry(rule, n, j, table);
         j += 1;
     }
-}
-
-// The count table by the working table.
-pub fn by_table(rule: Rule, n: usize, weights: &[u16], table: &mut [u64], room: &mut [u64])
-    requires { ⌜ Countable rule n (now weights) (now table) (now room) × OnTable (rule .kind) ⌝ }
-    ensures { λ _. ⌜ Tallied rule n (now (weights .entry)) (now (table .entry)) (now (room .entry)) (now (table .exit)) (now (room .exit)) ⌝ }
-{
-    work(rule, n, weights, table);
-    lay(rule, n, table, room);
 }

@@ -57,7 +57,8 @@ pub fn fill(k: usize, weights: &[u16], table: &mut [u64])
     requires { ⌜ Weighed k (now weights) (now table) ⌝ }
     ensures { λ _. ⌜ Added k (now (weights .entry)) (length (now (weights .entry))) (now (table .entry)) (now (table .exit)) ⌝ }
 {
-    cut::back(table, cells::CELLS);
+    cells::zero(table, cells::CELLS);
+    table[0] = 1;
     let mut reach: usize = 0;
     let mut i: usize = 0;
     while i < weights.len() {

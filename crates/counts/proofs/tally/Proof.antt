@@ -2,16 +2,21 @@
 use mathlib.Core.Logic.{inl, inr, ⊎-elim}
 use native.Mathlib.Omega.{arith}
 use Rattle.counts.proofs.Cells.{outside-none, stored-same}
-use Rattle.counts.proofs.Entries.{on-table, spread, ways-count}
+use Rattle.counts.proofs.Entries.{on-table, spread, ways-count, layable}
 use borrow.Author.Needs.{needs}
 use Rattle.counts.proofs.tally.Statement.{statement}
 use Rattle.counts.proofs.tally.Tie as tie
 
-by-table-requires : tie.Need-by-table-requires
-by-table-requires c κs =
-    let p = c .before .before .before .before .before .before .before .pre in
-    let few = ⊎-elim (λ l. l .taken) (λ o. absurd (omega (arith, o .1 .left, p .accepted .kind-high))) (c .before .before .if1 .came) in
-    (p, on-table _ (p .accepted .kind-low) few (c .before .before .before .match .rest .1))
+work-requires : tie.Need-work-requires
+work-requires c κs =
+    let p = c .before .before .before .before .before .before .pre in
+    let few = ⊎-elim (λ l. l .taken) (λ o. absurd (omega (arith, o .1 .left, p .accepted .kind-high))) (c .before .if1 .came) in
+    record { kind = on-table _ (p .accepted .kind-low) few (c .before .before .match .rest .1); accepted = p .accepted; long = p .long }
+
+lay-requires : tie.Need-lay-requires
+lay-requires c κs =
+    let p = c .before .before .before .before .before .before .before .before .before .before .before .pre in
+    (layable (p .accepted) (p .long) (c .before .before .before .before .work .ensures), p .slots)
 
 by-ways-requires : tie.Need-by-ways-requires
 by-ways-requires c κs =
@@ -25,7 +30,9 @@ same-length-2 : tie.Need-same-length-2
 same-length-2 c = search needs
 
 returns : tie.Need-returns
-returns c = search needs
+returns c =
+    let w = c .before .before .before .before .before .before .before .work .ensures in
+    record { used = w .rest; counts = stored-same (λ j l h. w .is j (omega arith)) (c .before .before .lay .ensures) }
 
 same-length-3 : tie.Need-same-length-3
 same-length-3 c = search needs
@@ -40,7 +47,8 @@ pub tally-spec : {M : Type 1} → statement M
 tally-spec =
     tie.close
     (tie.spec
-    by-table-requires
+    work-requires
+    lay-requires
     by-ways-requires
     same-length
     same-length-2

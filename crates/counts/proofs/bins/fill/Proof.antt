@@ -1,5 +1,4 @@
 -- `fill` makes the rows one by one. Assumes nothing.
-use mathlib.Core.Path.{_∙_}
 use Prim.Native.Nat.{suc, _+_, _-_, _≤_}
 use native.Mathlib.Omega.{arith}
 use Rattle.counts.specs.Bins.{Sized, Made}
@@ -15,13 +14,16 @@ Inv-loop k n table₀ b₀ table b = (b ≤ n + 1) × Sized k n table₀ × Made
 abbrev μ-loop : tie.MeasureT-loop
 μ-loop k n table₀ b₀ table b = n + 1 - b
 
-back-requires : tie.Need-back-requires Inv-loop μ-loop
-back-requires c κs = search needs
+zero-requires : tie.Need-zero-requires Inv-loop μ-loop
+zero-requires c κs = search needs
+
+slice-write-table : tie.Need-slice-write-table Inv-loop μ-loop
+slice-write-table c = search needs
 
 loop-holds : tie.Need-loop-holds Inv-loop μ-loop
 loop-holds c =
     let p = c .before .before .before .before .before .pre in
-    let m = first-row p (c .before .before .back .ensures) in
+    let m = first-row p (c .before .before .zero .ensures) in
     (search needs, sized-same (m .rest .long) p, record { filled = m .filled; rest = outside-none })
 
 next-requires : tie.Need-next-requires Inv-loop μ-loop
@@ -41,13 +43,14 @@ loop-again c =
     let m = c .before .before .next .ensures in
     (omega arith, v .1, record { filled = rows-fewer (omega arith) (m .filled); rest = outside-then (v .2 .rest) (m .rest) })
 
-same-length : tie.Need-same-length Inv-loop μ-loop
-same-length c = c .before .loop .inv .2 .rest .long ∙ first-row (c .before .before .before .before .before .before .before .pre) (c .before .before .before .before .back .ensures) .rest .long
-
 returns : tie.Need-returns Inv-loop μ-loop
 returns c =
     let v = c .before .loop .inv in
-    record { filled = rows-fewer (omega arith) (v .2 .filled); rest = outside-then (first-row (c .before .before .before .before .before .before .before .pre) (c .before .before .before .before .back .ensures) .rest) (v .2 .rest) }
+    let m = first-row (c .before .before .before .before .before .before .before .pre) (c .before .before .before .before .zero .ensures) in
+    record { filled = rows-fewer (omega arith) (v .2 .filled); rest = outside-then (m .rest) (v .2 .rest) }
+
+same-length : tie.Need-same-length Inv-loop μ-loop
+same-length c = returns c .rest .long
 
 pub fill-spec : {M : Type 1} → statement M
 fill-spec =
@@ -55,7 +58,8 @@ fill-spec =
     (tie.spec
     Inv-loop
     μ-loop
-    back-requires
+    zero-requires
+    slice-write-table
     loop-holds
     next-requires
     add-b

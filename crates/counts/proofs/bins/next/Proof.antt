@@ -73,7 +73,7 @@ returns : tie.Need-returns Inv-loop μ-loop
 returns c =
     let p = c .before .before .before .pre in
     let e : c .before .loop .j ≡ suc (c .before .before .before .args .n - c .before .before .before .args .b) = omega arith in
-    rows-more (p .0) (p .1) (p .2) refl (rw e at (c .before .loop .inv .2))
+    rows-more (p .0) (p .2) (rw e at (c .before .loop .inv .2)) (omega arith) (omega arith) (omega arith) (omega arith)
 
 pub next-spec : {M : Type 1} → statement M
 next-spec =

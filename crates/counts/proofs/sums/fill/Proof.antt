@@ -1,5 +1,5 @@
 -- `fill` takes one component after the other, from none read to all. Assumes nothing.
-use mathlib.Core.Path.{_≡_, refl, _∙_}
+use mathlib.Core.Path.{_≡_, refl}
 use Prim.Native.Nat.{_+_, _-_, _≤_}
 use native.Mathlib.Omega.{arith}
 use lib.ListN.{length, drop}
@@ -7,8 +7,8 @@ use Rattle.rules.specs.Below.{total}
 use Rattle.rules.specs.Refusal.{heaviest, cells}
 use Rattle.counts.specs.Cells.{Outside}
 use Rattle.counts.specs.Sums.{Weighed, Sums}
-use Rattle.counts.proofs.Cells.{outside-none, outside-then}
-use Rattle.counts.proofs.Adding.{total-drop, weighed-same, none-read, none-outside, sums-turnable, sums-turned, turned-outside}
+use Rattle.counts.proofs.Cells.{outside-none, outside-then, one-first}
+use Rattle.counts.proofs.Adding.{total-drop, weighed-same, none-read, sums-turnable, sums-turned, turned-outside}
 use borrow.Author.Needs.{needs}
 use Rattle.counts.proofs.sums.fill.Statement.{statement}
 use Rattle.counts.proofs.sums.fill.Tie as tie
@@ -24,14 +24,17 @@ Inv-loop k weights table₀ reach₀ i₀ table reach i =
 abbrev μ-loop : tie.MeasureT-loop
 μ-loop k weights table₀ reach₀ i₀ table reach i = length weights - i
 
-back-requires : tie.Need-back-requires Inv-loop μ-loop
-back-requires c κs = search needs
+zero-requires : tie.Need-zero-requires Inv-loop μ-loop
+zero-requires c κs = search needs
+
+slice-write-table : tie.Need-slice-write-table Inv-loop μ-loop
+slice-write-table c = search needs
 
 loop-holds : tie.Need-loop-holds Inv-loop μ-loop
 loop-holds c =
     let p = c .before .before .before .before .before .before .pre in
-    let z = c .before .before .back .ensures in
-    (search needs, weighed-same (none-outside p z .long) p, omega (arith, p .light), none-read p z, outside-none)
+    let one = one-first cells (omega arith) (p .long) (c .before .before .zero .ensures) in
+    (search needs, weighed-same (one .rest .long) p, omega (arith, p .light), none-read p one, outside-none)
 
 mul-w : tie.Need-mul-w Inv-loop μ-loop
 mul-w c = search needs
@@ -83,14 +86,15 @@ loop-again c =
       outside-then (v .4) (turned-outside able (v .3) taken refl count (omega (arith, v .2, next)) o),
     )
 
-same-length : tie.Need-same-length Inv-loop μ-loop
-same-length c = c .before .loop .inv .4 .long ∙ none-outside (c .before .before .before .before .before .before .before .before .pre) (c .before .before .before .before .back .ensures) .long
-
 returns : tie.Need-returns Inv-loop μ-loop
 returns c =
     let l = c .before .loop in
     let e : l .i ≡ length (c .before .before .before .before .before .before .before .before .args .weights .now) = omega arith in
-    record { is = λ j m. rw e at (l .inv .3) .is j _ m (omega arith); rest = outside-then (none-outside (c .before .before .before .before .before .before .before .before .pre) (c .before .before .before .before .back .ensures)) (l .inv .4) }
+    let one = one-first cells (omega arith) (c .before .before .before .before .before .before .before .before .pre .long) (c .before .before .before .before .zero .ensures) in
+    record { is = λ j m. rw e at (l .inv .3) .is j _ m (omega arith); rest = outside-then (one .rest) (l .inv .4) }
+
+same-length : tie.Need-same-length Inv-loop μ-loop
+same-length c = returns c .rest .long
 
 pub fill-spec : {M : Type 1} → statement M
 fill-spec =
@@ -98,7 +102,8 @@ fill-spec =
     (tie.spec
     Inv-loop
     μ-loop
-    back-requires
+    zero-requires
+    slice-write-table
     loop-holds
     mul-w
     shared-slice-read-w
