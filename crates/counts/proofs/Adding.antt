@@ -5,6 +5,7 @@ use mathlib.Core.Logic.{_⊎_, inl, inr, ⊎-elim}
 use mathlib.Core.List.{List}
 use Prim.Native.Nat.{ℕ, zero, suc, _+_, _-_, _*_, _^_, _≤_, _<_, min}
 use native.Mathlib.Numerals.{add-one}
+use native.Mathlib.Decide.{decLt}
 use native.Mathlib.Omega.{arith}
 use lib.ListN.{length, getD, drop}
 use lib.Seq.{drop-cons}
@@ -32,15 +33,12 @@ total-drop i xs l = rw (add-one i, drop-cons xs i 0 l)
 sum-both : (c w : ℕ) (f g : ℕ → ℕ) → sumBelow c (λ s. f s + shift g w s) ≡ sumBelow c f + sumBelow (c - w) g
 unfolding sumBelow
 sum-both zero w f g = let e : 0 - w ≡ 0 = omega arith in rw e
-sum-both (suc c) w f g = ⊎-elim (few (sum-both c w f g)) (many (sum-both c w f g)) (below-or c w)
-  where
-    few : sumBelow c (λ s. f s + shift g w s) ≡ sumBelow c f + sumBelow (c - w) g → c < w
-        → sumBelow (suc c) (λ s. f s + shift g w s) ≡ sumBelow (suc c) f + sumBelow (suc c - w) g
-    few e l = let o : suc c - w ≡ c - w = omega arith in rw o (omega (arith, e, shift-past g w c l))
-
-    many : sumBelow c (λ s. f s + shift g w s) ≡ sumBelow c f + sumBelow (c - w) g → w ≤ c
-        → sumBelow (suc c) (λ s. f s + shift g w s) ≡ sumBelow (suc c) f + sumBelow (suc c - w) g
-    many e l = let o : suc c - w ≡ suc (c - w) = omega arith in rw o (omega (arith, e, shift-at g w c l))
+sum-both (suc c) w f g =
+    let next = sum-both c w f g in
+    elim (decLt c w) [
+      | yes l ↦ let o : suc c - w ≡ c - w = omega arith in rw o (omega (arith, next, shift-past g w c l))
+      | no h ↦ let o : suc c - w ≡ suc (c - w) = omega arith in rw o (omega (arith, next, shift-at g w c (omega arith)))
+    ]
 
 -- ---- counts by weight
 
@@ -55,13 +53,12 @@ unfolding moved
 leaves k zero w l =
     let a : 0 - w ≡ 0 = omega arith in
     rw (a, le-ltb (k - 0) k (omega arith))
-leaves k (suc c) w l = rw (lt-ltb (k - suc c) k (omega arith)) (⊎-elim few many (below-or (suc c) w))
-  where
-    few : suc c < w → below (k - suc c + w) k (k - suc c + w) ≡ below (k - (suc c - w)) k (k - (suc c - w))
-    few h = rw (le-ltb (k - suc c + w) k (omega arith), le-ltb (k - (suc c - w)) k (omega arith))
-
-    many : w ≤ suc c → below (k - suc c + w) k (k - suc c + w) ≡ below (k - (suc c - w)) k (k - (suc c - w))
-    many h = let a : k - suc c + w ≡ k - (suc c - w) = omega arith in rw a
+leaves k (suc c) w l =
+    rw (lt-ltb (k - suc c) k (omega arith))
+    (elim (decLt (suc c) w) [
+      | yes h ↦ rw (le-ltb (k - suc c + w) k (omega arith), le-ltb (k - (suc c - w)) k (omega arith))
+      | no h ↦ let a : k - suc c + w ≡ k - (suc c - w) = omega arith in rw a
+    ])
 
 module _ (k : ℕ) (weights : List ℕ) where
   abbrev R : Row ℕ
@@ -188,41 +185,33 @@ module _ {k i w reach count : ℕ} {weights t : List ℕ} (able : Weighed k weig
 
   module _ {t′ : List ℕ} (o : Turned w count 0 (i + 1) t t′) where
     turned-cell : (j s : ℕ) → j ≤ i → s < k → cellAt t′ (suc j) s ≡ both j s
-    turned-cell j s m d = ⊎-elim low high (below-or s w)
-      where
-        low : s < w → cellAt t′ (suc j) s ≡ both j s
-        low e = omega (arith, o .kept (suc j) s (omega (arith, able .small)) (inl e), shift-past (cellAt t j) w s e)
-
-        new : w ≤ s → s - w < count → cellAt t′ (suc j) s ≡ both j s
-        new e c =
-            let a : w + (s - w) ≡ s = omega arith in
-            omega (arith, rw a at (o .new j (s - w) (omega arith) (omega arith) c), shift-at (cellAt t j) w s e)
-
-        past : w ≤ s → count ≤ s - w → cellAt t′ (suc j) s ≡ both j s
-        past e c = omega (
-          arith,
-          o .kept (suc j) s (omega (arith, able .small)) (inr (omega arith)),
-          shift-at (cellAt t j) w s e,
-          h .none j (s - w) (omega (arith, able .most)) (omega (arith, able .small)) (omega arith),
-        )
-
-        high : w ≤ s → cellAt t′ (suc j) s ≡ both j s
-        high e = ⊎-elim (new e) (past e) (below-or (s - w) count)
+    turned-cell j s m d =
+        elim (decLt s w) [
+          | yes e ↦ omega (arith, o .kept (suc j) s (omega arith) (inl e), shift-past (cellAt t j) w s e)
+          | no e ↦
+              let below = shift-at (cellAt t j) w s (omega arith) in
+              elim (decLt (s - w) count) [
+                | yes c ↦
+                    let a : w + (s - w) ≡ s = omega arith in
+                    omega (arith, rw a at (o .new j (s - w) (omega arith) (omega arith) c), below)
+                | no c ↦
+                    let none = h .none j (s - w) (omega arith) (omega arith) (omega arith) in
+                    omega (arith, o .kept (suc j) s (omega arith) (inr (omega arith)), below, none)
+              ]
+        ]
 
     turned-sum : (j c : ℕ) → j ≤ most → c ≤ k → sumBelow c (cellAt t′ j) ≡ lighter k weights (suc i) j c
     turned-sum zero c m d =
         sum-same c _ _ (λ s e. o .rest .low (0 * heaviest + s) (omega (arith, able .small))) ∙ h .is 0 c m d ∙ sym (lighter-zero k weights i c)
-    turned-sum (suc j) c m d = ⊎-elim new old (below-or j (i + 1))
-      where
-        new : j < i + 1 → sumBelow c (cellAt t′ (suc j)) ≡ lighter k weights (suc i) (suc j) c
-        new e = sum-same c _ _ (λ s g. turned-cell j s (omega arith) (omega arith)) ∙ both-sum j c (omega arith) d
-
-        old : i + 1 ≤ j → sumBelow c (cellAt t′ (suc j)) ≡ lighter k weights (suc i) (suc j) c
-        old e =
-            sum-same c _ _ (λ s g. o .rest .high (suc j * heaviest + s) (omega arith))
-            ∙ h .is (suc j) c m d
-            ∙ from-above (row1 k (numberOf weights)) (below (k - c) k (k - c)) i (suc j) (omega arith)
-            ∙ sym (from-above (row1 k (numberOf weights)) (below (k - c) k (k - c)) (suc i) (suc j) (omega arith))
+    turned-sum (suc j) c m d =
+        elim (decLt j (i + 1)) [
+          | yes e ↦ sum-same c _ _ (λ s g. turned-cell j s (omega arith) (omega arith)) ∙ both-sum j c (omega arith) d
+          | no e ↦
+              sum-same c _ _ (λ s g. o .rest .high (suc j * heaviest + s) (omega arith))
+              ∙ h .is (suc j) c m d
+              ∙ from-above (row1 k (numberOf weights)) (below (k - c) k (k - c)) i (suc j) (omega arith)
+              ∙ sym (from-above (row1 k (numberOf weights)) (below (k - c) k (k - c)) (suc i) (suc j) (omega arith))
+        ]
 
     pub sums-turned : Sums k weights (i + 1) (reach + w) t′
     sums-turned =

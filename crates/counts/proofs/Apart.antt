@@ -4,6 +4,7 @@ use mathlib.Core.Path.{_≡_, sym, _∙_}
 use mathlib.Core.Bool.{true}
 use mathlib.Core.Logic.{⊎-elim}
 use Prim.Native.Nat.{ℕ, zero, suc, _+_, _-_, _*_, _^_, _≤_, _<_, min}
+use native.Mathlib.Decide.{decLt}
 use native.Mathlib.Omega.{arith}
 use lib.Dec.{eqb·suc-zero}
 use borrow.Author.Tests.{le-leb, lt-leb}
@@ -20,18 +21,13 @@ use Rattle.counts.proofs.From.{from-end, from-above, from-zero, from-su
 
 -- Pascal's rule over what c components leave, none of them where there are no more
 ways-after : (i c j : ℕ) → waysOf (suc i - c) (suc (suc j)) ≡ waysOf (i - c) (suc j) + waysOf (i - c) (suc (suc j))
-ways-after i c j = ⊎-elim short long (below-or i c)
-  where
-    short : i < c → waysOf (suc i - c) (suc (suc j)) ≡ waysOf (i - c) (suc j) + waysOf (i - c) (suc (suc j))
-    short l = omega (
-      arith,
-      count-above (λ w. true) (i - c) (suc (suc j)) (omega arith),
-      count-above (λ w. true) (i - c) (suc j) (omega arith),
-      count-above (λ w. true) (suc i - c) (suc (suc j)) (omega arith),
-    )
-
-    long : c ≤ i → waysOf (suc i - c) (suc (suc j)) ≡ waysOf (i - c) (suc j) + waysOf (i - c) (suc (suc j))
-    long l = let a : suc i - c ≡ suc (i - c) = omega arith in rw a (ways-sum (i - c) (suc j))
+ways-after i c j =
+    let none = count-above (λ w. true) in
+    elim (decLt i c) [
+      | yes l ↦
+          omega (arith, none (i - c) (suc (suc j)) (omega arith), none (i - c) (suc j) (omega arith), none (suc i - c) (suc (suc j)) (omega arith))
+      | no g ↦ let a : suc i - c ≡ suc (i - c) = omega arith in rw a (ways-sum (i - c) (suc j))
+    ]
 
 module _ (r : ℕ) where
   none6 : (g : ℕ) → from (row6 r) (live g) 0 0 ≡ 1

@@ -5,6 +5,7 @@ use mathlib.Core.Bool.{Bool, true, false}
 use mathlib.Core.Logic.{_⊎_, inl, inr, ⊎-elim}
 use mathlib.Core.List.{List, _++_}
 use Prim.Native.Nat.{ℕ, zero, suc, _+_, _-_, _≤_, _<_}
+use native.Mathlib.Decide.{decLt}
 use native.Mathlib.Omega.{arith}
 use lib.Dec.{ltb}
 use lib.ListN.{length, getD, drop, set, replicate, length-set, length-append, length-drop, length-replicate, getD-replicate, List·getD-append}
@@ -77,20 +78,17 @@ outside-drop {n} {a} {b} o =
     ext-getD 0 (drop n b) (drop n a) (length-drop n b ∙ ap (λ x. x - n) (o .long) ∙ sym (length-drop n a))
     (λ i l. getD-drop n b i 0 ∙ o .high (n + i) (omega arith) ∙ sym (getD-drop n a i 0))
 
--- the cells of a list and of what follows it
-append-low : (xs ys : List ℕ) (n i : ℕ) → length xs ≡ n → i < n → getD (xs ++ ys) i 0 ≡ getD xs i 0
-append-low xs ys n i e l = List·getD-append xs ys 0 i (omega arith)
-
-append-high : (xs ys : List ℕ) (n i : ℕ) → length xs ≡ n → n ≤ i → getD (xs ++ ys) i 0 ≡ getD ys (i - n) 0
-append-high xs ys n i e l =
-    let k : i ≡ length xs + (i - n) = omega arith in
-    ap (λ x. getD (xs ++ ys) x 0) k ∙ getD-append-add xs ys (i - n) 0
-
--- past the first n cells
-drop-cell : (n : ℕ) (a : List ℕ) (i : ℕ) → n ≤ i → getD (drop n a) (i - n) 0 ≡ getD a i 0
-drop-cell n a i l =
-    let d : n + (i - n) ≡ i = omega arith in
-    getD-drop n a (i - n) 0 ∙ ap (λ x. getD a x 0) d
+-- a list of n written over the front of a table
+front : (xs a : List ℕ) (n : ℕ) → length xs ≡ n → n ≤ length a → Outside 0 n a (xs ++ drop n a)
+front xs a n e fits =
+    record {
+      long = length-append xs (drop n a) ∙ omega (arith, length-drop n a);
+      low = λ p l. absurd (omega arith);
+      high = λ p l.
+          let i : p ≡ length xs + (p - n) = omega arith in
+          let d : n + (p - n) ≡ p = omega arith in
+          ap (λ x. getD (xs ++ drop n a) x 0) i ∙ getD-append-add xs (drop n a) (p - n) 0 ∙ getD-drop n a (p - n) 0 ∙ ap (λ x. getD a x 0) d;
+    }
 
 -- the first n cells set to 0, and then the first to 1
 pub one-first : {a b : List ℕ} (n : ℕ) → 0 < n → n ≤ length a → b ≡ replicate n 0 ++ drop n a → Stored (λ p. 1 - p) 0 0 n a (set b 0 1)
@@ -98,33 +96,23 @@ one-first {a} {b} n some fits e =
     record { row = record { is = cell }; rest = outside-wider (omega arith) (omega arith) (outside-set 0 1 (omega arith) some zeros) }
   where
     zeros : Outside 0 n a b
-    zeros =
-        rw e
-        (record {
-          long = length-append (replicate n 0) (drop n a) ∙ omega (arith, length-replicate {A = ℕ} n 0, length-drop n a);
-          low = λ p l. absurd (omega arith);
-          high = λ p l. append-high (replicate n 0) (drop n a) n p (length-replicate n 0) l ∙ drop-cell n a p l;
-        })
+    zeros = rw e (front (replicate n 0) a n (length-replicate n 0) fits)
 
     cell : (k p : ℕ) → 0 ≤ k → k < n → p ≡ 0 + k → getD (set b 0 1) p 0 ≡ 1 - k
     cell zero p l h q = let d : p ≡ 0 = omega arith in rw d (getD-set-same b 0 1 0 (omega (arith, zeros .long)))
     cell (suc k) p l h q =
         getD-set-other b 0 p 1 0 (λ d. omega arith)
-        ∙ rw e (append-low (replicate n 0) (drop n a) n p (length-replicate n 0) (omega arith) ∙ getD-replicate n p 0 0 (omega arith) ∙ omega arith)
+        ∙ rw e (List·getD-append (replicate n 0) (drop n a) 0 p (omega (arith, length-replicate {A = ℕ} n 0)) ∙ getD-replicate n p 0 0 (omega arith) ∙ omega arith)
 
 -- a table whose first n cells were written, as a list
 pub stored-list : {f : ℕ → ℕ} {n : ℕ} {a b : List ℕ} → n ≤ length a → Stored f 0 0 n a b → b ≡ listBelow n f ++ drop n a
 stored-list {f} {n} {a} {b} fits w =
-    ext-getD 0 b (listBelow n f ++ drop n a)
-    (w .rest .long ∙ omega (arith, length-append (listBelow n f) (drop n a), below-length n f, length-drop n a))
-    (λ i l. ⊎-elim (low i) (high i) (below-or i n))
-  where
-    low : (i : ℕ) → i < n → getD b i 0 ≡ getD (listBelow n f ++ drop n a) i 0
-    low i h =
-        w .row .is i i (omega arith) h (omega arith)
-        ∙ sym (append-low (listBelow n f) (drop n a) n i (below-length n f) h ∙ below-get n f 0 i h)
-
-    high : (i : ℕ) → n ≤ i → getD b i 0 ≡ getD (listBelow n f ++ drop n a) i 0
-    high i h =
-        w .rest .high i (omega arith)
-        ∙ sym (append-high (listBelow n f) (drop n a) n i (below-length n f) h ∙ drop-cell n a i h)
+    let made = front (listBelow n f) a n (below-length n f) fits in
+    ext-getD 0 b (listBelow n f ++ drop n a) (w .rest .long ∙ sym (made .long))
+    (λ i l.
+    elim (decLt i n) [
+      | yes h ↦
+          w .row .is i i (omega arith) h (omega arith)
+          ∙ sym (List·getD-append (listBelow n f) (drop n a) 0 i (omega (arith, below-length n f)) ∙ below-get n f 0 i h)
+      | no g ↦ w .rest .high i (omega arith) ∙ sym (made .high i (omega arith))
+    ])

@@ -3,6 +3,7 @@ use mathlib.Core.Path.{_≡_, refl, sym, ap, _∙_}
 use mathlib.Core.Logic.{⊎-elim}
 use mathlib.Core.List.{List, _++_}
 use Prim.Native.Nat.{ℕ, zero, suc, _+_, _-_, _*_, _^_, _≤_, _<_, min}
+use native.Mathlib.Decide.{decLt}
 use native.Mathlib.Omega.{arith}
 use lib.ListN.{length, getD, set, drop, replicate}
 use borrow.Author.Tests.{lt-ltb, le-ltb}
@@ -48,13 +49,11 @@ module _ {k n b off : ℕ} (j : ℕ) {before t : List ℕ} (s : Sized k n before
 
   lets-go : goneAt k off j t ≡ shift (bins k b) k j
   unfolding goneAt
-  lets-go = ⊎-elim few many (below-or j k)
-    where
-      few : j < k → goneAt k off j t ≡ shift (bins k b) k j
-      few m = rw (lt-ltb j k m) (sym (shift-past (bins k b) k j m))
-
-      many : k ≤ j → goneAt k off j t ≡ shift (bins k b) k j
-      many m = rw (le-ltb j k m) (row-kept (j - k) _ (omega arith) refl ∙ sym (shift-at (bins k b) k j m))
+  lets-go =
+      elim (decLt j k) [
+        | yes m ↦ rw (lt-ltb j k m) (sym (shift-past (bins k b) k j m))
+        | no g ↦ rw (le-ltb j k (omega arith)) (row-kept (j - k) _ (omega arith) refl ∙ sym (shift-at (bins k b) k j (omega arith)))
+      ]
 
   -- the next number of the row, and that its sum fits before the term goes
   pub slid : {held : ℕ} → held ≡ shift (bins k (suc b)) 1 j
@@ -66,17 +65,17 @@ module _ {k n b off : ℕ} (j : ℕ) {before t : List ℕ} (s : Sized k n before
 -- a row more, as far as its columns count
 pub rows-more : {k n rows count off : ℕ} {before after : List ℕ} → Sized k n before → Bins k n rows before → Stored (bins k rows) off 0 count before after
     → off ≡ rows * width → rows ≤ n + 1 → n + 2 ≤ rows + count → count ≤ width → Made k n (suc rows) before after
-rows-more {k} {n} {rows} {after = after} s h w o low wide narrow =
+rows-more {rows = rows} s h w o low wide narrow =
     record {
-      filled = record { is = λ r j p l m q. ⊎-elim (old r j p m q) (new r j p l m q) (below-or r rows) };
+      filled = record {
+        is = λ r j p l m q.
+            elim (decLt r rows) [
+              | yes old ↦ w .rest .low p (omega arith) ∙ h .is r j p old m q
+              | no g ↦ let a : r ≡ rows = omega arith in rw a (w .row .is j p (omega arith) (omega arith) (omega arith))
+            ];
+      };
       rest = outside-wider (omega arith) (omega arith) (w .rest);
     }
-  where
-    old : (r j p : ℕ) → r + j ≤ n + 1 → p ≡ r * width + j → r < rows → getD after p 0 ≡ bins k r j
-    old r j p m q l = w .rest .low p (omega arith) ∙ h .is r j p l m q
-
-    new : (r j p : ℕ) → r < suc rows → r + j ≤ n + 1 → p ≡ r * width + j → rows ≤ r → getD after p 0 ≡ bins k r j
-    new r j p l m q g = let a : r ≡ rows = omega arith in rw a (w .row .is j p (omega arith) (omega arith) (omega arith))
 
 -- no bin
 pub first-row : {k n : ℕ} {a b : List ℕ} → Sized k n a → b ≡ replicate width 0 ++ drop width a → Made k n 1 a (set b 0 1)
@@ -104,18 +103,14 @@ pub around-is : {k n rows : ℕ} {t : List ℕ} (v j : ℕ) → Bins k n rows t 
     → aroundAt k (v * width + j) j t ≡ sumBelow k (λ m. suc m * shift (bins k v) m j)
 around-is {k} {n} {rows} {t} v j h l m =
     sum-same (min k (suc j)) (term (v * width + j) t) _ (λ u g. ap (λ x. suc u * x) (cell u (omega arith)))
-    ∙ sym (⊎-elim few many (below-or (suc j) k))
+    ∙ sym
+    (elim (decLt (suc j) k) [
+      | yes g ↦ let a : min k (suc j) ≡ suc j = omega arith in rw a (sum-past (suc j) k _ (omega arith) (λ u p q. past u p))
+      | no g ↦ let a : min k (suc j) ≡ k = omega arith in rw a
+    ])
   where
-    f : ℕ → ℕ
-    f = λ m. suc m * shift (bins k v) m j
-
     cell : (u : ℕ) → u ≤ j → getD t (v * width + j - u) 0 ≡ shift (bins k v) u j
     cell u g = h .is v (j - u) _ l (omega arith) (omega arith) ∙ sym (shift-at (bins k v) u j g)
 
-    few : suc j < k → sumBelow k f ≡ sumBelow (min k (suc j)) f
-    few g =
-        let a : min k (suc j) ≡ suc j = omega arith in
-        rw a (sum-past (suc j) k f (omega arith) (λ m p q. ap (λ x. suc m * x) (shift-past (bins k v) m j (omega arith)) ∙ omega arith))
-
-    many : k ≤ suc j → sumBelow k f ≡ sumBelow (min k (suc j)) f
-    many g = let a : min k (suc j) ≡ k = omega arith in rw a
+    past : (u : ℕ) → suc j ≤ u → suc u * shift (bins k v) u j ≡ 0
+    past u p = rw (shift-past (bins k v) u j p) (omega arith)
