@@ -89,7 +89,7 @@ module _ (k : ℕ) (weights : List ℕ) where
 -- both cells of a sum are still as they were
 pub add-cell : {from to count : ℕ} {f : ℕ → ℕ} {before t : List ℕ} (s : ℕ) → Addable from to count before → s < count → Stored f to 0 s before t
     → getD t (to + s) 0 + getD t (from + s) 0 ≡ getD before (to + s) 0 + getD before (from + s) 0
-add-cell {from} {to} s able l w = rw (w .rest .high (to + s) (omega arith), w .rest .low (from + s) (omega (arith, able .apart)))
+add-cell {from} {to} s able l w = rw (w .rest .high (to + s) (omega arith), w .rest .low (from + s) (omega arith))
 
 pub turned-none : {w count rows : ℕ} {t : List ℕ} → Turned w count rows rows t t
 turned-none = record { new = λ j s l h g. absurd (omega arith); kept = λ j s l h. refl; rest = outside-none }
@@ -100,13 +100,13 @@ module _ {w count rows low : ℕ} {before t : List ℕ} (able : Turnable w count
       → (getD t (low * heaviest + heaviest + w + s) 0 ≡ cellAt before (suc low) (w + s)) × (getD t (low * heaviest + s) 0 ≡ cellAt before low s)
   old-cells s h =
       let a : low * heaviest + heaviest + w + s ≡ suc low * heaviest + (w + s) = omega arith in
-      (rw a (o .rest .low _ (omega (arith, able .row))), o .rest .low _ (omega (arith, able .row)))
+      (rw a (o .rest .low _ (omega arith)), o .rest .low _ (omega arith))
 
   pub row-addable : Addable (low * heaviest) (low * heaviest + heaviest + w) count t
   row-addable =
       record {
-        apart = omega (arith, able .row);
-        long = omega (arith, able .row, able .most, able .long, o .rest .long);
+        apart = omega arith;
+        long = omega arith;
         fits = λ s h. rw (old-cells s h .0, old-cells s h .1) (able .fits low s l h);
       }
 
@@ -117,7 +117,7 @@ module _ {w count rows low : ℕ} {before t : List ℕ} (able : Turnable w count
         record {
           new = λ j s g h c. ⊎-elim (here j s g c) (above j s h c) (below-or j (suc low));
           kept = λ j s h e. same j s h e ∙ o .kept j s h e;
-          rest = outside-then (outside-wider (omega arith) (omega arith) (o .rest)) (outside-wider (omega arith) (omega (arith, able .row)) (a .rest));
+          rest = outside-then (outside-wider (omega arith) (omega arith) (o .rest)) (outside-wider (omega arith) (omega arith) (a .rest));
         }
       where
         here : (j s : ℕ) → low ≤ j → s < count → j < suc low → cellAt t′ (suc j) (w + s) ≡ cellAt before (suc j) (w + s) + cellAt before j s
@@ -126,17 +126,17 @@ module _ {w count rows low : ℕ} {before t : List ℕ} (able : Turnable w count
             rw e (a .row .is s _ (omega arith) c (omega arith) ∙ rw (old-cells s c .0, old-cells s c .1))
 
         above : (j s : ℕ) → j < rows → s < count → suc low ≤ j → cellAt t′ (suc j) (w + s) ≡ cellAt before (suc j) (w + s) + cellAt before j s
-        above j s h c g = a .rest .high _ (omega (arith, able .row)) ∙ o .new j s g h c
+        above j s h c g = a .rest .high _ (omega arith) ∙ o .new j s g h c
 
         same : (j s : ℕ) → s < heaviest → (s < w) ⊎ (w + count ≤ s) → cellAt t′ j s ≡ cellAt t j s
         same j s h (inl e) =
-            ⊎-elim (λ (c : j < suc (suc low)). a .rest .low _ (omega arith)) (λ c. a .rest .high _ (omega (arith, able .row))) (below-or j (suc (suc low)))
+            ⊎-elim (λ (c : j < suc (suc low)). a .rest .low _ (omega arith)) (λ c. a .rest .high _ (omega arith)) (below-or j (suc (suc low)))
         same j s h (inr e) = ⊎-elim (λ (c : j < suc low). a .rest .low _ (omega arith)) (λ c. a .rest .high _ (omega arith)) (below-or j (suc low))
 
 -- ---- none read
 
 pub weighed-same : {k : ℕ} {weights a b : List ℕ} → length b ≡ length a → Weighed k weights a → Weighed k weights b
-weighed-same e s = record { some = s .some; small = s .small; most = s .most; light = s .light; long = omega (arith, s .long) }
+weighed-same e s = record { some = s .some; small = s .small; most = s .most; light = s .light; long = omega arith }
 
 module _ {k : ℕ} {weights t t′ : List ℕ} (able : Weighed k weights t) (w : Stored (λ p. 1 - p) 0 0 cells t t′) where
   first-cell : (j s : ℕ) → j ≤ most → s < heaviest → cellAt t′ j s ≡ 1 - (j * heaviest + s)
@@ -149,10 +149,10 @@ module _ {k : ℕ} {weights t t′ : List ℕ} (able : Weighed k weights t) (w :
       go : (j c : ℕ) → j ≤ most → c ≤ k → sumBelow c (cellAt t′ j) ≡ lighter k weights 0 j c
       go zero zero m l = sym (lighter-none k weights)
       go zero (suc c) m l =
-          sum-past 1 (suc c) (cellAt t′ 0) (omega arith) (λ s h g. first-cell 0 s m (omega (arith, able .small)) ∙ omega arith)
+          sum-past 1 (suc c) (cellAt t′ 0) (omega arith) (λ s h g. first-cell 0 s m (omega arith) ∙ omega arith)
           ∙ omega (arith, first-cell 0 0 m (omega arith), lighter-one k weights c l)
       go (suc j) c m l =
-          sum-past 0 c (cellAt t′ (suc j)) (omega arith) (λ s h g. first-cell (suc j) s m (omega (arith, able .small)) ∙ omega arith)
+          sum-past 0 c (cellAt t′ (suc j)) (omega arith) (λ s h g. first-cell (suc j) s m (omega arith) ∙ omega arith)
           ∙ sym (from-above (row1 k (numberOf weights)) (below (k - c) k (k - c)) 0 (suc j) (omega arith))
 
 -- ---- one component more
@@ -165,18 +165,18 @@ module _ {k i w reach count : ℕ} {weights t : List ℕ} (able : Weighed k weig
   both-sum : (j c : ℕ) → j ≤ i → c ≤ k → sumBelow c (both j) ≡ lighter k weights (suc i) (suc j) c
   both-sum j c m d =
       sum-both c w (cellAt t (suc j)) (cellAt t j)
-      ∙ rw (h .is (suc j) c (omega (arith, able .most)) d, h .is j (c - w) (omega (arith, able .most)) (omega arith), weight) (sym (lighter-suc k weights i j c d))
+      ∙ rw (h .is (suc j) c (omega arith) d, h .is j (c - w) (omega arith) (omega arith), weight) (sym (lighter-suc k weights i j c d))
 
   both-fits : (j s : ℕ) → j ≤ i → s < k → both j s < 2 ^ 64
   unfolding sumBelow
   both-fits j s m d =
-      omega (arith, both-sum j (suc s) m d, from-fits (row1 k (numberOf weights)) (below (k - suc s) k (k - suc s)) (suc i) (suc j) (omega (arith, able .most)))
+      omega (arith, both-sum j (suc s) m d, from-fits (row1 k (numberOf weights)) (below (k - suc s) k (k - suc s)) (suc i) (suc j) (omega arith))
 
   pub sums-turnable : Turnable w count (i + 1) t
   sums-turnable =
       record {
-        row = omega (arith, able .small);
-        most = omega (arith, able .most);
+        row = omega arith;
+        most = omega arith;
         long = able .long;
         fits = λ j s m c.
             let a : w + s - w ≡ s = omega arith in
@@ -189,20 +189,20 @@ module _ {k i w reach count : ℕ} {weights t : List ℕ} (able : Weighed k weig
         elim (decLt s w) [
           | yes e ↦ omega (arith, o .kept (suc j) s (omega arith) (inl e), shift-past (cellAt t j) w s e)
           | no e ↦
-              let below = shift-at (cellAt t j) w s (omega arith) in
+              let lower = shift-at (cellAt t j) w s (omega arith) in
               elim (decLt (s - w) count) [
                 | yes c ↦
                     let a : w + (s - w) ≡ s = omega arith in
-                    omega (arith, rw a at (o .new j (s - w) (omega arith) (omega arith) c), below)
+                    omega (arith, rw a at (o .new j (s - w) (omega arith) (omega arith) c), lower)
                 | no c ↦
                     let none = h .none j (s - w) (omega arith) (omega arith) (omega arith) in
-                    omega (arith, o .kept (suc j) s (omega arith) (inr (omega arith)), below, none)
+                    omega (arith, o .kept (suc j) s (omega arith) (inr (omega arith)), lower, none)
               ]
         ]
 
     turned-sum : (j c : ℕ) → j ≤ most → c ≤ k → sumBelow c (cellAt t′ j) ≡ lighter k weights (suc i) j c
     turned-sum zero c m d =
-        sum-same c _ _ (λ s e. o .rest .low (0 * heaviest + s) (omega (arith, able .small))) ∙ h .is 0 c m d ∙ sym (lighter-zero k weights i c)
+        sum-same c _ _ (λ s e. o .rest .low (0 * heaviest + s) (omega arith)) ∙ h .is 0 c m d ∙ sym (lighter-zero k weights i c)
     turned-sum (suc j) c m d =
         elim (decLt j (i + 1)) [
           | yes e ↦ sum-same c _ _ (λ s g. turned-cell j s (omega arith) (omega arith)) ∙ both-sum j c (omega arith) d
@@ -222,4 +222,4 @@ module _ {k i w reach count : ℕ} {weights t : List ℕ} (able : Weighed k weig
         }
 
     pub turned-outside : Outside 0 cells t t′
-    turned-outside = outside-wider (omega arith) (omega (arith, able .most)) (o .rest)
+    turned-outside = outside-wider (omega arith) (omega arith) (o .rest)

@@ -101,8 +101,9 @@ one-first {a} {b} n some fits e =
     cell : (k p : ℕ) → 0 ≤ k → k < n → p ≡ 0 + k → getD (set b 0 1) p 0 ≡ 1 - k
     cell zero p l h q = let d : p ≡ 0 = omega arith in rw d (getD-set-same b 0 1 0 (omega (arith, zeros .long)))
     cell (suc k) p l h q =
+        let past : p < length (replicate {A = ℕ} n 0) = omega (arith, length-replicate {A = ℕ} n 0) in
         getD-set-other b 0 p 1 0 (λ d. omega arith)
-        ∙ rw e (List·getD-append (replicate n 0) (drop n a) 0 p (omega (arith, length-replicate {A = ℕ} n 0)) ∙ getD-replicate n p 0 0 (omega arith) ∙ omega arith)
+        ∙ rw e (List·getD-append (replicate n 0) (drop n a) 0 p past ∙ getD-replicate n p 0 0 (omega arith) ∙ omega arith)
 
 -- a table whose first n cells were written, as a list
 pub stored-list : {f : ℕ → ℕ} {n : ℕ} {a b : List ℕ} → n ≤ length a → Stored f 0 0 n a b → b ≡ listBelow n f ++ drop n a

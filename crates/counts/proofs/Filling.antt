@@ -1,6 +1,5 @@
 -- The bins in the working table: what a row is made of, what fits 64 bits, that rows stay, and what a ring's entry comes to. Assumes nothing.
 use mathlib.Core.Path.{_≡_, refl, sym, ap, _∙_}
-use mathlib.Core.Logic.{⊎-elim}
 use mathlib.Core.List.{List, _++_}
 use Prim.Native.Nat.{ℕ, zero, suc, _+_, _-_, _*_, _^_, _≤_, _<_, min}
 use native.Mathlib.Decide.{decLt}
@@ -15,7 +14,7 @@ use Rattle.pascal.proofs.Triangle.{ways-sum, ways-fit}
 use Rattle.counts.specs.From.{bins, shift}
 use Rattle.counts.specs.Cells.{Stored}
 use Rattle.counts.specs.Bins.{width, Sized, Bins, Made, goneAt, term, aroundAt}
-use Rattle.counts.proofs.Cells.{below-or, outside-wider, one-first}
+use Rattle.counts.proofs.Cells.{outside-wider, one-first}
 use Rattle.counts.proofs.From.{from-le}
 use Rattle.counts.proofs.InARow.{shift-at, shift-past, bins-first, bins-slide, sum-past}
 
@@ -38,14 +37,14 @@ pub rows-fewer : {k n rows fewer : ℕ} {t : List ℕ} → fewer ≤ rows → Bi
 rows-fewer l h = record { is = λ b j p m. h .is b j p (omega arith) }
 
 pub sized-same : {k n : ℕ} {a b : List ℕ} → length b ≡ length a → Sized k n a → Sized k n b
-sized-same e s = record { some = s .some; most = s .most; long = omega (arith, s .long) }
+sized-same e s = record { some = s .some; most = s .most; long = omega arith }
 
 -- row b + 1 on the way, made up to column j
 module _ {k n b off : ℕ} (j : ℕ) {before t : List ℕ} (s : Sized k n before) (h : Bins k n (suc b) before) (o : off ≡ b * width)
     (w : Stored (bins k (suc b)) (off + width) 0 j before t) (l : b + j ≤ n) where
   -- row b is as it was
   row-kept : (i p : ℕ) → i ≤ j → p ≡ off + i → getD t p 0 ≡ bins k b i
-  row-kept i p m e = w .rest .low p (omega (arith, s .most)) ∙ h .is b i p (omega arith) (omega arith) (omega arith)
+  row-kept i p m e = w .rest .low p (omega arith) ∙ h .is b i p (omega arith) (omega arith) (omega arith)
 
   lets-go : goneAt k off j t ≡ shift (bins k b) k j
   unfolding goneAt
@@ -60,11 +59,12 @@ module _ {k n b off : ℕ} (j : ℕ) {before t : List ℕ} (s : Sized k n before
       → (held + getD t (off + j) 0 ≡ bins k (suc b) j + goneAt k off j t) × (held + getD t (off + j) 0 < 2 ^ 64)
   slid e =
       let c = row-kept j _ (omega arith) refl in
-      (omega (arith, c, bins-slide k (s .some) b j, lets-go), omega (arith, c, slide-fits k b j (s .some) (omega (arith, s .most))))
+      (omega (arith, c, bins-slide k (s .some) b j, lets-go), omega (arith, c, slide-fits k b j (s .some) (omega arith)))
 
 -- a row more, as far as its columns count
-pub rows-more : {k n rows count off : ℕ} {before after : List ℕ} → Sized k n before → Bins k n rows before → Stored (bins k rows) off 0 count before after
-    → off ≡ rows * width → rows ≤ n + 1 → n + 2 ≤ rows + count → count ≤ width → Made k n (suc rows) before after
+pub rows-more : {k n rows count off : ℕ} {before after : List ℕ} → Sized k n before → Bins k n rows before
+    → Stored (bins k rows) off 0 count before after → off ≡ rows * width → rows ≤ n + 1 → n + 2 ≤ rows + count → count ≤ width
+    → Made k n (suc rows) before after
 rows-more {rows = rows} s h w o low wide narrow =
     record {
       filled = record {
@@ -81,7 +81,8 @@ rows-more {rows = rows} s h w o low wide narrow =
 pub first-row : {k n : ℕ} {a b : List ℕ} → Sized k n a → b ≡ replicate width 0 ++ drop width a → Made k n 1 a (set b 0 1)
 unfolding bins
 first-row s e =
-    rows-more s (record { is = λ r j p l. absurd (omega arith) }) (one-first width (omega arith) (omega arith) e) refl (omega arith) (omega arith) (omega arith)
+    rows-more s (record { is = λ r j p l. absurd (omega arith) })
+    (one-first width (omega arith) (omega arith) e) refl (omega arith) (omega arith) (omega arith)
 
 -- ---- a ring's sum
 

@@ -3,7 +3,6 @@
 ghost use mathlib.Core.Path.{_≡_};
 ghost use Prim.Native.Nat.{suc, _+_, _-_, _*_, _≤_, _<_};
 ghost use lib.ListN.{length, getD};
-ghost use Rattle.rules.specs.Refusal.{cells};
 ghost use Rattle.counts.specs.Bins.{width, Sized, Bins, Made, goneAt, Slides, Filled, Part, aroundAt, Around};
 use crate::cut;
 

@@ -1,4 +1,4 @@
--- `tally` hands each kind to what counts it. Assumes nothing.
+-- `tally` hands each kind to what counts it, and lays what the worked table holds. Assumes nothing.
 use mathlib.Core.Logic.{inl, inr, ⊎-elim}
 use native.Mathlib.Omega.{arith}
 use Rattle.counts.proofs.Cells.{outside-none, stored-same}

@@ -63,7 +63,7 @@ loop-again c =
     let next = slid _ (p .0) (p .2) refl (l .inv .2) (omega arith) (l .inv .1) .0 in (
       search needs,
       rw o (omega (arith, c .slide .ensures, next)),
-      stored-up _ _ (omega arith) (omega arith) (omega (arith, l .inv .2 .rest .long, p .0 .long, p .0 .most)) (omega (arith, c .slide .ensures, next)) (l .inv .2),
+      stored-up _ _ (omega arith) (omega arith) (omega (arith, l .inv .2 .rest .long)) (omega (arith, c .slide .ensures, next)) (l .inv .2),
     )
 
 same-length : tie.Need-same-length Inv-loop μ-loop

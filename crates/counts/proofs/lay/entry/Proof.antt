@@ -40,17 +40,22 @@ between-requires c κs = search needs
 around-requires : tie.Need-around-requires
 unfolding entryAt
 around-requires c κs =
-    let p = c .before .before .before .before .before .before .before .pre in
+    let i = c .before .before in
+    let p = i .before .before .before .before .before .pre in
     record {
       most = omega (arith, p .0 .most, p .1);
       row = omega arith;
       long = omega (arith, p .0 .most, p .0 .long);
-      fits = rw (c .between .ensures) (rw (ne-eqb _ _ (c .before .before .before .before .if1 .left), ne-eqb _ _ (c .before .before .if2 .left), ne-eqb _ _ (c .before .if3 .left)) at (p .0 .fits _ (p .1)));
+      fits = rw (c .between .ensures)
+          (rw (ne-eqb _ _ (i .before .before .if1 .left), ne-eqb _ _ (i .if2 .left), ne-eqb _ _ (c .before .if3 .left)) at (p .0 .fits _ (p .1)));
     }
 
 returns-4 : tie.Need-returns-4
 unfolding entryAt
-returns-4 c = rw (ne-eqb _ _ (c .before .before .before .before .before .if1 .left), ne-eqb _ _ (c .before .before .before .if2 .left), ne-eqb _ _ (c .before .before .if3 .left), ← c .before .between .ensures) (c .around .ensures)
+returns-4 c =
+    let i = c .before .before .before in
+    rw (ne-eqb _ _ (i .before .before .if1 .left), ne-eqb _ _ (i .if2 .left), ne-eqb _ _ (c .before .before .if3 .left), ← c .before .between .ensures)
+    (c .around .ensures)
 
 pub entry-spec : {M : Type 1} → statement M
 entry-spec =

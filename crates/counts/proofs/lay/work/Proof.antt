@@ -14,13 +14,17 @@ same-length : tie.Need-same-length
 same-length c = search needs
 
 returns : tie.Need-returns
-returns c = sums-worked (c .before .before .before .before .before .before .before .before .pre) (c .before .before .before .before .if1 .taken) (c .before .before .fill .ensures)
+returns c =
+    let i = c .before .before .before .before in
+    sums-worked (i .before .before .before .before .pre) (i .if1 .taken) (c .before .before .fill .ensures)
 
 same-length-2 : tie.Need-same-length-2
 same-length-2 c = search needs
 
 returns-2 : tie.Need-returns-2
-returns-2 c = bins-worked (c .before .before .before .before .before .before .before .before .pre) (c .before .before .before .before .if1 .left) (c .before .before .fill2 .ensures)
+returns-2 c =
+    let i = c .before .before .before .before in
+    bins-worked (i .before .before .before .before .pre) (i .if1 .left) (c .before .before .fill2 .ensures)
 
 pub work-spec : {M : Type 1} → statement M
 work-spec =

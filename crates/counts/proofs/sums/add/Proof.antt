@@ -12,7 +12,10 @@ use Rattle.counts.proofs.sums.add.Statement.{statement}
 use Rattle.counts.proofs.sums.add.Tie as tie
 
 abbrev Inv-loop : tie.InvT-loop
-Inv-loop from to count table₀ s₀ table s = (s ≤ count) × Addable from to count table₀ × Stored (λ s. getD table₀ (to + s) 0 + getD table₀ (from + s) 0) to 0 s table₀ table
+Inv-loop from to count table₀ s₀ table s =
+    (s ≤ count)
+    × Addable from to count table₀
+    × Stored (λ s. getD table₀ (to + s) 0 + getD table₀ (from + s) 0) to 0 s table₀ table
 
 abbrev μ-loop : tie.MeasureT-loop
 μ-loop from to count table₀ s₀ table s = count - s
@@ -29,7 +32,11 @@ add-raise-2 c = search needs
 raise-requires : tie.Need-raise-requires Inv-loop μ-loop
 raise-requires c κs =
     let l = c .before .before .loop in
-    record { read = search needs; written = search needs; fits = omega (arith, add-cell (l .s) (l .inv .1) (omega arith) (l .inv .2), l .inv .1 .fits (l .s) (omega arith)) }
+    record {
+      read = search needs;
+      written = search needs;
+      fits = rw (add-cell (l .s) (l .inv .1) (omega arith) (l .inv .2)) (l .inv .1 .fits (l .s) (omega arith));
+    }
 
 add-s : tie.Need-add-s Inv-loop μ-loop
 add-s c = search needs
@@ -39,11 +46,9 @@ loop-less c = search needs
 
 loop-again : tie.Need-loop-again Inv-loop μ-loop
 loop-again c =
-    let v = c .before .before .before .before .before .loop .inv in (
-      search needs,
-      v .1,
-      rw (c .before .before .raise .ensures) (stored-up _ _ (omega arith) refl (omega (arith, v .1 .long, v .2 .rest .long)) (add-cell _ (v .1) (omega arith) (v .2)) (v .2)),
-    )
+    let v = c .before .before .before .before .before .loop .inv in
+    let more = stored-up _ _ (omega arith) refl (omega (arith, v .1 .long, v .2 .rest .long)) (add-cell _ (v .1) (omega arith) (v .2)) (v .2) in
+    (search needs, v .1, rw (c .before .before .raise .ensures) more)
 
 same-length : tie.Need-same-length Inv-loop μ-loop
 same-length c = search needs

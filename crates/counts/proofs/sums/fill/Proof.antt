@@ -53,16 +53,17 @@ add-turn c = search needs
 
 turn-requires : tie.Need-turn-requires Inv-loop μ-loop
 turn-requires c κs =
-    let l = c .before .before .before .before .loop in
+    let l = c .before .before .before .before in
+    let v = l .loop .inv in
     let taken = c .before .before .before .loop-test .taken in
-    let v = l .inv in
-    sums-turnable (weighed-same (v .4 .long) (v .1)) (v .3) taken refl (c .before .within .ensures)
-    (omega (arith, v .2, total-drop (l .i) (c .before .before .before .before .before .before .before .before .before .before .before .args .weights .now) taken))
+    let next = total-drop (l .loop .i) (l .before .before .before .before .before .before .before .args .weights .now) taken in
+    sums-turnable (weighed-same (v .4 .long) (v .1)) (v .3) taken refl (c .before .within .ensures) (omega (arith, v .2, next))
 
 add-reach : tie.Need-add-reach Inv-loop μ-loop
 add-reach c =
-    let l = c .before .before .before .before .before .before .before .loop in
-    omega (arith, l .inv .2, total-drop (l .i) (c .before .before .before .before .before .before .before .before .before .before .before .before .before .before .args .weights .now) (c .before .before .before .before .before .before .loop-test .taken))
+    let l = c .before .before .before .before .before .before .before in
+    let weights = l .before .before .before .before .before .before .before .args .weights .now in
+    omega (arith, l .loop .inv .2, total-drop (l .loop .i) weights (c .before .before .before .before .before .before .loop-test .taken))
 
 add-i : tie.Need-add-i Inv-loop μ-loop
 add-i c = search needs
@@ -72,10 +73,10 @@ loop-less c = search needs
 
 loop-again : tie.Need-loop-again Inv-loop μ-loop
 loop-again c =
-    let l = c .before .before .before .before .before .before .before .loop in
-    let v = l .inv in
+    let l = c .before .before .before .before .before .before .before in
+    let v = l .loop .inv in
     let taken = c .before .before .before .before .before .before .loop-test .taken in
-    let next = total-drop (l .i) (c .before .before .before .before .before .before .before .before .before .before .before .before .before .before .args .weights .now) taken in
+    let next = total-drop (l .loop .i) (l .before .before .before .before .before .before .before .args .weights .now) taken in
     let able = weighed-same (v .4 .long) (v .1) in
     let count = c .before .before .before .before .within .ensures in
     let o = c .before .before .turn .ensures in (
@@ -89,8 +90,10 @@ loop-again c =
 returns : tie.Need-returns Inv-loop μ-loop
 returns c =
     let l = c .before .loop in
-    let e : l .i ≡ length (c .before .before .before .before .before .before .before .before .args .weights .now) = omega arith in
-    let one = one-first cells (omega arith) (c .before .before .before .before .before .before .before .before .pre .long) (c .before .before .before .before .zero .ensures) in
+    let z = c .before .before .before .before in
+    let start = z .before .before .before .before in
+    let e : l .i ≡ length (start .args .weights .now) = omega arith in
+    let one = one-first cells (omega arith) (start .pre .long) (z .zero .ensures) in
     record { is = λ j m. rw e at (l .inv .3) .is j _ m (omega arith); rest = outside-then (one .rest) (l .inv .4) }
 
 same-length : tie.Need-same-length Inv-loop μ-loop

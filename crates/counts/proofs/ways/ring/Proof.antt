@@ -30,11 +30,14 @@ left-requires-2 c κs =
 
 -- both terms are the ring's count, which fits
 both : (c : tie.After-left2)
-    → (let a = c .before .before .before .args in let sum = c .before .left .result + a .owed * c .left2 .result in (sum ≡ ringOf (a .owed) (a .n) (a .j)) × (ringOf (a .owed) (a .n) (a .j) < 2 ^ 64))
+    → (let a = c .before .before .before .args in
+    (c .before .left .result + a .owed * c .left2 .result ≡ ringOf (a .owed) (a .n) (a .j)) × (ringOf (a .owed) (a .n) (a .j) < 2 ^ 64))
 unfolding ringOf
 both c =
-    let a = c .before .before .before .args in
-    (rw (ne-eqb _ _ (c .before .before .if1 .left), c .before .left .ensures, c .left2 .ensures), ring-fits (a .owed) (a .n) (a .j) (omega arith) (omega arith))
+    let a = c .before .before .before .args in (
+      rw (ne-eqb _ _ (c .before .before .if1 .left), c .before .left .ensures, c .left2 .ensures),
+      ring-fits (a .owed) (a .n) (a .j) (omega arith) (omega arith),
+    )
 
 mul-result : tie.Need-mul-result
 mul-result c = omega (arith, both c)
