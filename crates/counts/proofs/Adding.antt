@@ -75,6 +75,9 @@ module _ (k : ℕ) (weights : List ℕ) where
       (stays (below (k - c) k (k - c)))
       ∙ ap (λ m. lighter k weights i (suc j) c + from R m i j) (leaves k c (getD weights i 0) l)
 
+  lighter-above : (i j c : ℕ) → i < j → lighter k weights i j c ≡ 0
+  lighter-above i j c l = from-above R (below (k - c) k (k - c)) i j l
+
   -- none read: one state, which weighs nothing
   lighter-none : lighter k weights 0 0 0 ≡ 0
   unfolding ended
@@ -153,7 +156,7 @@ module _ {k : ℕ} {weights t t′ : List ℕ} (able : Weighed k weights t) (w :
           ∙ omega (arith, first-cell 0 0 m (omega arith), lighter-one k weights c l)
       go (suc j) c m l =
           sum-past 0 c (cellAt t′ (suc j)) (omega arith) (λ s h g. first-cell (suc j) s m (omega arith) ∙ omega arith)
-          ∙ sym (from-above (row1 k (numberOf weights)) (below (k - c) k (k - c)) 0 (suc j) (omega arith))
+          ∙ sym (lighter-above k weights 0 (suc j) c (omega arith))
 
 -- ---- one component more
 
@@ -209,8 +212,8 @@ module _ {k i w reach count : ℕ} {weights t : List ℕ} (able : Weighed k weig
           | no e ↦
               sum-same c _ _ (λ s g. o .rest .high (suc j * heaviest + s) (omega arith))
               ∙ h .is (suc j) c m d
-              ∙ from-above (row1 k (numberOf weights)) (below (k - c) k (k - c)) i (suc j) (omega arith)
-              ∙ sym (from-above (row1 k (numberOf weights)) (below (k - c) k (k - c)) (suc i) (suc j) (omega arith))
+              ∙ lighter-above k weights i (suc j) c (omega arith)
+              ∙ sym (lighter-above k weights (suc i) (suc j) c (omega arith))
         ]
 
     pub sums-turned : Sums k weights (i + 1) (reach + w) t′

@@ -18,7 +18,7 @@ left-requires c κs =
 
 returns : tie.Need-returns
 unfolding apartOf
-returns c = rw (← c .before .less .ensures) (c .left .ensures)
+returns c = rw (c .before .less .ensures) at (c .left .ensures)
 
 pub apart-spec : {M : Type 1} → statement M
 apart-spec = tie.close (tie.spec less-requires left-requires returns)

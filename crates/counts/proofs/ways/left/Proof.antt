@@ -13,7 +13,7 @@ ways-requires : tie.Need-ways-requires
 ways-requires c κs = search needs
 
 returns : tie.Need-returns
-returns c = rw (← c .before .less .ensures) (c .ways .ensures)
+returns c = rw (c .before .less .ensures) at (c .ways .ensures)
 
 pub left-spec : {M : Type 1} → statement M
 left-spec = tie.close (tie.spec mul-less less-requires ways-requires returns)
