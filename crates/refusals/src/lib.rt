@@ -1,4 +1,6 @@
 // The refusals that several calls share: 1, 2, 5 and 6 of document 01's table; and how a refusal stands in the one number that C gets.
+mod pairs; // pairs.rt: kind 8's pairs
+
 ghost use mathlib.Core.Bool.{not};
 ghost use mathlib.Core.Path.{_≡_};
 ghost use Prim.Native.Nat.{_≤_, _<_};
@@ -34,7 +36,7 @@ pub fn kind_out(rule: Rule) -> bool
     ensures { λ r. ⌜ r ≡ badKind rule ⌝ }
 {
     let kind = rule.kind;
-    outside(1, kind, 7)
+    outside(1, kind, 8)
 }
 
 // Refusal 2.
@@ -78,9 +80,9 @@ fn two_out(first: u64, r: u64, most: u64) -> bool
     outside(2, r, most)
 }
 
-// Refusal 6, over the total weight of the components rated; only kind 2 asks for it.
-pub fn range_out(rule: Rule, n: u64, total: u64) -> bool
-    ensures { λ r. ⌜ r ≡ not (ranged rule n total) ⌝ }
+// Refusal 6, over the total weight of the components rated, which only kind 2 asks for, and the further pairs, which only kind 8 does.
+pub fn range_out(rule: Rule, n: u64, total: u64, more: &[u64]) -> bool
+    ensures { λ r. ⌜ r ≡ not (ranged rule n total (now (more .entry))) ⌝ }
 {
     let kind = rule.kind;
     match kind {
@@ -89,17 +91,25 @@ pub fn range_out(rule: Rule, n: u64, total: u64) -> bool
         3 => outside(rule.first, rule.second, n),
         6 => two_out(rule.first, rule.second, MOST),
         7 => two_out(rule.first, rule.second, n),
+        8 => pairs::pairs_out(rule.first, rule.second, n, more),
         _ => true,
     }
 }
 
 // Refusals 5 and 6 of a list of `whole` components with `listed` weights, of which n are rated, with the weights `rated`.
-pub fn rated_refusal(rule: Rule, whole: u64, listed: u64, n: u64, rated: &[u16]) -> u64
+pub fn rated_refusal(
+    rule: Rule,
+    whole: u64,
+    listed: u64,
+    n: u64,
+    rated: &[u16],
+    more: &[u64],
+) -> u64
     requires { ⌜ (whole ≤ most) × (length (now rated) ≤ listed) ⌝ }
-    ensures { λ r. ⌜ r ≡ ratedRefusal rule whole listed n (total (now (rated .entry))) ⌝ }
+    ensures { λ r. ⌜ r ≡ ratedRefusal rule whole listed n (total (now (rated .entry))) (now (more .entry)) ⌝ }
 {
     if rule.kind != 2 {
-        if range_out(rule, n, 0) {
+        if range_out(rule, n, 0, more) {
             return 6;
         }
         return 0;
@@ -111,15 +121,15 @@ pub fn rated_refusal(rule: Rule, whole: u64, listed: u64, n: u64, rated: &[u16])
     if HEAVIEST < total {
         return 5;
     }
-    if range_out(rule, n, total) {
+    if range_out(rule, n, total, more) {
         return 6;
     }
     0
 }
 
 // Refusals 1, 2, 5 and 6, the lowest that applies; 0 for none.
-pub fn rule_refusal(rule: Rule, n: u64, weights: &[u16]) -> u64
-    ensures { λ r. ⌜ r ≡ ruleRefusal rule n (now (weights .entry)) ⌝ }
+pub fn rule_refusal(rule: Rule, n: u64, weights: &[u16], more: &[u64]) -> u64
+    ensures { λ r. ⌜ r ≡ ruleRefusal rule n (now (weights .entry)) (now (more .entry)) ⌝ }
 {
     if kind_out(rule) {
         return 1;
@@ -127,7 +137,7 @@ pub fn rule_refusal(rule: Rule, n: u64, weights: &[u16]) -> u64
     if size_out(n) {
         return 2;
     }
-    rated_refusal(rule, n, weights.len() as u64, n, weights)
+    rated_refusal(rule, n, weights.len() as u64, n, weights, more)
 }
 
 // A refusal packed into one number: (2^32 - 1) times 2^32 plus its own.

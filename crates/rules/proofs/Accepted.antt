@@ -8,18 +8,19 @@ use native.Mathlib.Omega.{arith}
 use lib.Dec.{eqb, ltb}
 use lib.ListN.{length, length-take, length-drop}
 use lib.Seq.{take-all}
-use borrow.Author.Tests.{eqb-true, eqb-false, eq-eqb, ltb-false, not-false, le-ltb, le-leb}
+use borrow.Author.Tests.{eqb-true, eqb-false, eq-eqb, ne-eqb, ltb-false, not-false, le-ltb, le-leb}
 use Rattle.rules.specs.declared.Rule.{Rule}
 use Rattle.rules.specs.declared.Rating.{Rating}
 use Rattle.rules.specs.declared.Rating.the-variants.{Range, Refused}
 use Rattle.rules.specs.Below.{total, within}
+use Rattle.rules.specs.State.{besideOf}
 use Rattle.rules.specs.Stretch.{stretch}
-use Rattle.rules.specs.Asked.{Asked, lengthOf, sizeOf, partOf, weightsOf, lowOf, highOf, ThirdOf}
-use Rattle.rules.specs.Refusal.{most, badKind, badSize, badStretch, heaviest, weightsOut, badWeights, rangeOne, rangeTwo, ranged, inRange, firstOf, figuresRefusal}
+use Rattle.rules.specs.Asked.{Asked, lengthOf, sizeOf, partOf, weightsOf, readOf, lowOf, highOf, ThirdOf}
+use Rattle.rules.specs.Refusal.{most, badKind, badSize, badStretch, heaviest, weightsOut, badWeights, rangeOne, rangeTwo, rangePairs, ranged, inRange, firstOf, figuresRefusal}
 use Rattle.rules.specs.Accepted.{Accepted, One, Two, Ratable}
 use Rattle.rules.specs.Answer.{unless, figuresOf}
 use Rattle.rules.proofs.Tests.{both, neither}
-use Rattle.rules.proofs.Seven.{within-true}
+use Rattle.rules.proofs.EachKind.{within-true}
 use Rattle.rules.proofs.Conditions.{units-in, third}
 
 -- no refusal: the first condition fails, and so do those after it
@@ -64,19 +65,30 @@ weights-accepted rule n listed t e two =
     let h = neither (not (eqb listed n)) (ltb heaviest t) (rw (eq-eqb (rule .kind) 2 two) at e) in
     (eqb-true listed n (not-false _ (h .0)), ltb-false heaviest t (h .1))
 
+-- kind 2 reads the weights
+pub beside-weights : (rule : Rule) (weights more : List ℕ) → (rule .kind ≡ 8 → ⊥) → besideOf rule weights more ≡ weights
+beside-weights rule weights more h = rw (ne-eqb (rule .kind) 8 h)
+
+pub two-beside : (rule : Rule) (weights more : List ℕ) → rule .kind ≡ 2 → besideOf rule weights more ≡ weights
+two-beside rule weights more e = beside-weights rule weights more (λ eight. omega arith)
+
+-- kind 8 reads the further pairs
+pub beside-more : (rule : Rule) (weights more : List ℕ) → rule .kind ≡ 8 → besideOf rule weights more ≡ more
+beside-more rule weights more e = rw (eq-eqb (rule .kind) 8 e)
+
 -- a rule that none of 1, 2, 5 and 6 meets; in a stretch 5 is asked of the whole list
-pub rule-accepted : (rule : Rule) (n whole : ℕ) (weights rated : List ℕ) → badKind rule ≡ false → badSize n ≡ false → badWeights rule whole weights rated ≡ false
-    → (length weights ≡ whole → length rated ≡ n) → not (inRange rule n rated) ≡ false → Accepted rule n rated
-rule-accepted rule n whole weights rated kind size listed as-many range =
-    let k = within-true 1 (rule .kind) 7 (not-false _ kind) in
+pub rule-accepted : (rule : Rule) (n whole : ℕ) (weights rated more : List ℕ) → badKind rule ≡ false → badSize n ≡ false → badWeights rule whole weights rated ≡ false
+    → (length weights ≡ whole → length rated ≡ n) → not (inRange rule n (besideOf rule rated more)) ≡ false → Accepted rule n (besideOf rule rated more)
+rule-accepted rule n whole weights rated more kind size listed as-many range =
+    let k = within-true 1 (rule .kind) 8 (not-false _ kind) in
     let s = within-true 1 n 64 (not-false _ size) in
     record {
       kind-low = k .0;
       kind-high = k .1;
       size-low = s .0;
       size-high = s .1;
-      weights-length = λ two. as-many (weights-accepted rule whole (length weights) (total rated) listed two .0);
-      weights-total = λ two. weights-accepted rule whole (length weights) (total rated) listed two .1;
+      weights-length = λ two. rw (two-beside rule rated more two) (as-many (weights-accepted rule whole (length weights) (total rated) listed two .0));
+      weights-total = λ two. rw (two-beside rule rated more two) (weights-accepted rule whole (length weights) (total rated) listed two .1);
       in-range = not-false _ range;
     }
 
@@ -118,6 +130,10 @@ module _ {rule : Rule} {n : ℕ} {weights : List ℕ} (ok : Accepted rule n weig
   unfolding ranged
   range7 e = two-true _ _ _ (rw e at (ok .in-range))
 
+  pub range8 : rule .kind ≡ 8 → rangePairs (rule .first) (rule .second) n weights ≡ true
+  unfolding ranged
+  range8 e = rw e at (ok .in-range)
+
 -- what it says that a stretch is not refused
 pub in-stretch : (a b n : ℕ) → badStretch a b n ≡ false → (1 ≤ a) × (a ≤ b) × (b ≤ n)
 in-stretch a b n e =
@@ -142,7 +158,7 @@ stretch-length a b xs e =
 -- no refusal, so the stretch can be rated
 module _ (q : Asked) (table : List ℕ) where
   pub figures-ratable : figuresRefusal q table ≡ 0
-      → (badStretch (q .a) (q .b) (lengthOf q) ≡ false) × (q .rule .kind ≡ 2 → length (q .weights) ≡ lengthOf q) × Ratable (q .rule) (partOf q) (weightsOf q) table
+      → (badStretch (q .a) (q .b) (lengthOf q) ≡ false) × (q .rule .kind ≡ 2 → length (q .weights) ≡ lengthOf q) × Ratable (q .rule) (partOf q) (readOf q) table
   unfolding figuresRefusal
   figures-ratable e =
       let v = none-first 0 _ _ e in
@@ -160,7 +176,7 @@ module _ (q : Asked) (table : List ℕ) where
         t .0,
         λ two. weights-accepted (q .rule) n (length (q .weights)) _ (d .0) two .0,
         record {
-          accepted = rw size (rule-accepted (q .rule) (sizeOf q) n (q .weights) _ (v .0) in-size (d .0) as-many (f .0));
+          accepted = rw size (rule-accepted (q .rule) (sizeOf q) n (q .weights) _ (q .more) (v .0) in-size (d .0) as-many (f .0));
           units = units-in (partOf q) (c .0);
           room = ltb-false _ _ (none-first 6 _ _ (f .1) .0);
         },
@@ -175,7 +191,7 @@ module _ (q : Asked) (table : List ℕ) where
       let size = stretch-length (q .a) (q .b) (q .survival) (s .0) in
       let low-is : lowOf q ≡ l = cc (v .1) in
       let high-is : highOf q ≡ h = cc (v .1) in
-      rw (← low-is, ← high-is, ← size) (third (q .rule) (partOf q) (weightsOf q) (s .2 .accepted .size-low) (s .2 .units) (s .2 .accepted .in-range))
+      rw (← low-is, ← high-is, ← size) (third (q .rule) (partOf q) (readOf q) (s .2 .accepted .size-low) (s .2 .units) (s .2 .accepted .in-range))
 
 -- a stretch from 1 to the end is the list
 pub stretch-all : (xs : List ℕ) (n : ℕ) → length xs ≡ n → stretch 1 n xs ≡ xs

@@ -2,7 +2,7 @@
 -- kind's memory ends working exactly if the verdict says that the system works. Hence the third condition, for a list and for a stretch, and the
 -- counts as a reading gives them. Assumes nothing.
 use mathlib.Core.Path.{_≡_, sym}
-use mathlib.Core.Bool.{Bool, true, false}
+use mathlib.Core.Bool.{Bool, true, false, not}
 use mathlib.Core.List.{List}
 use Prim.Native.Nat.{ℕ, zero, suc, _^_, _≤_, _<_}
 use native.Mathlib.Omega.{arith}
@@ -17,8 +17,8 @@ use Rattle.rules.specs.Verdict.{fails, works}
 use Rattle.rules.specs.Count.{countIf, countOf}
 use Rattle.rules.specs.Memory.{run, readingOf, machine}
 use Rattle.rules.specs.Figure.{figure, low, high, exact, Third}
-use Rattle.rules.specs.Refusal.{most, ranged, inRange, aboveUnit}
-use Rattle.rules.proofs.Seven.{seven, within-true, range-kind}
+use Rattle.rules.specs.Refusal.{most, rangePairs, ranged, inRange, aboveUnit}
+use Rattle.rules.proofs.EachKind.{each-kind, within-true, range-kind}
 use Rattle.rules.proofs.Tests.{both}
 use Rattle.rules.proofs.Windows.{some-none, not-lt}
 use Rattle.rules.proofs.Split.{exact-same, count-same}
@@ -26,6 +26,8 @@ use Rattle.rules.proofs.Enclosure.{value-le, enclosed}
 use Rattle.rules.proofs.Adding.{kind1, kind2, kind3}
 use Rattle.rules.proofs.InARow.{kind4, kind5}
 use Rattle.rules.proofs.Apart.{kind6, kind7}
+use Rattle.rules.proofs.Lacking.{kind8}
+use Rattle.rules.specs.Pairs.{pairsOf, badMore}
 
 module _ (n : ℕ) (weights : List ℕ) (w : ℕ) (small : w < 2 ^ n) (first second : ℕ) where
   abbrev Right : ℕ → Type 0
@@ -34,10 +36,10 @@ module _ (n : ℕ) (weights : List ℕ) (w : ℕ) (small : w < 2 ^ n) (first sec
       → run (machine (ruleOf kind first second) weights) n (machine (ruleOf kind first second) weights .start) w
       ≡ works (ruleOf kind first second) n weights w
 
-  by-kind : (kind : ℕ) → 1 ≤ kind → kind ≤ 7 → Right kind
-  unfolding ranged readingOf fails
+  by-kind : (kind : ℕ) → 1 ≤ kind → kind ≤ 8 → Right kind
+  unfolding ranged rangePairs readingOf fails
   by-kind =
-      seven Right
+      each-kind Right
       (λ e. kind1 n first w (within-true 1 first n (both _ _ e .0) .0) small)
       (λ e. kind2 n first weights w (within-true 1 first _ (both _ _ e .0) .0))
       (λ e. kind3 n first second w small)
@@ -45,11 +47,12 @@ module _ (n : ℕ) (weights : List ℕ) (w : ℕ) (small : w < 2 ^ n) (first sec
       (λ e. let h = within-true 1 first n (both _ _ e .0) in kind5 n first w (h .0) (h .1))
       (λ e. kind6 n second w (within-true 2 second most (both (eqb first 2) _ e .1) .0))
       (λ e. let h = within-true 2 second n (both (eqb first 2) _ e .1) in kind7 n second w (h .0) (h .1))
+      (λ e. kind8 n (pairsOf first second weights) w (both (not (badMore weights)) _ e .1) small)
 
 pub reading-is-verdict : (rule : Rule) (n : ℕ) (weights : List ℕ) (w : ℕ) → inRange rule n weights ≡ true → w < 2 ^ n
     → run (machine rule weights) n (machine rule weights .start) w ≡ works rule n weights w
 reading-is-verdict rule n weights w e small =
-    let k = range-kind rule n _ e in
+    let k = range-kind rule n _ _ e in
     by-kind n weights w small (rule .first) (rule .second) (rule .kind) (k .0) (k .1) e
 
 -- the counts, as a reading gives them

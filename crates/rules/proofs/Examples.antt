@@ -23,7 +23,7 @@ use Rattle.rules.specs.Figure.{rounded, value}
 use Rattle.rules.specs.Stretch.{stretch}
 use Rattle.rules.specs.Asked.{askedOf}
 use Rattle.rules.specs.Refusal.{cells, after, aboveUnit, weightsOut, ranged, firstOf, verdictRefusal, figuresRefusal}
-use Rattle.rules.specs.Answer.{unless, judgment, verdictOf, figuresOf}
+use Rattle.rules.specs.Answer.{unless, judgment, judgedOf, verdictOf, figuresOf}
 use Rattle.rules.specs.Worth.{worthOf}
 use Rattle.rules.specs.File.{bytesOf, allBytes, headerOf, systemNumbers, systemsOf, fileOf}
 use Rattle.rules.specs.Writing.{Typed, typedOf, bytesFor, writeRefusal, writingOf, roomWritten}
@@ -38,8 +38,8 @@ pub data Example : Type 0 where
 
 unfoldable pub Holds : Example → Type 0
 Holds (counts rule n weights printed) = countsOf rule n weights ≡ printed
-Holds (verdict rule n w printed) = verdictOf rule n [] w ≡ printed
-Holds (figures rule survival printed) = figuresOf (askedOf rule 1 (length survival) survival []) (replicate cells 0) ≡ printed
+Holds (verdict rule n w printed) = verdictOf rule n [] [] w ≡ printed
+Holds (figures rule survival printed) = figuresOf (askedOf rule 1 (length survival) survival [] []) (replicate cells 0) ≡ printed
 
 unfoldable pub All : List Example → Type 0
 unfolding Holds
@@ -69,7 +69,7 @@ abbrev four : List ℕ
 four = 2 ^ 29 ∷ 2 ^ 28 ∷ 2 ^ 29 ∷ suc S ∷ []
 
 abbrev pub weighed : (rule : Rule) (a b : ℕ) (survival : List ℕ) (fan : ℕ) → Worth
-weighed rule a b survival fan = worthOf (askedOf rule a b survival []) fan (replicate cells 0)
+weighed rule a b survival fan = worthOf (askedOf rule a b survival [] []) fan (replicate cells 0)
 
 pub worths : (weighed (ruleOf 1 1 0) 2 3 four 2 ≡ Ends (pos (2 ^ 29)) (pos (2 ^ 29)))
     × (weighed (ruleOf 1 1 0) 2 3 four 3 ≡ Ends (pos (2 ^ 28)) (pos (2 ^ 28)))
@@ -106,5 +106,5 @@ unfolding listBelow bytesOf allBytes headerOf systemNumbers systemsOf fileOf fir
 writings = (refl, refl, refl, refl, refl, refl, refl, refl)
 
 pub examples : All table
-unfolding All Holds table sumBelow held some first firstWindow firstNear placeOf judgment listBelow total numberOf someWindow twoNear fails weightDown ones countIf countsOf moved ended readingOf rounded value stretch aboveUnit weightsOut ranged firstOf verdictRefusal figuresRefusal unless verdictOf figuresOf
+unfolding All Holds table sumBelow held some first firstWindow firstNear placeOf judgment judgedOf listBelow total numberOf someWindow twoNear fails weightDown ones countIf countsOf moved ended readingOf rounded value stretch aboveUnit weightsOut ranged firstOf verdictRefusal figuresRefusal unless verdictOf figuresOf
 examples = (refl, (refl, (refl, (refl, (refl, (refl, (refl, (refl, (refl, (refl, (refl, (refl, (refl, tt)))))))))))))

@@ -17,8 +17,14 @@ pub mod Simulation
 pub mod Windows
 pub mod InARow
 pub mod Apart
+pub mod Pairs
+pub mod Further
+pub mod Shifted
+pub mod Lacking
+pub mod Fewer
+pub mod PairExamples
 pub mod Adding
-pub mod Seven
+pub mod EachKind
 pub mod Conditions
 pub mod Accepted
 pub mod Shorter

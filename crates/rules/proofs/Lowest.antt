@@ -3,7 +3,7 @@
 -- Assumes nothing.
 use mathlib.Core.Path.{_≡_, refl, sym, ap, _∙_}
 use mathlib.Core.Logic.{_⊎_, inl, inr, _↔_}
-use mathlib.Core.Bool.{Bool, true, false, cond, true≢false}
+use mathlib.Core.Bool.{Bool, true, false, cond, true≢false, _&&_}
 use mathlib.Core.List.{List, [], _∷_}
 use Prim.Native.Nat.{ℕ, zero, suc, min, _+_, _≤_, _<_}
 use native.Mathlib.Omega.{arith}
@@ -12,12 +12,15 @@ use native.Mathlib.Numerals.{add-one}
 use lib.Dec.{leb, ltb}
 use borrow.Author.Tests.{lt-ltb, le-ltb, ltb-true, leb-true, leb-false, le-leb, lt-leb}
 use Rattle.rules.specs.declared.Rule.{Rule}
+use Rattle.rules.specs.declared.Pair.{Pair}
 use Rattle.rules.specs.Below.{some, first, rowOf}
 use Rattle.rules.specs.State.{heldIn, starts, ruleOf}
 use Rattle.rules.specs.Verdict.{someWindow, twoNear, fails, firstWindow, firstNear, placeOf}
-use Rattle.rules.proofs.Tests.{neither}
+use Rattle.rules.proofs.Tests.{neither, both}
 use Rattle.rules.proofs.Windows.{some-none, some-found}
 use Rattle.rules.proofs.Apart.{near-window}
+use Rattle.rules.proofs.Pairs.{any-same, exchange, good-pair}
+use Rattle.rules.specs.Pairs.{tooFew, lacking, lackingFrom, firstLacking, fails8, goodPair, inRange8, anyOf}
 
 module _ (p : ℕ → Bool) where
   pub nowhere-yet : some p 0 ≡ false
@@ -43,10 +46,10 @@ module _ (p : ℕ → Bool) where
   nowhere (suc k) e = let h = neither (some p k) (p k) e in rw (h .0, h .1)
 
   -- what is found where something is there
-  record Found (k a : ℕ) : Type 0 where
-    below : a < k
-    holds : p a ≡ true
-    lowest : some p a ≡ false
+  pub record Found (k a : ℕ) : Type 0 where
+    pub below : a < k
+    pub holds : p a ≡ true
+    pub lowest : some p a ≡ false
 
   first-found : (k : ℕ) → some p k ≡ true → Found k (first p k)
   unfolding first some
@@ -132,7 +135,7 @@ module _ (n : ℕ) (weights : List ℕ) (w first second : ℕ) where
   abbrev Right : ℕ → Type 0
   Right kind =
       let rule = ruleOf kind first second in
-      (fails rule n weights w ≡ true) ↔ LowestOf (windowsOf rule n) n w (placeOf rule n w)
+      (fails rule n weights w ≡ true) ↔ LowestOf (windowsOf rule n) n w (placeOf rule n weights w)
 
   exactly : (ring : Bool) (width need : ℕ) → (someWindow ring n width need w ≡ true) ↔ Lowest ring n width need w (firstWindow ring n width need w)
   exactly ring width need = (window-lowest ring n width need w, lowest-window ring n width need w _)
@@ -153,5 +156,35 @@ module _ (n : ℕ) (weights : List ℕ) (w first second : ℕ) where
   by-kind (suc (suc (suc (suc (suc (suc (suc (suc kind)))))))) l h = absurd (omega arith)
 
 pub place-lowest : (rule : Rule) (n : ℕ) (weights : List ℕ) (w : ℕ) → 4 ≤ rule .kind → rule .kind ≤ 7
-    → (fails rule n weights w ≡ true) ↔ LowestOf (windowsOf rule n) n w (placeOf rule n w)
+    → (fails rule n weights w ≡ true) ↔ LowestOf (windowsOf rule n) n w (placeOf rule n weights w)
 place-lowest rule n weights w = by-kind n weights w (rule .first) (rule .second) (rule .kind)
+
+-- kind 8: some pair has a failing window exactly if at some start some pair has
+below-start : (t : ℕ → Bool) (s n : ℕ) → s ≤ n → some (λ a. ltb a s && t a) n ≡ some t s
+below-start t s n l = go (some t s) refl
+  where
+    go : (b : Bool) → some t s ≡ b → some (λ a. ltb a s && t a) n ≡ b
+    go true e = let f = first-found t s e in some-found (λ a. ltb a s && t a) n (first t s) (omega (arith, f .below)) (rw (lt-ltb (first t s) s (f .below)) (f .holds))
+    go false e = some-none (λ a. ltb a s && t a) n .1 (λ a m h.
+        let v = both (ltb a s) (t a) h in
+        some-none t s .0 e a (ltb-true a s (v .0)) (v .1))
+
+pub fails-from : (n w : ℕ) (ps : List Pair) → inRange8 n ps ≡ true → fails8 ps n w ≡ some (λ a. anyOf (lackingFrom n w a) ps) n
+unfolding fails8 inRange8
+fails-from n w ps range =
+    any-same (goodPair n) (lacking n w) (λ p. some (λ a. lackingFrom n w a p) n)
+    (λ p g. sym (below-start (λ a. tooFew p (heldIn n a w (p .r))) (starts false n (p .r)) n (omega (arith, good-pair n p g .some, good-pair n p g .order)))) ps range
+    ∙ sym (exchange (lackingFrom n w) n ps)
+
+-- "A failing verdict names the lowest start of any failing window"
+pub record LowestPair (n w : ℕ) (ps : List Pair) (p : ℕ) : Type 0 where
+  pub a : ℕ
+  pub counted : p ≡ suc a
+  pub found : Found (λ a. anyOf (lackingFrom n w a) ps) n a
+
+pub pairs-lowest : (n w : ℕ) (ps : List Pair) → inRange8 n ps ≡ true → (fails8 ps n w ≡ true) ↔ LowestPair n w ps (firstLacking ps n w)
+unfolding firstLacking
+pairs-lowest n w ps range = (
+  λ e. record { a = _; counted = refl; found = first-found _ n (sym (fails-from n w ps range) ∙ e) },
+  λ h. fails-from n w ps range ∙ some-found _ n (h .a) (h .found .below) (h .found .holds),
+)

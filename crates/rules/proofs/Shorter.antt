@@ -11,43 +11,46 @@ use lib.ListN.{length}
 use borrow.Author.Tests.{eqb-true, le-leb, not-false}
 use Rattle.rules.specs.declared.Rule.{Rule}
 use Rattle.rules.specs.Below.{total}
-use Rattle.rules.specs.State.{numberOf}
+use Rattle.rules.specs.State.{numberOf, besideOf}
 use Rattle.rules.specs.Verdict.{someWindow, fails}
 use Rattle.rules.specs.Count.{countIf, countOf}
 use Rattle.rules.specs.Figure.{exact, exactIf}
-use Rattle.rules.specs.Asked.{Asked, lengthOf, sizeOf, partOf, weightsOf}
-use Rattle.rules.specs.Refusal.{most, badKind, badSize, badStretch, aboveUnit, badWeights, rangeTwo, ranged, shortTable, shortRoom, highOne, firstOf, verdictRefusal, countRefusal, figuresRefusal}
-use Rattle.rules.proofs.Seven.{within-true}
+use Rattle.rules.specs.Asked.{Asked, lengthOf, sizeOf, partOf, weightsOf, readOf}
+use Rattle.rules.specs.Refusal.{most, badKind, badSize, badStretch, aboveUnit, badWeights, rangeTwo, ranged, inRange, notCounted, shortTable, shortRoom, highOne, firstOf, verdictRefusal, countRefusal, figuresRefusal}
+use Rattle.rules.proofs.EachKind.{within-true}
 use Rattle.rules.proofs.Tests.{both}
 use Rattle.rules.proofs.Split.{exact-same, count-same}
 use Rattle.rules.proofs.Apart.{near-window}
 use Rattle.rules.proofs.Accepted.{none-first, first-after, in-stretch}
 
 -- the range and the verdict as they were
-abbrev pub rangedBefore : Rule → (n total : ℕ) → Bool
-rangedBefore rule n total = cond (eqb (rule .kind) 6) (rangeTwo (rule .first) (rule .second) n) (ranged rule n total)
+abbrev pub rangedBefore : Rule → (n total : ℕ) (more : List ℕ) → Bool
+rangedBefore rule n total more = cond (eqb (rule .kind) 6) (rangeTwo (rule .first) (rule .second) n) (ranged rule n total more)
+
+abbrev pub inRangeBefore : Rule → (n : ℕ) (beside : List ℕ) → Bool
+inRangeBefore rule n beside = rangedBefore rule n (total beside) beside
 
 abbrev pub failsBefore : Rule → (n : ℕ) (weights : List ℕ) (w : ℕ) → Bool
 failsBefore rule n weights w = cond (eqb (rule .kind) 6) (someWindow false n (rule .second) 2 w) (fails rule n weights w)
 
 module _ (rule : Rule) (n : ℕ) where
-  pub range-before : (t : ℕ) → n ≤ most → rangedBefore rule n t ≡ true → ranged rule n t ≡ true
+  pub range-before : (t : ℕ) (more : List ℕ) → n ≤ most → rangedBefore rule n t more ≡ true → ranged rule n t more ≡ true
   unfolding ranged
-  range-before t small = go (eqb (rule .kind) 6) refl
+  range-before t more small = go (eqb (rule .kind) 6) refl
     where
-      go : (six : Bool) → eqb (rule .kind) 6 ≡ six → cond six (rangeTwo (rule .first) (rule .second) n) (ranged rule n t) ≡ true → ranged rule n t ≡ true
+      go : (six : Bool) → eqb (rule .kind) 6 ≡ six → cond six (rangeTwo (rule .first) (rule .second) n) (ranged rule n t more) ≡ true → ranged rule n t more ≡ true
       go false e h = h
       go true e h =
           let two = both (eqb (rule .first) 2) _ h in
           let r = within-true 2 (rule .second) n (two .1) in
           rw (eqb-true (rule .kind) 6 e, two .0, le-leb 2 (rule .second) (r .0)) (le-leb (rule .second) most (omega arith))
 
-  module _ (weights : List ℕ) (range : rangedBefore rule n (total weights) ≡ true) where
+  module _ (weights : List ℕ) (range : inRangeBefore rule n weights ≡ true) where
     pub fails-before : (w : ℕ) → fails rule n weights w ≡ failsBefore rule n weights w
     unfolding fails
     fails-before w = go (eqb (rule .kind) 6) refl range
       where
-        go : (six : Bool) → eqb (rule .kind) 6 ≡ six → cond six (rangeTwo (rule .first) (rule .second) n) (ranged rule n (total weights)) ≡ true
+        go : (six : Bool) → eqb (rule .kind) 6 ≡ six → cond six (rangeTwo (rule .first) (rule .second) n) (inRange rule n weights) ≡ true
             → fails rule n weights w ≡ cond six (someWindow false n (rule .second) 2 w) (fails rule n weights w)
         go false e h = refl
         go true e h =
@@ -58,7 +61,7 @@ module _ (rule : Rule) (n : ℕ) where
     pub counts-before : (j : ℕ) → countOf rule n weights j ≡ countIf (λ w. not (failsBefore rule n weights w)) n j
     counts-before j = count-same _ _ n j (λ w l. ap not (fails-before w))
 
-pub exact-before : (u : ℕ) (rule : Rule) (survival weights : List ℕ) → rangedBefore rule (length survival) (total weights) ≡ true
+pub exact-before : (u : ℕ) (rule : Rule) (survival weights : List ℕ) → inRangeBefore rule (length survival) weights ≡ true
     → exact u rule survival weights ≡ exactIf (λ w. not (failsBefore rule (length survival) weights w)) u (numberOf survival) (length survival)
 exact-before u rule survival weights range =
     exact-same _ _ u (numberOf survival) (length survival) (λ w l. ap not (fails-before rule (length survival) weights range w))
@@ -73,37 +76,40 @@ eased number b c cs ds h rest e = let v = none-first number b cs e in first-afte
 same : {b : Bool} → b ≡ false → b ≡ false
 same e = e
 
-in-range : (rule : Rule) (n t : ℕ) → n ≤ most → not (rangedBefore rule n t) ≡ false → not (ranged rule n t) ≡ false
-in-range rule n t small e = ap not (range-before rule n t small (not-false _ e))
+in-range : (rule : Rule) (n : ℕ) (beside : List ℕ) → n ≤ most → not (inRangeBefore rule n beside) ≡ false → not (inRange rule n beside) ≡ false
+in-range rule n beside small e = ap not (range-before rule n (total beside) beside small (not-false _ e))
 
--- 1, 2, 5 and 6 as they were, and what else a call looks at
-abbrev pub Before : Rule → (n : ℕ) (weights : List ℕ) (others : List (ℕ × Bool)) → Type 0
-Before rule n weights others =
-    firstOf ((1, badKind rule) ∷ (2, badSize n) ∷ (5, badWeights rule n weights weights) ∷ (6, not (rangedBefore rule n (total weights))) ∷ others) ≡ 0
+-- 2, 5 and 6, and what else a call looks at
+abbrev from2 : (n : ℕ) (five six : Bool) (others : List (ℕ × Bool)) → List (ℕ × Bool)
+from2 n five six others = (2, badSize n) ∷ (5, five) ∷ (6, not six) ∷ others
 
-passes : (rule : Rule) (n : ℕ) (weights : List ℕ) (others : List (ℕ × Bool)) → Before rule n weights others
-    → firstOf ((1, badKind rule) ∷ (2, badSize n) ∷ (5, badWeights rule n weights weights) ∷ (6, not (ranged rule n (total weights))) ∷ others) ≡ 0
-passes rule n weights others =
-    eased 0 _ _ _ _ same (λ one. eased 1 _ _ _ _ same (λ two. eased 4 _ _ _ _ same (λ five.
-    eased 5 _ _ _ _ (in-range rule n _ (within-true 1 n most (not-false _ two) .1)) (λ six e. e))))
+passes : (rule : Rule) (n : ℕ) (beside : List ℕ) (five : Bool) (others : List (ℕ × Bool))
+    → firstOf (from2 n five (inRangeBefore rule n beside) others) ≡ 0 → firstOf (from2 n five (inRange rule n beside) others) ≡ 0
+passes rule n beside five others =
+    eased 1 _ _ _ _ same (λ two. eased 4 _ _ _ _ same (λ five.
+    eased 5 _ _ _ _ (in-range rule n beside (within-true 1 n most (not-false _ two) .1)) (λ six e. e)))
 
-pub verdict-passes : (rule : Rule) (n : ℕ) (weights : List ℕ) (w : ℕ) → Before rule n weights ((9, highOne n w) ∷ []) → verdictRefusal rule n weights w ≡ 0
+pub verdict-passes : (rule : Rule) (n : ℕ) (weights more : List ℕ) (w : ℕ)
+    → firstOf ((1, badKind rule) ∷ from2 n (badWeights rule n weights weights) (inRangeBefore rule n (besideOf rule weights more)) ((9, highOne n w) ∷ [])) ≡ 0
+    → verdictRefusal rule n weights more w ≡ 0
 unfolding verdictRefusal
-verdict-passes rule n weights w = passes rule n weights _
+verdict-passes rule n weights more w = eased 0 _ _ _ _ same (λ one. passes rule n (besideOf rule weights more) _ _)
 
-pub counts-pass : (rule : Rule) (n : ℕ) (weights table room : List ℕ) → Before rule n weights ((7, shortTable table) ∷ (8, shortRoom n room) ∷ [])
+pub counts-pass : (rule : Rule) (n : ℕ) (weights table room : List ℕ)
+    → firstOf ((1, badKind rule) ∷ (15, notCounted rule)
+    ∷ from2 n (badWeights rule n weights weights) (inRangeBefore rule n weights) ((7, shortTable table) ∷ (8, shortRoom n room) ∷ [])) ≡ 0
     → countRefusal rule n weights table room ≡ 0
 unfolding countRefusal
-counts-pass rule n weights table room = passes rule n weights _
+counts-pass rule n weights table room = eased 0 _ _ _ _ same (λ one. eased 14 _ _ _ _ same (λ counted. passes rule n weights _ _))
 
 pub figures-pass : (q : Asked) (table : List ℕ)
     → firstOf ((1, badKind (q .rule)) ∷ (2, badSize (lengthOf q)) ∷ (3, badStretch (q .a) (q .b) (lengthOf q)) ∷ (4, aboveUnit (partOf q))
-    ∷ (5, badWeights (q .rule) (lengthOf q) (q .weights) (weightsOf q)) ∷ (6, not (rangedBefore (q .rule) (sizeOf q) (total (weightsOf q)))) ∷ (7, shortTable table) ∷ []) ≡ 0
+    ∷ (5, badWeights (q .rule) (lengthOf q) (q .weights) (weightsOf q)) ∷ (6, not (inRangeBefore (q .rule) (sizeOf q) (readOf q))) ∷ (7, shortTable table) ∷ []) ≡ 0
     → figuresRefusal q table ≡ 0
 unfolding figuresRefusal
 figures-pass q table =
     eased 0 _ _ _ _ same (λ one. eased 1 _ _ _ _ same (λ two. eased 2 _ _ _ _ same (λ three. eased 3 _ _ _ _ same (λ four. eased 4 _ _ _ _ same (λ five.
-    eased 5 _ _ _ _ (in-range (q .rule) (sizeOf q) _ (short two three)) (λ six e. e))))))
+    eased 5 _ _ _ _ (in-range (q .rule) (sizeOf q) (readOf q) (short two three)) (λ six e. e))))))
   where
     short : badSize (lengthOf q) ≡ false → badStretch (q .a) (q .b) (lengthOf q) ≡ false → sizeOf q ≤ most
     short two three =

@@ -19,7 +19,7 @@ use Rattle.rules.specs.Below.{some}
 use Rattle.rules.specs.State.{S}
 use Rattle.rules.specs.Figure.{figure, Third}
 use Rattle.rules.specs.Stretch.{stretch}
-use Rattle.rules.specs.Asked.{Asked, lengthOf, sizeOf, partOf, weightsOf, lowOf, highOf, ThirdOf}
+use Rattle.rules.specs.Asked.{Asked, lengthOf, sizeOf, partOf, weightsOf, readOf, lowOf, highOf, ThirdOf}
 use Rattle.rules.specs.Refusal.{after, aboveUnit, badWeights, badSize, badStretch, figuresRefusal}
 use Rattle.rules.specs.Answer.{unless, figuresOf}
 use Rattle.rules.specs.Worth.{sure, lowerOf, upperOf, Weighs, worthOf, Signed, Between, BetweenOf}
@@ -81,8 +81,8 @@ module _ (q : Asked) (table : List ℕ) (fan p : ℕ) (none : figuresRefusal q t
   unfolding figuresOf
   sure-third = figures-third (sure fan p q) table _ _ (unless-none _ _ _ sure-accepted)
 
-  pub sure-within : (up : Bool) → figure up S (q .rule) (partOf (sure fan p q)) (weightsOf q) ≤ S
-  sure-within up = figure-within up (q .rule) (partOf (sure fan p q)) (weightsOf q) sure-units
+  pub sure-within : (up : Bool) → figure up S (q .rule) (partOf (sure fan p q)) (readOf q) ≤ S
+  sure-within up = figure-within up (q .rule) (partOf (sure fan p q)) (readOf q) sure-units
 
 -- ---- the worth
 

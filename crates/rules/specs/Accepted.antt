@@ -9,14 +9,14 @@ use Rattle.rules.specs.Below.{total}
 use Rattle.rules.specs.State.{S}
 use Rattle.rules.specs.Refusal.{most, heaviest, inRange, cells}
 
-pub record Accepted (rule : Rule) (n : ℕ) (weights : List ℕ) : Type 0 where
+pub record Accepted (rule : Rule) (n : ℕ) (beside : List ℕ) : Type 0 where
   pub kind-low : 1 ≤ rule .kind
-  pub kind-high : rule .kind ≤ 7
+  pub kind-high : rule .kind ≤ 8
   pub size-low : 1 ≤ n
   pub size-high : n ≤ most
-  pub weights-length : rule .kind ≡ 2 → length weights ≡ n
-  pub weights-total : rule .kind ≡ 2 → total weights ≤ heaviest
-  pub in-range : inRange rule n weights ≡ true
+  pub weights-length : rule .kind ≡ 2 → length beside ≡ n
+  pub weights-total : rule .kind ≡ 2 → total beside ≤ heaviest
+  pub in-range : inRange rule n beside ≡ true
 
 -- the column "range", kinds 1, 2, 4 and 5: first from 1 to `most`, second 0
 pub record One (k most second : ℕ) : Type 0 where
@@ -31,7 +31,7 @@ pub record Two (first r most : ℕ) : Type 0 where
   pub high : r ≤ most
 
 -- a list with an accepted rule, numbers within the unit, and a table to work in
-pub record Ratable (rule : Rule) (survival weights table : List ℕ) : Type 0 where
-  pub accepted : Accepted rule (length survival) weights
+pub record Ratable (rule : Rule) (survival beside table : List ℕ) : Type 0 where
+  pub accepted : Accepted rule (length survival) beside
   pub units : (i : ℕ) → getD survival i 0 ≤ S
   pub room : cells ≤ length table

@@ -12,6 +12,7 @@ use Rattle.rules.specs.declared.Rating.{Rating}
 use Rattle.rules.specs.declared.Rating.the-variants as rating
 use Rattle.rules.specs.declared.Counting.{Counting}
 use Rattle.rules.specs.declared.Counting.the-variants as counting
+use Rattle.rules.specs.State.{besideOf}
 use Rattle.rules.specs.Verdict.{fails, placeOf}
 use Rattle.rules.specs.Count.{countsOf}
 use Rattle.rules.specs.Asked.{Asked, lowOf, highOf}
@@ -52,9 +53,13 @@ tableAfter refusal table = unless refusal (λ r. table) (cleared table)
 unfoldable pub judgment : (failing : Bool) (place : ℕ) → Verdict
 judgment failing place = cond failing (verdict.Fails place) verdict.Works
 
-unfoldable pub verdictOf : Rule → (n : ℕ) (weights : List ℕ) (w : ℕ) → Verdict
-verdictOf rule n weights w =
-    unless (verdictRefusal rule n weights w) verdict.Refused (judgment (fails rule n weights w) (placeOf rule n w))
+unfoldable pub judgedOf : Rule → (n : ℕ) (weights more : List ℕ) (w : ℕ) → Verdict
+judgedOf rule n weights more w =
+    let beside = besideOf rule weights more in
+    judgment (fails rule n beside w) (placeOf rule n beside w)
+
+unfoldable pub verdictOf : Rule → (n : ℕ) (weights more : List ℕ) (w : ℕ) → Verdict
+verdictOf rule n weights more w = unless (verdictRefusal rule n weights more w) verdict.Refused (judgedOf rule n weights more w)
 
 -- the figures: of the stretch that is asked, "as a list of those components alone would"
 unfoldable pub figuresOf : Asked → (table : List ℕ) → Rating

@@ -4,7 +4,7 @@ use mathlib.Core.List.{List}
 use Prim.Native.Nat.{ℕ, suc, _-_}
 use lib.ListN.{length}
 use Rattle.rules.specs.declared.Rule.{Rule}
-use Rattle.rules.specs.State.{S}
+use Rattle.rules.specs.State.{S, besideOf}
 use Rattle.rules.specs.Figure.{low, high, exact, Third}
 use Rattle.rules.specs.Stretch.{stretch}
 
@@ -14,9 +14,10 @@ pub record Asked : Type 0 where
   pub b : ℕ
   pub survival : List ℕ
   pub weights : List ℕ
+  pub more : List ℕ
 
-abbrev pub askedOf : Rule → (a b : ℕ) (survival weights : List ℕ) → Asked
-askedOf rule a b survival weights = record { rule = rule; a = a; b = b; survival = survival; weights = weights }
+abbrev pub askedOf : Rule → (a b : ℕ) (survival weights more : List ℕ) → Asked
+askedOf rule a b survival weights more = record { rule = rule; a = a; b = b; survival = survival; weights = weights; more = more }
 
 -- n, the list's length
 abbrev pub lengthOf : Asked → ℕ
@@ -32,14 +33,18 @@ partOf q = stretch (q .a) (q .b) (q .survival)
 abbrev pub weightsOf : Asked → List ℕ
 weightsOf q = stretch (q .a) (q .b) (q .weights)
 
+-- what is read with the rule: the stretch's weights, or the further pairs, which are the same for every stretch
+abbrev pub readOf : Asked → List ℕ
+readOf q = besideOf (q .rule) (weightsOf q) (q .more)
+
 abbrev pub lowOf : Asked → ℕ
-lowOf q = low S (q .rule) (partOf q) (weightsOf q)
+lowOf q = low S (q .rule) (partOf q) (readOf q)
 
 abbrev pub highOf : Asked → ℕ
-highOf q = high S (q .rule) (partOf q) (weightsOf q)
+highOf q = high S (q .rule) (partOf q) (readOf q)
 
 abbrev pub exactOf : Asked → ℕ
-exactOf q = exact S (q .rule) (partOf q) (weightsOf q)
+exactOf q = exact S (q .rule) (partOf q) (readOf q)
 
 -- the third condition of two figures
 abbrev pub ThirdOf : Asked → (low high : ℕ) → Type 0

@@ -39,6 +39,6 @@ total (x ∷ xs) = x + total xs
 abbrev pub within : (a x b : ℕ) → Bool
 within a x b = leb a x && leb x b
 
--- the row of a kind in a table of seven; `other` stands where the table has none
+-- the row of a kind in a table of eight; `other` stands where the table has none
 abbrev pub rowOf {ℓ} : {A : Type ℓ} → ℕ → A → List A → A
 rowOf kind other rows = getD (other ∷ rows) kind other

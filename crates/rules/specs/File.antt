@@ -192,9 +192,9 @@ fileRefusal bytes =
     ∷ (13, badLayout bytes)
     ∷ [])
 
--- what a system asks of its deck
+-- what a system asks of its deck; request 05: "a deck file carries a single pair in first and second"
 abbrev pub askedBy : Deck → System → Asked
-askedBy d s = askedOf (s .rule) (s .a) (s .b) (d .survival) (d .weights)
+askedBy d s = askedOf (s .rule) (s .a) (s .b) (d .survival) (d .weights) []
 
 -- a system's own answer, over a working table that the caller brings
 unfoldable pub systemOf : Deck → System → Rating

@@ -2,6 +2,7 @@
 -- Lay it beside the document; every definition names the sentence or row that it writes down.
 pub mod Below
 pub mod State
+pub mod Pairs
 pub mod Verdict
 pub mod Count
 pub mod Memory

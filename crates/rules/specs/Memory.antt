@@ -1,11 +1,14 @@
 -- Document 01, "The memory of a reading": a general memory, then the table row by row.
 use mathlib.Core.Bool.{Bool, true, false, cond, not}
 use mathlib.Core.List.{List, [], _∷_}
-use Prim.Native.Nat.{ℕ, zero, suc, _+_, _-_, min}
+use Prim.Native.Nat.{ℕ, zero, suc, _+_, _-_, _*_, _%_, _^_, min, max}
 use lib.Dec.{ltb, leb}
+use lib.Count.{ones}
+use Rattle.rules.specs.declared.Pair.{Pair}
 use Rattle.rules.specs.declared.Rule.{Rule}
 use Rattle.rules.specs.Below.{within, rowOf}
 use Rattle.rules.specs.State.{numberOf, down}
+use Rattle.rules.specs.Pairs.{pairsOf, anyOf, tooFew}
 
 -- A general memory: where a reading starts, what it becomes on a working and on a failed component (whose number it is told), and whether it
 -- works at the end.
@@ -127,6 +130,29 @@ end7 (pair x g) = leb g x
 abbrev pub row7 : (r : ℕ) → Row Ring
 row7 r = record { start = lead 0; working = λ i. working7 r; failing = λ i. failing7 r; end = end7 }
 
+-- "The memory is the states of the last components, as many as the longest window less one": a number, the last component read its lowest bit, one
+-- where it has failed
+unfoldable pub longest : List Pair → ℕ
+longest [] = 0
+longest (p ∷ ps) = max (p .r) (longest ps)
+
+abbrev pub kept : List Pair → ℕ
+kept ps = longest ps - 1
+
+-- "too few working in a window is dead": of the last states x, the one just read among them
+abbrev pub lackingLast : ℕ → Pair → Bool
+lackingLast x p = tooFew p (ones (x % 2 ^ p .r))
+
+unfoldable pub lackingIn : List Pair → ℕ → Bool
+lackingIn ps x = anyOf (lackingLast x) ps
+
+unfoldable pub remembered : List Pair → ℕ → Memory ℕ
+remembered ps x = cond (lackingIn ps x) dead (live (x % 2 ^ kept ps))
+
+-- row 8, of request 05: start all working; a working one read; a failed one read; works
+abbrev pub row8 : List Pair → Row ℕ
+row8 ps = record { start = 0; working = λ i m. remembered ps (2 * m); failing = λ i m. remembered ps (2 * m + 1); end = λ m. true }
+
 -- the table: a row for each kind, over memories of its own. A kind that has no row never works.
 pub record Reading : Type 1 where
   pub Live : Type 0
@@ -138,17 +164,18 @@ reading {A} R = record { Live = A; row = R }
 abbrev pub row0 : Row ℕ
 row0 = record { start = 0; working = λ i c. dead; failing = λ i c. dead; end = λ c. false }
 
-unfoldable pub readingOf : Rule → (weights : List ℕ) → Reading
-readingOf rule weights =
+unfoldable pub readingOf : Rule → (beside : List ℕ) → Reading
+readingOf rule beside =
     rowOf (rule .kind) (reading row0)
     (reading (row1 (rule .first) (λ i. 1))
-    ∷ reading (row1 (rule .first) (numberOf weights))
+    ∷ reading (row1 (rule .first) (numberOf beside))
     ∷ reading (row3 (rule .first) (rule .second))
     ∷ reading (row4 (rule .first))
     ∷ reading (row5 (rule .first))
     ∷ reading (row6 (rule .second))
     ∷ reading (row7 (rule .second))
+    ∷ reading (row8 (pairsOf (rule .first) (rule .second) beside))
     ∷ [])
 
-abbrev pub machine : (rule : Rule) (weights : List ℕ) → Machine (Memory (readingOf rule weights .Live))
-machine rule weights = machineOf (readingOf rule weights .row)
+abbrev pub machine : (rule : Rule) (beside : List ℕ) → Machine (Memory (readingOf rule beside .Live))
+machine rule beside = machineOf (readingOf rule beside .row)

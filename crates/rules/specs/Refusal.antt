@@ -6,12 +6,17 @@ use lib.Dec.{ltb, leb, eqb}
 use lib.ListN.{length, getD}
 use Rattle.rules.specs.declared.Rule.{Rule}
 use Rattle.rules.specs.Below.{some, total, within, rowOf}
-use Rattle.rules.specs.State.{S}
-use Rattle.rules.specs.Asked.{Asked, lengthOf, sizeOf, partOf, weightsOf}
+use Rattle.rules.specs.State.{S, besideOf}
+use Rattle.rules.specs.Pairs.{pairsOf, inRange8, badMore}
+use Rattle.rules.specs.Asked.{Asked, lengthOf, sizeOf, partOf, weightsOf, readOf}
 
--- 1: kind not 1..7
+-- 1: since request 05, "for kinds not 1..8"
 abbrev pub badKind : Rule → Bool
-badKind rule = not (within 1 (rule .kind) 7)
+badKind rule = not (within 1 (rule .kind) 8)
+
+-- 15: "for a kind 8 count table, right after 1"
+abbrev pub notCounted : Rule → Bool
+notCounted rule = eqb (rule .kind) 8
 
 -- 2: n 0 or above 64
 abbrev pub most : ℕ
@@ -45,8 +50,12 @@ rangeOne k most second = within 1 k most && eqb second 0
 abbrev pub rangeTwo : (first r most : ℕ) → Bool
 rangeTwo first r most = eqb first 2 && within 2 r most
 
-unfoldable pub ranged : Rule → (n total : ℕ) → Bool
-ranged rule n total =
+-- request 05: "6 for a bad pair or number of pairs"
+unfoldable pub rangePairs : (first second n : ℕ) (more : List ℕ) → Bool
+rangePairs first second n more = not (badMore more) && inRange8 n (pairsOf first second more)
+
+unfoldable pub ranged : Rule → (n total : ℕ) (more : List ℕ) → Bool
+ranged rule n total more =
     let first = rule .first in
     let second = rule .second in
     rowOf (rule .kind) false
@@ -57,10 +66,11 @@ ranged rule n total =
     ∷ rangeOne first n second
     ∷ rangeTwo first second most
     ∷ rangeTwo first second n
+    ∷ rangePairs first second n more
     ∷ [])
 
-abbrev pub inRange : Rule → (n : ℕ) (weights : List ℕ) → Bool
-inRange rule n weights = ranged rule n (total weights)
+abbrev pub inRange : Rule → (n : ℕ) (beside : List ℕ) → Bool
+inRange rule n beside = ranged rule n (total beside) beside
 
 -- 7: working table under 7,800 64-bit cells
 abbrev pub cells : ℕ
@@ -88,21 +98,22 @@ after zero next = next
 after (suc r) next = suc r
 
 -- "The verdict checks 1, 2, 5, 6, 9"
-unfoldable pub verdictRefusal : Rule → (n : ℕ) (weights : List ℕ) (w : ℕ) → ℕ
-verdictRefusal rule n weights w =
+unfoldable pub verdictRefusal : Rule → (n : ℕ) (weights more : List ℕ) (w : ℕ) → ℕ
+verdictRefusal rule n weights more w =
     firstOf
     ((1, badKind rule)
     ∷ (2, badSize n)
     ∷ (5, badWeights rule n weights weights)
-    ∷ (6, not (inRange rule n weights))
+    ∷ (6, not (inRange rule n (besideOf rule weights more)))
     ∷ (9, highOne n w)
     ∷ [])
 
--- "the count table 1, 2, 5, 6, 7, 8"
+-- "the count table 1, 2, 5, 6, 7, 8", and 15 right after 1
 unfoldable pub countRefusal : Rule → (n : ℕ) (weights table room : List ℕ) → ℕ
 countRefusal rule n weights table room =
     firstOf
     ((1, badKind rule)
+    ∷ (15, notCounted rule)
     ∷ (2, badSize n)
     ∷ (5, badWeights rule n weights weights)
     ∷ (6, not (inRange rule n weights))
@@ -119,6 +130,6 @@ figuresRefusal q table =
     ∷ (3, badStretch (q .a) (q .b) (lengthOf q))
     ∷ (4, aboveUnit (partOf q))
     ∷ (5, badWeights (q .rule) (lengthOf q) (q .weights) (weightsOf q))
-    ∷ (6, not (inRange (q .rule) (sizeOf q) (weightsOf q)))
+    ∷ (6, not (inRange (q .rule) (sizeOf q) (readOf q)))
     ∷ (7, shortTable table)
     ∷ [])

@@ -24,6 +24,11 @@ failure u p = u - p
 abbrev pub ruleOf : (kind first second : ℕ) → Rule
 ruleOf kind first second = record { kind = kind; first = first; second = second }
 
+-- The list that stands beside the rule and is read with it: kind 2's weights, and since request 05 kind 8's further pairs, two numbers each. No other kind
+-- reads one.
+abbrev pub besideOf : Rule → (weights more : List ℕ) → List ℕ
+besideOf rule weights more = cond (eqb (rule .kind) 8) more weights
+
 -- "bit i - 1 is one where component i has failed": has component i + 1 failed in the state w?
 abbrev pub down : ℕ → ℕ → Bool
 down i w = eqb (w / 2 ^ i % 2) 1

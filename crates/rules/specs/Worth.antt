@@ -17,7 +17,7 @@ use Rattle.rules.specs.Answer.{unless, Given}
 
 -- what is asked with one fan's survival number replaced: "sure to work" by S, "sure to fail" by 0
 abbrev pub sure : (fan p : ℕ) → Asked → Asked
-sure fan p q = askedOf (q .rule) (q .a) (q .b) (set (q .survival) (fan - 1) p) (q .weights)
+sure fan p q = askedOf (q .rule) (q .a) (q .b) (set (q .survival) (fan - 1) p) (q .weights) (q .more)
 
 abbrev pub working : (fan : ℕ) → Asked → Asked
 working fan q = sure fan S q

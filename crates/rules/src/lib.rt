@@ -7,6 +7,15 @@ pub struct Rule {
     pub second: u64,
 }
 
+// Document 02, request 05, a pair of kind 8: of any r in a row at least k must work.
+pub struct Pair {
+    pub k: u64,
+    pub r: u64,
+}
+
+// Kind 8 with the rule's own pair alone; the list that kinds 1 to 7, which read none, are handed.
+pub const NO_MORE: [u64; 0] = [];
+
 // A system of a deck: a rule over the fans from a to b.
 pub struct System {
     pub rule: Rule,

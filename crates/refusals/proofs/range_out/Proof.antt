@@ -21,6 +21,9 @@ two-out-requires c κs = search needs
 two-out-requires-2 : tie.Need-two-out-requires-2
 two-out-requires-2 c κs = search needs
 
+pairs-out-requires : tie.Need-pairs-out-requires
+pairs-out-requires c κs = search needs
+
 one-out-requires-2 : tie.Need-one-out-requires-2
 one-out-requires-2 c κs = search needs
 
@@ -41,15 +44,19 @@ unfolding ranged
 returns-4 c = rw (c .before .match .keys5) (c .two-out2 .ensures)
 
 returns-5 : tie.Need-returns-5
-returns-5 c = ap not (sym (range-none _ _ _ (λ l. omega arith)))
+unfolding ranged
+returns-5 c = rw (c .before .match .keys6) (c .pairs-out .ensures)
 
 returns-6 : tie.Need-returns-6
-returns-6 c = ap not (sym (range-none _ _ _ (λ l. omega arith)))
+returns-6 c = ap not (sym (range-none _ _ _ _ (λ l. omega arith)))
 
 returns-7 : tie.Need-returns-7
-returns-7 c =
+returns-7 c = ap not (sym (range-none _ _ _ _ (λ l. omega arith)))
+
+returns-8 : tie.Need-returns-8
+returns-8 c =
     c .one-out2 .ensures
-    ∙ ap not (sym (range-one _ _ _ (⊎-elim (λ w. inl (w .keys1)) (λ w. inr (omega arith, omega arith)) (c .before .match .came))))
+    ∙ ap not (sym (range-one _ _ _ _ (⊎-elim (λ w. inl (w .keys1)) (λ w. inr (omega arith, omega arith)) (c .before .match .came))))
 
 pub range-out-spec : {M : Type 1} → statement M
 range-out-spec =
@@ -59,6 +66,7 @@ range-out-spec =
     outside-requires
     two-out-requires
     two-out-requires-2
+    pairs-out-requires
     one-out-requires-2
     returns
     returns-2
@@ -66,4 +74,5 @@ range-out-spec =
     returns-4
     returns-5
     returns-6
-    returns-7)
+    returns-7
+    returns-8)

@@ -5,7 +5,7 @@ use borrow.Author.Needs.{needs}
 use borrow.Author.Tests.{not-false}
 use Rattle.rules.specs.Below.{within}
 use Rattle.rules.specs.Refusal.{most}
-use Rattle.rules.proofs.Seven.{within-true}
+use Rattle.rules.proofs.EachKind.{within-true}
 use Rattle.refusals.proofs.Laws.{rated-after}
 use Rattle.refusals.proofs.rule_refusal.Statement.{statement}
 use Rattle.refusals.proofs.rule_refusal.Tie as tie
@@ -25,7 +25,7 @@ returns-2 c =
 
 rated-refusal-requires : tie.Need-rated-refusal-requires
 rated-refusal-requires c κs =
-    let n = c .before .before .before .before .before .args .n in
+    let n = c .before .before .before .before .before .before .args .n in
     (within-true 1 n most (not-false (within 1 n most) (sym (c .before .size-out .ensures) ∙ c .if2 .left)) .1, le-refl _)
 
 returns-3 : tie.Need-returns-3
