@@ -1,16 +1,16 @@
 // The engine: low and high of a list that can be rated, worked in the lent table by the room of its kind.
 //
 // No room has an array of its own beside that table: rings work one lead, or one number of clean ones, at a time.
-ghost use Rattle.rules.specs.State.{S};
+ghost use Rattle.rules.specs.State.{S, besideOf};
 ghost use Rattle.rules.specs.Figure.{figure};
 ghost use Rattle.rules.specs.Accepted.{Ratable};
 ghost use Rattle.places.specs.Cells.{Both, Kept};
 use places::Ends;
 use rules::Rule;
 
-pub fn rate(rule: Rule, survival: &[u32], weights: &[u16], table: &mut [u64]) -> Ends
-    requires { ⌜ Ratable rule (now survival) (now weights) (now table) ⌝ }
-    ensures figure { λ r. ⌜ Both (λ up. figure up S rule (now (survival .entry)) (now (weights .entry))) r ⌝ }
+pub fn rate(rule: Rule, survival: &[u32], weights: &[u16], more: &[u64], table: &mut [u64]) -> Ends
+    requires { ⌜ Ratable rule (now survival) (besideOf rule (now weights) (now more)) (now table) ⌝ }
+    ensures figure { λ r. ⌜ Both (λ up. figure up S rule (now (survival .entry)) (besideOf rule (now (weights .entry)) (now (more .entry)))) r ⌝ }
     ensures kept { λ r. ⌜ Kept (now (table .entry)) (now (table .exit)) ⌝ }
 {
     let kind = rule.kind;
@@ -19,6 +19,7 @@ pub fn rate(rule: Rule, survival: &[u32], weights: &[u16], table: &mut [u64]) ->
         5 => runs::ring(rule.first as usize, survival, table),
         6 => gaps::line(rule.second as usize, survival, table),
         7 => gaps::ring(rule.second as usize, survival, table),
+        8 => windows::rate(rule.first, rule.second, more, survival, table),
         _ => rows::rate(rule, survival, weights, table),
     }
 }

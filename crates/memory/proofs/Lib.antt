@@ -4,3 +4,4 @@ pub mod Sums
 pub mod Runs
 pub mod Owing
 pub mod Opening
+pub mod Patterns

@@ -3,4 +3,5 @@ pub mod Living
 pub mod Sum
 pub mod Run
 pub mod Owed
+pub mod Pattern
 pub mod Open

@@ -1,16 +1,16 @@
 -- Places of a table after a value is written: a row made longer, one elsewhere; and the cells past the first 7,800 kept. Assumes nothing.
-use Prim.Native.Nat.{ℕ, _+_, _≤_, _<_}
+use Prim.Native.Nat.{ℕ, _+_, _-_, _*_, _≤_, _<_}
 use mathlib.Core.Path.{_≡_, refl, _∙_}
 use mathlib.Core.Bool.{Bool, true, false}
 use mathlib.Core.Logic.{_⊎_, inl, inr, ⊎-elim}
 use mathlib.Core.List.{List}
 use native.Mathlib.Omega.{arith}
-use lib.ListN.{length, set, length-set}
+use lib.ListN.{length, getD, set, length-set}
 use lib.Seq.{getD-set-same, getD-set-other, drop-set-lt}
 use borrow.Author.Count.{below-more}
 use Rattle.rules.specs.Refusal.{cells}
 use Rattle.places.specs.declared.Ends.{Ends}
-use Rattle.places.specs.Cells.{far, one, Both, cellAt, Place, Kept, Put, Shelf, Written, Workable}
+use Rattle.places.specs.Cells.{far, half, Side, one, Both, cellAt, Place, Kept, Put, Shelf, Written, Workable}
 
 pub both-at : {f : Bool → ℕ} {r : Ends} → Both f r → (up : Bool) → one up r ≡ f up
 both-at b false = b .low
@@ -22,7 +22,7 @@ both-as same b = record { low = b .low ∙ same false; high = b .high ∙ same t
 pub kept-none : {t : List ℕ} → Kept t t
 kept-none = record { long = refl; rest = refl }
 
-kept-set : {t₀ t : List ℕ} (j v : ℕ) → j < cells → Kept t₀ t → Kept t₀ (set t j v)
+pub kept-set : {t₀ t : List ℕ} (j v : ℕ) → j < cells → Kept t₀ t → Kept t₀ (set t j v)
 kept-set {t = t} j v l k = record { long = length-set t j v ∙ k .long; rest = drop-set-lt cells t j v l ∙ k .rest }
 
 pub kept-trans : {a b c : List ℕ} → Kept a b → Kept b c → Kept a c
@@ -33,6 +33,20 @@ room-kept k room = omega (arith, k .long)
 
 pub workable-kept : {survival t₀ t : List ℕ} → Kept t₀ t → Workable survival t₀ → Workable survival t
 workable-kept k y = record { size = y .size; units = y .units; room = room-kept k (y .room) }
+
+-- the two sides
+pub side-near : {from : ℕ} → Side from → from ≤ half
+side-near (inl e) = omega arith
+side-near (inr e) = omega arith
+
+pub other-side : {from : ℕ} → Side from → Side (half - from)
+other-side (inl e) = inr (omega arith)
+other-side (inr e) = inl (omega arith)
+
+-- a place of one side lies outside a row on the other
+pub apart : {from k n : ℕ} → Side from → k < half → n ≤ half → (from + k < half - from) ⊎ (half - from + n ≤ from + k)
+apart (inl e) l h = inl (omega arith)
+apart (inr e) l h = inr (omega arith)
 
 -- the two stores of a value
 module _ (at : ℕ) (e : Ends) (t : List ℕ) (p : Place at t) where
@@ -50,10 +64,15 @@ module _ (at : ℕ) (e : Ends) (t : List ℕ) (p : Place at t) where
       getD-set-other (set t at (e .low)) (far + at) (far + k) (e .high) 0 (λ q. away (omega arith))
       ∙ getD-set-other t at (far + k) (e .low) 0 (λ q. omega (arith, p .low))
 
+  put-behind : (c : ℕ) → 2 * far ≤ c → getD stored c 0 ≡ getD t c 0
+  put-behind c l =
+      getD-set-other (set t at (e .low)) (far + at) c (e .high) 0 (λ q. omega (arith, p .low)) ∙ getD-set-other t at c (e .low) 0 (λ q. omega (arith, p .low))
+
   pub put-set : Put at e t stored
   put-set = record {
     here = put-here;
     other = put-other;
+    behind = put-behind;
     kept = kept-set (far + at) (e .high) (omega (arith, p .low)) (kept-set at (e .low) (omega (arith, p .low)) kept-none);
   }
 

@@ -1,5 +1,5 @@
 -- The lent table's places: what stands at each, and what a step of both ends is handed.
-use Prim.Native.Nat.{ℕ, _+_, _<_, _≤_}
+use Prim.Native.Nat.{ℕ, _+_, _*_, _<_, _≤_}
 use mathlib.Core.Path.{_≡_}
 use mathlib.Core.Bool.{Bool, true, false, cond}
 use mathlib.Core.Logic.{_⊎_}
@@ -27,6 +27,10 @@ far = 1200
 abbrev pub half : ℕ
 half = 600
 
+-- a row of places stands on one of two sides
+abbrev pub Side : ℕ → Type 0
+Side from = (from ≡ 0) ⊎ (from ≡ half)
+
 -- where an end of a value stands
 abbrev pub cellOf : Bool → ℕ → ℕ
 cellOf up at = cond up (far + at) at
@@ -45,10 +49,11 @@ pub record Kept (t₀ t : List ℕ) : Type 0 where
   pub long : length t ≡ length t₀
   pub rest : drop cells t ≡ drop cells t₀
 
--- a value written at one place, and every other place as it was
+-- a value written at one place, and every other place, and every cell behind the places, as it was
 pub record Put (at : ℕ) (e : Ends) (t₀ t : List ℕ) : Type 0 where
   pub here : (up : Bool) → cellAt t up at ≡ one up e
   pub other : (up : Bool) (k : ℕ) → k < far → (k ≡ at → ⊥) → cellAt t up k ≡ cellAt t₀ up k
+  pub behind : (c : ℕ) → 2 * far ≤ c → getD t c 0 ≡ getD t₀ c 0
   pub kept : Kept t₀ t
 
 -- the n places from off hold f 0, f 1, ..

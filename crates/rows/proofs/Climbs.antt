@@ -3,7 +3,6 @@
 use Prim.Native.Nat.{ℕ, suc, _+_, _-_, _≤_, _<_}
 use mathlib.Core.Path.{_≡_, sym, _∙_}
 use mathlib.Core.Bool.{Bool}
-use mathlib.Core.Logic.{_⊎_, inl, inr}
 use mathlib.Core.List.{List}
 use native.Mathlib.Omega.{arith}
 use Rattle.rules.specs.declared.Rule.{Rule}
@@ -14,20 +13,11 @@ use Rattle.rules.specs.Accepted.{Ratable}
 use Rattle.memory.specs.declared.sum.Sum.{Sum}
 use Rattle.memory.specs.Sum.{sum}
 use Rattle.places.specs.declared.Ends.{Ends}
-use Rattle.places.specs.Cells.{half, one, Both, cellAt, Place, Shelf, Written, Steady}
-use Rattle.places.proofs.Cells.{both-as, room-kept}
+use Rattle.places.specs.Cells.{half, Side, one, Both, cellAt, Place, Shelf, Written, Steady}
+use Rattle.places.proofs.Cells.{both-as, room-kept, side-near, apart}
 use Rattle.places.proofs.Values.{Chance, valued-le, step-steady, step-mixed, valued-suc}
 use Rattle.rows.specs.Kinds.{carryOf, summed}
-use Rattle.rows.specs.Level.{Side, sumsValue}
-
-pub side-near : {from : ℕ} → Side from → from ≤ half
-side-near (inl e) = omega arith
-side-near (inr e) = omega arith
-
--- a place of one side lies outside a row on the other
-apart : {from k n : ℕ} → Side from → k < half → n ≤ half → (from + k < half - from) ⊎ (half - from + n ≤ from + k)
-apart (inl e) l h = inl (omega arith)
-apart (inr e) l h = inr (omega arith)
+use Rattle.rows.specs.Level.{sumsValue}
 
 -- what the component after `left` others takes a row up with: its numbers, how far it carries a sum, and how many sums are made
 pub record Climb (rule : Rule) (survival weights : List ℕ) (left from : ℕ) (t : List ℕ) (p q carry width : ℕ) : Type 0 where

@@ -16,7 +16,7 @@ use Rattle.rules.specs.Figure.{figure}
 use Rattle.rules.specs.Refusal.{heaviest}
 use Rattle.rules.specs.Accepted.{Accepted, Ratable}
 use Rattle.rules.proofs.Accepted.{range1, range2}
-use Rattle.rules.proofs.Seven.{seven}
+use Rattle.rules.proofs.EachKind.{each-kind}
 use Rattle.rules.proofs.Sums.{sum-add}
 use Rattle.rules.proofs.Tests.{by-test, by-both}
 use Rattle.memory.proofs.Sums.{sum-row1, sum-row3, sum-dead}
@@ -77,10 +77,10 @@ module _ (survival weights : List ℕ) (first second : ℕ) where
   late : {kind : ℕ} → 3 < kind → ByKind kind
   late l early ok = absurd (omega arith)
 
-  by-kind : (kind : ℕ) → 1 ≤ kind → kind ≤ 7 → ByKind kind
+  by-kind : (kind : ℕ) → 1 ≤ kind → kind ≤ 8 → ByKind kind
   unfolding carryOf endOf readingOf
   by-kind =
-      seven ByKind
+      each-kind ByKind
       (λ early ok. let r = range1 ok refl in record {
         some = r .low;
         most = omega (arith, r .high, ok .size-high);
@@ -99,6 +99,7 @@ module _ (survival weights : List ℕ) (first second : ℕ) where
         gone = λ up i k l h. absurd (omega (arith, ok .size-high, sum-bound 1 n (λ i. 1) (λ i. omega arith)));
         whole = λ up. sum-row3 first second n .values up S (numberOf survival);
       })
+      (late (omega arith))
       (late (omega arith))
       (late (omega arith))
       (late (omega arith))

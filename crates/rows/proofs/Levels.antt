@@ -17,18 +17,14 @@ use Rattle.rules.specs.Accepted.{Ratable}
 use Rattle.rules.proofs.Rounding.{unchanged}
 use Rattle.memory.specs.Sum.{sum}
 use Rattle.places.specs.declared.Ends.{Ends}
-use Rattle.places.specs.Cells.{half, Both, cellAt, Kept, Shelf, Written}
-use Rattle.places.proofs.Cells.{both-as, room-kept, row-same, row-as}
+use Rattle.places.specs.Cells.{half, Side, Both, cellAt, Kept, Shelf, Written}
+use Rattle.places.proofs.Cells.{both-as, room-kept, side-near, other-side, row-same, row-as}
 use Rattle.places.proofs.Values.{Chance, valued-suc}
 use Rattle.rows.specs.declared.Level.{Level}
 use Rattle.rows.specs.Kinds.{carryOf, loadOf, limitOf, gapOf, summed}
-use Rattle.rows.specs.Level.{sumsValue, endsValue, Side, Levelled}
+use Rattle.rows.specs.Level.{sumsValue, endsValue, Levelled}
 use Rattle.rows.proofs.Early.{carry-le, load-more, load-upto, Early, early-is}
-use Rattle.rows.proofs.Climbs.{side-near, Climb}
-
-other-side : {from : ℕ} → Side from → Side (half - from)
-other-side (inl e) = inr (omega arith)
-other-side (inr e) = inl (omega arith)
+use Rattle.rows.proofs.Climbs.{Climb}
 
 -- a place behind the limit, on either side, lies outside a row below the limit
 beside : {a b limit n : ℕ} (k : ℕ) → Side a → Side b → n ≤ limit → limit + k < half → (a + limit + k < b) ⊎ (b + n ≤ a + limit + k)

@@ -2,7 +2,6 @@
 use Prim.Native.Nat.{ℕ, _+_, _≤_, min}
 use mathlib.Core.Path.{_≡_}
 use mathlib.Core.Bool.{Bool, cond}
-use mathlib.Core.Logic.{_⊎_}
 use mathlib.Core.List.{List}
 use lib.ListN.{length}
 use Rattle.rules.specs.declared.Rule.{Rule}
@@ -10,7 +9,7 @@ use Rattle.rules.specs.State.{S}
 use Rattle.rules.specs.Accepted.{Ratable}
 use Rattle.rules.specs.Refusal.{cells}
 use Rattle.memory.specs.Sum.{sum}
-use Rattle.places.specs.Cells.{far, half, Kept, Shelf, valueOf}
+use Rattle.places.specs.Cells.{far, Side, Kept, Shelf, valueOf}
 use Rattle.rows.specs.declared.Level.{Level}
 use Rattle.rows.specs.Kinds.{limitOf, gapOf, loadOf, endOf, summed}
 
@@ -26,10 +25,6 @@ endsValue rule up k = cond (endOf rule (sum k)) S 0
 pub record Span (off count : ℕ) (t : List ℕ) : Type 0 where
   pub low : off + count ≤ far
   pub room : cells ≤ length t
-
--- a row stands on one of two sides
-abbrev pub Side : ℕ → Type 0
-Side from = (from ≡ 0) ⊎ (from ≡ half)
 
 -- the values with `left` components left stand at `from`, as far as sums can come; behind the limit both sides hold 0
 pub record Levelled (rule : Rule) (survival weights : List ℕ) (s : Level) (t : List ℕ) : Type 0 where

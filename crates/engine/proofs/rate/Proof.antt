@@ -1,34 +1,50 @@
 -- `rate` takes the kinds apart; the figure of each room is the rule's. Assumes nothing.
 use borrow.Author.Needs.{needs}
 use mathlib.Core.Path.{refl}
+use Prim.Native.Nat.{_≤_}
+use native.Mathlib.Omega.{arith}
 use Rattle.rules.specs.Memory.{readingOf}
-use Rattle.rules.proofs.Accepted.{range4, range5, range6, range7}
-use Rattle.engine.proofs.Rooms.{in-runs, in-gaps, room-is}
+use Rattle.rules.proofs.Accepted.{beside-more, range4, range5, range6, range7}
+use Rattle.engine.proofs.Rooms.{beside-early, in-rows, in-runs, in-gaps, in-windows, room-is, reads-is}
 use Rattle.engine.proofs.rate.Statement.{statement}
 use Rattle.engine.proofs.rate.Tie as tie
 
 line-requires : tie.Need-line-requires
 line-requires c κs =
-    let pre = c .before .before .before .before .before .pre in
+    let pre = c .before .before .before .before .before .before .pre in
     in-runs pre (range4 (pre .accepted) (c .before .match .keys1))
 
 ring-requires : tie.Need-ring-requires
 ring-requires c κs =
-    let pre = c .before .before .before .before .before .pre in
+    let pre = c .before .before .before .before .before .before .pre in
     in-runs pre (range5 (pre .accepted) (c .before .match .keys2))
 
 line-requires-2 : tie.Need-line-requires-2
 line-requires-2 c κs =
-    let pre = c .before .before .before .before .before .pre in
+    let pre = c .before .before .before .before .before .before .pre in
     in-gaps pre (range6 (pre .accepted) (c .before .match .keys3))
 
 ring-requires-2 : tie.Need-ring-requires-2
 ring-requires-2 c κs =
-    let pre = c .before .before .before .before .before .pre in
+    let pre = c .before .before .before .before .before .before .pre in
     in-gaps pre (range7 (pre .accepted) (c .before .match .keys4))
 
 rate-requires : tie.Need-rate-requires
-rate-requires c κs = search needs
+rate-requires c κs =
+    let start = c .before .before .before .before .before .before in
+    let x = start .args in
+    let eight = c .before .match .keys5 in
+    in-windows (start .pre) (beside-more (x .rule) (x .weights .now) (x .more .now) eight) eight
+
+-- a kind from 1 to 8 that is none of 4 to 8
+early : (c : tie.At-match-rest) → c .before .before .before .before .before .args .rule .kind ≤ 3
+early c = omega (arith, c .before .before .before .before .before .pre .accepted .kind-high)
+
+rate-requires-2 : tie.Need-rate-requires-2
+rate-requires-2 c κs =
+    let start = c .before .before .before .before .before .before in
+    let x = start .args in
+    (in-rows (start .pre) (beside-early (x .rule) (x .weights .now) (x .more .now) (early (c .before))), early (c .before))
 
 same-length : tie.Need-same-length
 same-length c = search needs
@@ -68,7 +84,21 @@ same-length-5 : tie.Need-same-length-5
 same-length-5 c = search needs
 
 returns-5 : tie.Need-returns-5
-returns-5 c = search needs
+unfolding readingOf
+returns-5 c =
+    let x = c .before .before .before .before .before .before .before .before .before .args in
+    let eight = c .before .before .before .before .match .keys5 in
+    let rate = c .before .before .rate in
+    (reads-is (x .rule) _ (beside-more (x .rule) (x .weights .now) (x .more .now) eight) (room-is (x .rule) _ _ 8 eight (λ up. refl) (rate .ensures .0)), rate .ensures .1)
+
+same-length-6 : tie.Need-same-length-6
+same-length-6 c = search needs
+
+returns-6 : tie.Need-returns-6
+returns-6 c =
+    let x = c .before .before .before .before .before .before .before .before .before .args in
+    let rate2 = c .before .before .rate2 in
+    (reads-is (x .rule) _ (beside-early (x .rule) (x .weights .now) (x .more .now) (early (c .before .before .before .before))) (rate2 .ensures .0), rate2 .ensures .1)
 
 pub rate-spec : {M : Type 1} → statement M
 rate-spec =
@@ -79,6 +109,7 @@ rate-spec =
     line-requires-2
     ring-requires-2
     rate-requires
+    rate-requires-2
     same-length
     returns
     same-length-2
@@ -88,4 +119,6 @@ rate-spec =
     same-length-4
     returns-4
     same-length-5
-    returns-5)
+    returns-5
+    same-length-6
+    returns-6)

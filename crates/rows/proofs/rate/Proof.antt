@@ -4,10 +4,9 @@ use Prim.Native.Nat.{_-_}
 use native.Mathlib.Omega.{arith}
 use lib.ListN.{length}
 use Rattle.places.specs.Cells.{Kept}
-use Rattle.places.proofs.Cells.{kept-none, kept-trans, room-kept}
+use Rattle.places.proofs.Cells.{kept-none, kept-trans, room-kept, side-near}
 use Rattle.rows.specs.Level.{Levelled}
 use Rattle.rows.proofs.Early.{load-le, early-is}
-use Rattle.rows.proofs.Climbs.{side-near}
 use Rattle.rows.proofs.Levels.{level-none, level-read}
 use Rattle.rows.proofs.rate.Statement.{statement}
 use Rattle.rows.proofs.rate.Tie as tie

@@ -7,9 +7,9 @@ use native.Mathlib.Omega.{arith}
 use native.Mathlib.Numerals.{add-one}
 use Rattle.rules.specs.declared.Rule.{Rule}
 use Rattle.places.specs.Cells.{half, Written}
-use Rattle.places.proofs.Cells.{kept-none, written-none, written-more}
+use Rattle.places.proofs.Cells.{kept-none, side-near, written-none, written-more}
 use Rattle.rows.specs.Level.{sumsValue}
-use Rattle.rows.proofs.Climbs.{side-near, Climb, read-place, write-place, climb-steady, climb-made}
+use Rattle.rows.proofs.Climbs.{Climb, read-place, write-place, climb-steady, climb-made}
 use Rattle.rows.proofs.Levels.{spare, level-climb, level-up, level-same}
 use Rattle.rows.proofs.row.turn.Statement.{statement}
 use Rattle.rows.proofs.row.turn.Tie as tie

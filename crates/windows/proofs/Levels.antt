@@ -1,0 +1,389 @@
+-- A component more: what follows a pattern that lives stands on the side that is read, so the rounded step of what stands there is the definition's
+-- own; each pattern that lives is in one of the lists, and what is worked for one list is not touched for another. Assumes nothing.
+use mathlib.Core.Path.{_≡_, refl, sym, ap, subst, _∙_}
+use mathlib.Core.Bool.{Bool, true, false, cond, true≢false, false≢true}
+use mathlib.Core.Logic.{_⊎_, inl, inr, ⊎-elim}
+use mathlib.Core.List.{List}
+use Prim.Native.Nat.{ℕ, suc, _+_, _-_, _*_, _%_, _^_, _≤_, _<_}
+use native.Mathlib.Omega.{arith}
+use native.Mathlib.Nat.{mod-lt, mod-eq-of-lt, add-mod-left, mod-le, add-zero}
+use native.Mathlib.Decide.{decLt}
+use lib.Dec.{eqb}
+use lib.ListN.{length}
+use lib.Pow.{pow-pos}
+use borrow.Author.Tests.{eqb-true}
+use Rattle.rules.specs.declared.Pair.{Pair}
+use Rattle.rules.specs.Below.{held}
+use Rattle.rules.specs.State.{S, numberOf}
+use Rattle.rules.specs.Memory.{Memory, live, dead, moved, Machine, machineOf, lackingIn, longest}
+use Rattle.rules.proofs.Dead.{row-value}
+use Rattle.rules.proofs.Tests.{both}
+use Rattle.rules.proofs.Windows.{held-le}
+use Rattle.memory.specs.Pattern.{oldestOf, dies, lives, patterned}
+use Rattle.memory.proofs.Patterns.{lives-here, lives-worked, lives-failed, lives-low, dies-older}
+use Rattle.places.specs.Cells.{far, half, Side, cellAt, Workable, valueOf}
+use Rattle.places.proofs.Cells.{workable-kept, side-near, other-side, apart}
+use Rattle.places.proofs.Values.{Chance, valued-le, valued-suc}
+use Rattle.windows.specs.declared.Level.{Level}
+use Rattle.windows.specs.Groups.{freeAt, splitAt, boundAt, aloneAt, listAt, Group, free, split, bound, alone, listOf, groupOf, grouped, countAt, entryAt, Listed, Lists, Listables, TrimmedAll}
+use Rattle.windows.specs.Row.{stepOf, Ready, Handed, Worked, patternValue, reachOf, Held, Levelled}
+use Rattle.windows.proofs.Lists.{held-order, listed-still}
+use Rattle.windows.proofs.Sorting.{begins}
+
+-- what a list says of its patterns
+record Flagged (d o a must older alone : Bool) : Type 0 where
+  young : d ≡ must
+  old : o ≡ older
+  gone : alone ≡ true → a ≡ true
+
+by-list : (d o a : Bool) (must older alone : Bool) (at : ℕ) → Group must older alone at → listAt d o a ≡ at → (d ≡ true → o ≡ true) → Flagged d o a must older alone
+by-list true o true must older lone at free e h = absurd (omega arith)
+by-list true o true must older lone at split e h = absurd (omega arith)
+by-list true o true must older lone at bound e h = absurd (omega arith)
+by-list true o true must older lone at alone e h = record { young = refl; old = h refl; gone = λ e. refl }
+by-list true o false must older lone at free e h = absurd (omega arith)
+by-list true o false must older lone at split e h = absurd (omega arith)
+by-list true o false must older lone at bound e h = record { young = refl; old = h refl; gone = λ e. absurd (false≢true e) }
+by-list true o false must older lone at alone e h = absurd (omega arith)
+by-list false true a must older lone at free e h = absurd (omega arith)
+by-list false true a must older lone at split e h = record { young = refl; old = refl; gone = λ e. absurd (false≢true e) }
+by-list false true a must older lone at bound e h = absurd (omega arith)
+by-list false true a must older lone at alone e h = absurd (omega arith)
+by-list false false a must older lone at free e h = record { young = refl; old = refl; gone = λ e. absurd (false≢true e) }
+by-list false false a must older lone at split e h = absurd (omega arith)
+by-list false false a must older lone at bound e h = absurd (omega arith)
+by-list false false a must older lone at alone e h = absurd (omega arith)
+
+grouped-lives : (ps : List Pair) (at x : ℕ) → grouped ps at x ≡ true → (lives ps x ≡ true) × (groupOf ps x ≡ at)
+unfolding grouped
+grouped-lives ps at x e = let b = both (lives ps x) (eqb (groupOf ps x) at) e in (b .0, eqb-true _ _ (b .1))
+
+-- a pattern and its older one
+young-is : (oldest x : ℕ) → x < oldest → x % oldest ≡ x
+young-is oldest x l = mod-eq-of-lt l
+
+older-is : (oldest x : ℕ) → x < oldest → (oldest + x) % oldest ≡ x
+older-is oldest x l = add-mod-left oldest x ∙ mod-eq-of-lt l
+
+-- one of the two
+either : (oldest m : ℕ) → 0 < oldest → m < 2 * oldest → (m ≡ m % oldest) ⊎ (m ≡ oldest + m % oldest)
+either oldest m pos l = go (decLt m oldest)
+  where
+    go : Dec (m < oldest) → (m ≡ m % oldest) ⊎ (m ≡ oldest + m % oldest)
+    go (yes h) = inl (sym (young-is oldest m h))
+    go (no h) =
+        let e : m ≡ oldest + (m - oldest) = omega arith in
+        let r : m % oldest ≡ m - oldest = ap (λ y. y % oldest) e ∙ older-is oldest (m - oldest) (omega arith) in
+        inr (omega arith)
+
+-- what follows a pattern below one reach is below the reach before
+near : (oldest n i x c : ℕ) → 0 < oldest → i < n → c < 2 → x < reachOf oldest n (suc i) → (2 * x + c) % oldest < reachOf oldest n i
+near oldest n i x c pos more small l =
+    let e : n - i ≡ suc (n - suc i) = omega arith in
+    let p : 2 ^ (n - i) ≡ 2 ^ suc (n - suc i) = ap (λ y. 2 ^ y) e in
+    omega (arith, mod-lt (2 * x + c) pos, mod-le (2 * x + c) oldest, p)
+
+module _ (ps : List Pair) (oldest : ℕ) (bit : oldest ≡ oldestOf ps) where
+  some : 0 < oldest
+  some = rw bit (pow-pos (longest ps - 2))
+
+  older-dies : (x : ℕ) → x < oldest → dies ps x ≡ true → dies ps (oldest + x) ≡ true
+  older-dies x l = rw bit (dies-older ps (longest ps - 2) x (rw bit at l))
+
+  flags : (must older alone : Bool) (at : ℕ) → Group must older alone at → (x : ℕ) → x < oldest → grouped ps at x ≡ true
+      → Flagged (dies ps x) (dies ps (oldest + x)) (lackingIn ps (oldest + x)) must older alone
+  unfolding groupOf
+  flags must older lone at g x l e =
+      let q : listOf ps (dies ps x) (oldestOf ps + x) ≡ at = grouped-lives ps at x e .1 in
+      by-list (dies ps x) (dies ps (oldest + x)) (lackingIn ps (oldest + x)) must older lone at g (rw (← bit) at q) (older-dies x l)
+
+  module _ (none : lackingIn ps 0 ≡ false) (most : oldest ≤ 256) where
+    lives-cut : (m : ℕ) → m < 1024 → lives ps m ≡ true → lives ps (m % oldest) ≡ true
+    lives-cut m l e = rw bit (lives-low ps none (longest ps - 2) m l e)
+
+    worked-lives : (x : ℕ) → x < oldest → lives ps x ≡ true → lives ps (2 * x) ≡ true
+    worked-lives x l e = lives-worked ps none x (omega arith) ∙ e
+
+    failed-lives : (x : ℕ) → x < oldest → lives ps x ≡ true → dies ps x ≡ false → lives ps (2 * x + 1) ≡ true
+    failed-lives x l e d = lives-failed ps none x (omega arith) ∙ rw (e, d)
+
+-- what the component after i others is worked with, between one list and the next
+pub record Midway (ps : List Pair) (oldest : ℕ) (survival : List ℕ) (i from p q : ℕ) (t : List ℕ) : Type 0 where
+  pub bit : oldest ≡ oldestOf ps
+  pub none : lackingIn ps 0 ≡ false
+  pub most : oldest ≤ 256
+  pub list : Workable survival t
+  pub more : i < length survival
+  pub side : Side from
+  pub chance : Chance survival i p q
+  pub lists : Lists ps (reachOf oldest (length survival) (suc i)) t
+  pub row : Held ps oldest survival i (reachOf oldest (length survival) i) from t
+
+-- the patterns of a list, with one component more, on the other side
+pub record Made (ps : List Pair) (oldest : ℕ) (survival : List ℕ) (i from at : ℕ) (t : List ℕ) : Type 0 where
+  pub is : (up : Bool) (m : ℕ) → m < 2 * oldest → grouped ps at (m % oldest) ≡ true → lives ps m ≡ true → m % oldest < reachOf oldest (length survival) (suc i)
+      → cellAt t up (half - from + m) ≡ patternValue ps survival (suc i) up m
+
+module _ {ps : List Pair} {oldest : ℕ} {survival : List ℕ} {i from p q : ℕ} {t : List ℕ} (y : Midway ps oldest survival i from p q t) where
+  abbrev n : ℕ
+  n = length survival
+
+  abbrev K : Machine (Memory ℕ)
+  K = machineOf (patterned ps)
+
+  pos : 0 < oldest
+  pos = some ps oldest (y .bit)
+
+  -- what follows stands there
+  module _ (x : ℕ) (l : x < reachOf oldest n (suc i)) (e : lives ps x ≡ true) where
+    low : x < oldest
+    low = omega arith
+
+    works-is : (up : Bool) → cellAt t up (from + 2 * x) ≡ patternValue ps survival i up (2 * x)
+    works-is up =
+        let h = near oldest n i x 0 pos (y .more) (omega arith) l in
+        y .row .is up (2 * x) (omega (arith, low)) (worked-lives ps oldest (y .bit) (y .none) (y .most) x low e) (simp add-zero at h)
+
+    fails-is : dies ps x ≡ false → (up : Bool) → cellAt t up (from + (2 * x + 1)) ≡ patternValue ps survival i up (2 * x + 1)
+    fails-is d up =
+        y .row .is up (2 * x + 1) (omega (arith, low)) (failed-lives ps oldest (y .bit) (y .none) (y .most) x low e d)
+        (near oldest n i x 1 pos (y .more) (omega arith) l)
+
+    -- the step of x or of its older one
+    step-is : (m : ℕ) → m % oldest ≡ x → (dies ps m ≡ false → dies ps x ≡ false) → (up : Bool) → stepOf (dies ps m) p from t up x ≡ patternValue ps survival (suc i) up m
+    unfolding stepOf moved
+    step-is m r ok up =
+        rw (y .chance .read, works-is up, after (dies ps m) refl)
+        (sym (simp (r) at (rw (← y .bit) at (valued-suc K survival i (live m) up))))
+      where
+        after : (b : Bool) → dies ps m ≡ b → cond b 0 (cellAt t up (from + (2 * x + 1))) ≡ valueOf K survival (cond b dead (live (2 * x + 1))) up i
+        after true d = sym (row-value (patterned ps) up S (numberOf survival) (omega arith) i)
+        after false d = fails-is (ok d) up
+
+  -- where the older one may fail, so may the other
+  spare : (x : ℕ) → x < oldest → dies ps (oldest + x) ≡ false → dies ps x ≡ false
+  spare x l e = go (dies ps x) refl
+    where
+      go : (b : Bool) → dies ps x ≡ b → b ≡ false
+      go true d = absurd (true≢false (sym (older-dies ps oldest (y .bit) x l d) ∙ e))
+      go false d = refl
+
+  -- what a list hands over
+  module _ (must older lone : Bool) (at : ℕ) (g : Group must older lone at) where
+    abbrev li : Listed (grouped ps at) (reachOf oldest n (suc i)) at t
+    li = y .lists .list must older lone at g
+
+    count-few : countAt t at ≤ 256
+    count-few = omega (arith, li .size, held-le (grouped ps at) (reachOf oldest n (suc i)), y .most)
+
+    order : must ≡ true → older ≡ true
+    order = go must older lone at g
+      where
+        go : (m o l : Bool) (a : ℕ) → Group m o l a → m ≡ true → o ≡ true
+        go m o l a free e = e
+        go m o l a split e = refl
+        go m o l a bound e = refl
+        go m o l a alone e = refl
+
+    ready : (x : ℕ) → grouped ps at x ≡ true → x < reachOf oldest n (suc i) → Ready must older p q oldest from x t
+    ready x m l =
+        let e = grouped-lives ps at x m .0 in
+        let f = flags ps oldest (y .bit) must older lone at g x (low x l e) m in
+        record {
+          survival = rw (y .chance .read) (y .list .units i);
+          rest = y .chance .rest;
+          side = y .side;
+          most = y .most;
+          young = low x l e;
+          order = order;
+          room = y .list .room;
+          works = λ up. rw (works-is x l e up) (valued-le K survival (y .list .units) i (live (2 * x)) up);
+          fails = λ d up. rw (fails-is x l e (f .young ∙ d) up) (valued-le K survival (y .list .units) i (live (2 * x + 1)) up);
+        }
+
+    pub handed : Handed must older at p q oldest from t
+    handed =
+        let b = begins must older lone at g in
+        record {
+          behind = omega (arith, b .is);
+          low = omega (arith, b .is, b .few, count-few);
+          room = y .list .room;
+          each = λ j l. let v = li .entry j l in ready (entryAt t at j) (v .member) (v .low);
+        }
+
+    module _ {t' : List ℕ} (w : Worked must older lone at p oldest from t t') where
+      entry-low : (j : ℕ) → j < countAt t at → entryAt t at j < oldest
+      entry-low j l = omega (arith, li .entry j l .low)
+
+      -- the side that is read, and the lists, are as they were
+      pub midway-still : Midway ps oldest survival i from p q t'
+      midway-still = record {
+        bit = y .bit;
+        none = y .none;
+        most = y .most;
+        list = workable-kept (w .kept) (y .list);
+        more = y .more;
+        side = y .side;
+        chance = y .chance;
+        lists = record { list = λ m o k a h. let b = begins m o k a h in listed-still _ (y .lists .list m o k a h) (λ c u v. w .behind c (omega (arith, b .is))) };
+        row = record { is = λ up m l e r. still up m l ∙ y .row .is up m l e r };
+      }
+        where
+          still : (up : Bool) (m : ℕ) → m < 2 * oldest → cellAt t' up (from + m) ≡ cellAt t up (from + m)
+          still up m l =
+              let side = side-near (y .side) in
+              let few = y .most in
+              w .other up (from + m) (omega arith) (λ j s. let z = entry-low j s in
+              let out = apart {from = from} {k = m} {n = half} (y .side) (omega arith) (omega arith) in (
+                λ e. ⊎-elim (λ g. omega arith) (λ g. omega arith) out,
+                λ e. ⊎-elim (λ g. omega arith) (λ g. omega arith) out,
+              ))
+
+      -- the patterns of the list have their values
+      pub made : Made ps oldest survival i from at t'
+      made = record { is = λ up m l e v r. one up m e v r (either oldest m pos l) }
+        where
+          -- by the list it is in
+          young : (x : ℕ) → grouped ps at x ≡ true → x < reachOf oldest n (suc i) → (up : Bool) → cellAt t' up (half - from + x) ≡ patternValue ps survival (suc i) up x
+          young x e r up =
+              let alive = grouped-lives ps at x e .0 in
+              let lo = low x r alive in
+              let f = flags ps oldest (y .bit) must older lone at g x lo e in
+              let j : held (grouped ps at) x < countAt t at = omega (arith, li .size, held-order (grouped ps at) x _ e r) in
+              let a = rw (li .is x r e) at (w .young up (held (grouped ps at) x) j) in
+              a ∙ (rw (f .young) at (step-is x r alive x (young-is oldest x lo) (λ d. d) up))
+
+          old : (x : ℕ) → grouped ps at x ≡ true → x < reachOf oldest n (suc i) → lives ps (oldest + x) ≡ true → (up : Bool)
+              → cellAt t' up (half - from + (oldest + x)) ≡ patternValue ps survival (suc i) up (oldest + x)
+          old x e r v up =
+              let alive = grouped-lives ps at x e .0 in
+              let lo = low x r alive in
+              let f = flags ps oldest (y .bit) must older lone at g x lo e in
+              let j : held (grouped ps at) x < countAt t at = omega (arith, li .size, held-order (grouped ps at) x _ e r) in
+              let here = lives-here ps (y .none) (oldest + x) (omega (arith, y .most)) v in
+              let b = rw (li .is x r e) at (w .old (here-not f here) up (held (grouped ps at) x) j) in
+              b ∙ (rw (f .old) at (step-is x r alive (oldest + x) (older-is oldest x lo) (spare x lo) up))
+            where
+              here-not : {d o a m k : Bool} → Flagged d o a m k lone → a ≡ false → lone ≡ false
+              here-not f h = go lone refl
+                where
+                  go : (b : Bool) → lone ≡ b → b ≡ false
+                  go true q = absurd (true≢false (sym (f .gone q) ∙ h))
+                  go false q = refl
+
+          one : (up : Bool) (m : ℕ) → grouped ps at (m % oldest) ≡ true → lives ps m ≡ true → m % oldest < reachOf oldest n (suc i)
+              → (m ≡ m % oldest) ⊎ (m ≡ oldest + m % oldest) → cellAt t' up (half - from + m) ≡ patternValue ps survival (suc i) up m
+          one up m e v r (inl s) = subst (λ z. cellAt t' up (half - from + z) ≡ patternValue ps survival (suc i) up z) (sym s) (young (m % oldest) e r up)
+          one up m e v r (inr s) =
+              subst (λ z. cellAt t' up (half - from + z) ≡ patternValue ps survival (suc i) up z) (sym s) (old (m % oldest) e r (ap (lives ps) (sym s) ∙ v) up)
+
+      -- and those of another list keep theirs
+      pub made-still : {at' : ℕ} → (at' ≡ at → ⊥) → Made ps oldest survival i from at' t → Made ps oldest survival i from at' t'
+      made-still {at'} n' h = record { is = λ up m l e v r. w .other up (half - from + m) (omega (arith, y .most)) (λ j s. (λ q. young j s m e q, λ q. old j s m e q)) ∙ h .is up m l e v r }
+        where
+          clash : (x : ℕ) → grouped ps at' x ≡ true → grouped ps at x ≡ true → ⊥
+          clash x e f = n' (sym (grouped-lives ps at' x e .1) ∙ grouped-lives ps at x f .1)
+
+          young : (j : ℕ) → j < countAt t at → (m : ℕ) → grouped ps at' (m % oldest) ≡ true → half - from + m ≡ half - from + entryAt t at j → ⊥
+          young j s m e q =
+              let x : m ≡ entryAt t at j = omega arith in
+              let r : m % oldest ≡ entryAt t at j = ap (λ z. z % oldest) x ∙ young-is oldest _ (entry-low j s) in
+              clash (entryAt t at j) (rw r at e) (li .entry j s .member)
+
+          old : (j : ℕ) → j < countAt t at → (m : ℕ) → grouped ps at' (m % oldest) ≡ true → half - from + m ≡ half - from + (oldest + entryAt t at j) → ⊥
+          old j s m e q =
+              let x : m ≡ oldest + entryAt t at j = omega arith in
+              let r : m % oldest ≡ entryAt t at j = ap (λ z. z % oldest) x ∙ older-is oldest _ (entry-low j s) in
+              clash (entryAt t at j) (rw r at e) (li .entry j s .member)
+
+  -- with all lists worked, all that live have their values
+  pub raised : {t' : List ℕ} → Midway ps oldest survival i from p q t' → ((must older alone : Bool) (at : ℕ) → Group must older alone at → Made ps oldest survival i from at t')
+      → Levelled ps oldest survival (record { left = suc i; from = half - from }) t'
+  unfolding groupOf grouped
+  raised {t'} z all = record {
+    bit = y .bit;
+    none = y .none;
+    most = y .most;
+    list = z .list;
+    side = other-side (y .side);
+    lists = z .lists;
+    row = record {
+      is = λ up m l v r.
+          let e = lives-cut ps oldest (y .bit) (y .none) (y .most) m (omega (arith, y .most)) v in
+          go up m l e v r (dies ps (m % oldest)) refl (dies ps (oldestOf ps + m % oldest)) refl (lackingIn ps (oldestOf ps + m % oldest)) refl;
+    };
+  }
+    where
+      go : (up : Bool) (m : ℕ) → m < 2 * oldest → lives ps (m % oldest) ≡ true → lives ps m ≡ true → m % oldest < reachOf oldest n (suc i)
+          → (d : Bool) → dies ps (m % oldest) ≡ d → (o : Bool) → dies ps (oldestOf ps + m % oldest) ≡ o → (a : Bool) → lackingIn ps (oldestOf ps + m % oldest) ≡ a
+          → cellAt t' up (half - from + m) ≡ patternValue ps survival (suc i) up m
+      go up m l e v r true d o h true k = all _ _ _ _ alone .is up m l (rw (e, d, k) refl) v r
+      go up m l e v r true d o h false k = all _ _ _ _ bound .is up m l (rw (e, d, k) refl) v r
+      go up m l e v r false d true h a k = all _ _ _ _ split .is up m l (rw (e, d, h) refl) v r
+      go up m l e v r false d false h a k = all _ _ _ _ free .is up m l (rw (e, d, h) refl) v r
+
+-- the lists cut to what can still be reached
+module _ {ps : List Pair} {oldest : ℕ} {survival : List ℕ} {s : Level} {t : List ℕ} (y : Levelled ps oldest survival s t) (more : s .left < length survival) where
+  pub listables : Listables oldest t
+  listables = record {
+    most = y .most;
+    list = λ must older lone at g. let li = y .lists .list must older lone at g in omega (arith, li .size, held-le (grouped ps at) (reachOf oldest (length survival) (s .left)), y .most);
+    room = y .list .room;
+  }
+
+  pub midway : {reach p q : ℕ} {t' : List ℕ} → reach ≡ 2 ^ (length survival - suc (s .left)) → TrimmedAll reach oldest t t' → Chance survival (s .left) p q
+      → Midway ps oldest survival (s .left) (s .from) p q t'
+  midway {reach} {p} {q} {t'} e r chance =
+      let n = length survival in
+      let k : n - s .left ≡ suc (n - suc (s .left)) = omega arith in
+      let w : 2 ^ (n - s .left) ≡ 2 ^ suc (n - suc (s .left)) = ap (λ z. 2 ^ z) k in
+      record {
+        bit = y .bit;
+        none = y .none;
+        most = y .most;
+        list = workable-kept (r .kept) (y .list);
+        more = more;
+        side = y .side;
+        chance = chance;
+        lists = rw e at (r .lists ps (reachOf oldest n (s .left)) (y .lists) (omega (arith, e, w)) (omega arith));
+        row = record { is = λ up m l v h. cell up m l ∙ y .row .is up m l v h };
+      }
+    where
+      cell : (up : Bool) (m : ℕ) → m < 2 * oldest → cellAt t' up (s .from + m) ≡ cellAt t up (s .from + m)
+      cell false m l = r .places (s .from + m) (omega (arith, side-near (y .side), y .most))
+      cell true m l = r .places (far + (s .from + m)) (omega (arith, side-near (y .side), y .most))
+
+-- the lists worked one after the other
+module _ {ps : List Pair} {oldest : ℕ} {survival : List ℕ} {i from p q : ℕ} {t : List ℕ} (y : Midway ps oldest survival i from p q t) {t₁ : List ℕ}
+    (f : Worked false false false freeAt p oldest from t t₁) where
+  abbrev y₁ : Midway ps oldest survival i from p q t₁
+  y₁ = midway-still y _ _ _ _ free f
+
+  pub handed-second : Handed false true splitAt p q oldest from t₁
+  handed-second = handed y₁ _ _ _ _ split
+
+  module _ {t₂ : List ℕ} (s : Worked false true false splitAt p oldest from t₁ t₂) where
+    abbrev y₂ : Midway ps oldest survival i from p q t₂
+    y₂ = midway-still y₁ _ _ _ _ split s
+
+    pub handed-third : Handed true true boundAt p q oldest from t₂
+    handed-third = handed y₂ _ _ _ _ bound
+
+    module _ {t₃ : List ℕ} (b : Worked true true false boundAt p oldest from t₂ t₃) where
+      abbrev y₃ : Midway ps oldest survival i from p q t₃
+      y₃ = midway-still y₂ _ _ _ _ bound b
+
+      pub handed-fourth : Handed true true aloneAt p q oldest from t₃
+      handed-fourth = handed y₃ _ _ _ _ alone
+
+      pub risen : {t₄ : List ℕ} → Worked true true true aloneAt p oldest from t₃ t₄ → Levelled ps oldest survival (record { left = suc i; from = half - from }) t₄
+      risen {t₄} o = raised y (midway-still y₃ _ _ _ _ alone o) all
+        where
+          all : (must older lone : Bool) (at : ℕ) → Group must older lone at → Made ps oldest survival i from at t₄
+          all must older lone at free =
+              made-still y₃ _ _ _ _ alone o (λ e. omega arith) (made-still y₂ _ _ _ _ bound b (λ e. omega arith)
+              (made-still y₁ _ _ _ _ split s (λ e. omega arith) (made y _ _ _ _ free f)))
+          all must older lone at split =
+              made-still y₃ _ _ _ _ alone o (λ e. omega arith) (made-still y₂ _ _ _ _ bound b (λ e. omega arith) (made y₁ _ _ _ _ split s))
+          all must older lone at bound = made-still y₃ _ _ _ _ alone o (λ e. omega arith) (made y₂ _ _ _ _ bound b)
+          all must older lone at alone = made y₃ _ _ _ _ alone o

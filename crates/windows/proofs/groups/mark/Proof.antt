@@ -1,0 +1,74 @@
+-- `mark` stores two marks. Assumes nothing.
+use mathlib.Core.Path.{_∙_}
+use native.Mathlib.Omega.{arith}
+use lib.ListN.{length-set}
+use Prim.Native.Nat.{_+_, _*_}
+use Rattle.windows.specs.Groups.{marks}
+use Rattle.windows.proofs.Stores.{two}
+use borrow.Author.Needs.{needs}
+use Rattle.windows.proofs.groups.mark.Statement.{statement}
+use Rattle.windows.proofs.groups.mark.Tie as tie
+use Rattle.windows.proofs.groups.mark.Reads as reads
+use Rattle.windows.proofs.groups.mark.Lts as lts
+use Rattle.windows.proofs.groups.flag.Reads as flag-reads
+
+flag-requires : tie.Need-flag-requires
+flag-requires c κs = search needs
+
+mul-table : tie.Need-mul-table
+mul-table c = search needs
+
+add-table : tie.Need-add-table
+add-table c = search needs
+
+mul-table-2 : tie.Need-mul-table-2
+mul-table-2 c = search needs
+
+slice-write-table : tie.Need-slice-write-table
+slice-write-table c = search needs
+
+flag-requires-2 : tie.Need-flag-requires-2
+flag-requires-2 c κs = search needs
+
+mul-table-3 : tie.Need-mul-table-3
+mul-table-3 c = search needs
+
+add-table-2 : tie.Need-add-table-2
+add-table-2 c = search needs
+
+add-table-3 : tie.Need-add-table-3
+add-table-3 c = search needs
+
+mul-table-4 : tie.Need-mul-table-4
+mul-table-4 c = search needs
+
+slice-write-table-2 : tie.Need-slice-write-table-2
+slice-write-table-2 c = let p = c .before .before .before .pre in simp length-set (omega (arith, p .low, p .room))
+
+same-length : tie.Need-same-length
+same-length c = search needs
+
+returns : tie.Need-returns
+returns c =
+    let p = c .before .before .before .pre in
+    let a = c .before .before .before .args in
+    let s = two (a .table .now) (marks + 2 * a .x) _ (marks + (2 * a .x + 1)) _ (omega (arith, p .low)) (omega (arith, p .low)) (λ e. omega arith) (p .room) in
+    record { first = s .first ∙ c .before .flag .ensures; second = s .second ∙ c .flag2 .ensures; other = s .other; kept = s .kept }
+
+pub mark-spec : {M : Type 1} → statement M
+mark-spec =
+    tie.close
+    (tie.spec
+    flag-requires
+    mul-table
+    add-table
+    mul-table-2
+    slice-write-table
+    flag-requires-2
+    mul-table-3
+    add-table-2
+    add-table-3
+    mul-table-4
+    slice-write-table-2
+    same-length
+    returns)

@@ -1,0 +1,86 @@
+-- `turn` cuts the lists to what can be reached and works them one by one. Assumes nothing.
+use mathlib.Core.Path.{_≡_, ap, _∙_}
+use Prim.Native.Nat.{ℕ, suc, _+_, _-_, _*_, _%_, _^_, _≤_, _<_}
+use native.Mathlib.Omega.{arith}
+use native.Mathlib.Nat.{one-mul}
+use native.Mathlib.Numerals.{add-one}
+use lib.Pow.{shl-exact}
+use Rattle.places.proofs.Cells.{kept-trans, side-near}
+use Rattle.windows.specs.Groups.{free}
+use Rattle.windows.proofs.Levels.{listables, midway, handed, handed-second, handed-third, handed-fourth, risen}
+use borrow.Author.Needs.{needs}
+use Rattle.windows.proofs.row.turn.Statement.{statement}
+use Rattle.windows.proofs.row.turn.Tie as tie
+
+-- one bit shifted up by the components left
+shifted : {n left : ℕ} → n ≤ 64 → left < n → 1 * 2 ^ (n - (left + 1)) % 2 ^ 64 ≡ 2 ^ (n - suc left)
+shifted {n} {left} size more =
+    shl-exact 1 (n - (left + 1)) 64 (omega arith) (omega arith) ∙ one-mul (2 ^ (n - (left + 1))) ∙ ap (λ x. 2 ^ (n - x)) (add-one left)
+
+add-left : tie.Need-add-left
+add-left c = search needs
+
+sub-trim-all : tie.Need-sub-trim-all
+sub-trim-all c = search needs
+
+shl-trim-all : tie.Need-shl-trim-all
+shl-trim-all c = search needs
+
+trim-all-requires : tie.Need-trim-all-requires
+trim-all-requires c κs = listables (c .before .before .before .before .pre .level) (c .before .before .before .before .pre .more)
+
+chance-requires : tie.Need-chance-requires
+chance-requires c κs = search needs
+
+failure-requires : tie.Need-failure-requires
+failure-requires c κs = rw (c .chance .ensures) (c .before .before .before .before .before .before .before .before .pre .level .list .units _)
+
+group-requires : tie.Need-group-requires
+group-requires c κs =
+    let y = c .before .before .before .before .before .before .before .before .before .before .pre .level in
+    handed (midway y (c .before .before .before .before .before .before .before .before .before .before .pre .more) (shifted (c .before .before .before .before .before .before .before .before .before .before .pre .level .list .size) (c .before .before .before .before .before .before .before .before .before .before .pre .more)) (c .before .before .before .before .before .trim-all .ensures) (record { read = c .before .before .chance .ensures; rest = c .before .failure .ensures })) _ _ _ _ free
+
+group-requires-2 : tie.Need-group-requires-2
+group-requires-2 c κs =
+    let y = c .before .before .before .before .before .before .before .before .before .before .before .before .before .before .pre .level in
+    handed-second (midway y (c .before .before .before .before .before .before .before .before .before .before .before .before .before .before .pre .more) (shifted (c .before .before .before .before .before .before .before .before .before .before .before .before .before .before .pre .level .list .size) (c .before .before .before .before .before .before .before .before .before .before .before .before .before .before .pre .more)) (c .before .before .before .before .before .before .before .before .before .trim-all .ensures) (record { read = c .before .before .before .before .before .before .chance .ensures; rest = c .before .before .before .before .before .failure .ensures })) (c .before .before .before .group .ensures)
+
+group-requires-3 : tie.Need-group-requires-3
+group-requires-3 c κs =
+    let y = c .before .before .before .before .before .before .before .before .before .before .before .before .before .before .before .before .before .before .pre .level in
+    handed-third (midway y (c .before .before .before .before .before .before .before .before .before .before .before .before .before .before .before .before .before .before .pre .more) (shifted (c .before .before .before .before .before .before .before .before .before .before .before .before .before .before .before .before .before .before .pre .level .list .size) (c .before .before .before .before .before .before .before .before .before .before .before .before .before .before .before .before .before .before .pre .more)) (c .before .before .before .before .before .before .before .before .before .before .before .before .before .trim-all .ensures) (record { read = c .before .before .before .before .before .before .before .before .before .before .chance .ensures; rest = c .before .before .before .before .before .before .before .before .before .failure .ensures })) (c .before .before .before .before .before .before .before .group .ensures) (c .before .before .before .group2 .ensures)
+
+group-requires-4 : tie.Need-group-requires-4
+group-requires-4 c κs =
+    let y = c .before .before .before .before .before .before .before .before .before .before .before .before .before .before .before .before .before .before .before .before .before .before .pre .level in
+    handed-fourth (midway y (c .before .before .before .before .before .before .before .before .before .before .before .before .before .before .before .before .before .before .before .before .before .before .pre .more) (shifted (c .before .before .before .before .before .before .before .before .before .before .before .before .before .before .before .before .before .before .before .before .before .before .pre .level .list .size) (c .before .before .before .before .before .before .before .before .before .before .before .before .before .before .before .before .before .before .before .before .before .before .pre .more)) (c .before .before .before .before .before .before .before .before .before .before .before .before .before .before .before .before .before .trim-all .ensures) (record { read = c .before .before .before .before .before .before .before .before .before .before .before .before .before .before .chance .ensures; rest = c .before .before .before .before .before .before .before .before .before .before .before .before .before .failure .ensures })) (c .before .before .before .before .before .before .before .before .before .before .before .group .ensures) (c .before .before .before .before .before .before .before .group2 .ensures) (c .before .before .before .group3 .ensures)
+
+sub-t12 : tie.Need-sub-t12
+sub-t12 c = omega (arith, side-near (c .before .before .before .before .before .before .before .before .before .before .before .before .before .before .before .before .before .before .before .before .before .before .before .before .before .pre .level .side))
+
+same-length : tie.Need-same-length
+same-length c = kept-trans (kept-trans (c .before .before .before .before .before .before .before .before .before .before .before .before .before .before .before .before .before .before .before .before .trim-all .ensures .kept) (c .before .before .before .before .before .before .before .before .before .before .before .before .before .before .group .ensures .kept)) (kept-trans (c .before .before .before .before .before .before .before .before .before .before .group2 .ensures .kept) (kept-trans (c .before .before .before .before .before .before .group3 .ensures .kept) (c .before .before .group4 .ensures .kept))) .long
+
+returns : tie.Need-returns
+returns c = (
+  λ ps y. record { level = rw add-one (risen (midway y (c .before .before .before .before .before .before .before .before .before .before .before .before .before .before .before .before .before .before .before .before .before .before .before .before .before .pre .more) (shifted (c .before .before .before .before .before .before .before .before .before .before .before .before .before .before .before .before .before .before .before .before .before .before .before .before .before .pre .level .list .size) (c .before .before .before .before .before .before .before .before .before .before .before .before .before .before .before .before .before .before .before .before .before .before .before .before .before .pre .more)) (c .before .before .before .before .before .before .before .before .before .before .before .before .before .before .before .before .before .before .before .before .trim-all .ensures) (record { read = c .before .before .before .before .before .before .before .before .before .before .before .before .before .before .before .before .before .chance .ensures; rest = c .before .before .before .before .before .before .before .before .before .before .before .before .before .before .before .before .failure .ensures })) (c .before .before .before .before .before .before .before .before .before .before .before .before .before .before .group .ensures) (c .before .before .before .before .before .before .before .before .before .before .group2 .ensures) (c .before .before .before .before .before .before .group3 .ensures) (c .before .before .group4 .ensures)); is = add-one _ },
+  kept-trans (kept-trans (c .before .before .before .before .before .before .before .before .before .before .before .before .before .before .before .before .before .before .before .before .trim-all .ensures .kept) (c .before .before .before .before .before .before .before .before .before .before .before .before .before .before .group .ensures .kept)) (kept-trans (c .before .before .before .before .before .before .before .before .before .before .group2 .ensures .kept) (kept-trans (c .before .before .before .before .before .before .group3 .ensures .kept) (c .before .before .group4 .ensures .kept))),
+)
+
+pub turn-spec : {M : Type 1} → statement M
+turn-spec =
+    tie.close
+    (tie.spec
+    add-left
+    sub-trim-all
+    shl-trim-all
+    trim-all-requires
+    chance-requires
+    failure-requires
+    group-requires
+    group-requires-2
+    group-requires-3
+    group-requires-4
+    sub-t12
+    same-length
+    returns)
