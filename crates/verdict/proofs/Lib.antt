@@ -1,3 +1,5 @@
--- Windows as masked words, and what the verdict's contract settles.
+-- Windows as masked words, kind 8's pairs, the place of an answer, and what the verdict's contract settles.
 pub mod Windows
+pub mod InRange
+pub mod Placed
 pub mod Outcome

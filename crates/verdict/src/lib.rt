@@ -1,15 +1,17 @@
-// Document 01, "The seven verdicts": the verdict on one state.
+// Document 01, "The seven verdicts", and kind 8 of request 05: the verdict on one state.
+mod pairs; // pairs.rt: kind 8
+
 ghost use mathlib.Core.Path.{_≡_};
 ghost use Prim.Native.Nat.{_+_, _-_, _/_, _%_, _^_, _<_, _≤_, min};
 ghost use lib.Count.{ones};
 ghost use lib.Dec.{leb};
 ghost use lib.ListN.{length};
 ghost use Rattle.rules.specs.Below.{first};
-ghost use Rattle.rules.specs.State.{heldIn, starts};
-ghost use Rattle.rules.specs.Verdict.{weightDown, someWindow, fails, firstWindow, placeOf};
+ghost use Rattle.rules.specs.State.{heldIn, starts, besideOf};
+ghost use Rattle.rules.specs.Verdict.{weightDown, someWindow, firstWindow};
 ghost use Rattle.rules.specs.Refusal.{most, highOne};
 ghost use Rattle.rules.specs.Accepted.{Accepted};
-ghost use Rattle.rules.specs.Answer.{judgment};
+ghost use Rattle.rules.specs.Answer.{judgment, judgedOf};
 ghost use Rattle.verdict.specs.Outcome.{Judged};
 use rules::Rule;
 use rules::Verdict;
@@ -133,9 +135,9 @@ fn high_one(n: u64, w: u64) -> bool
 }
 
 // The rows of the table, for a rule that was accepted.
-fn judge(rule: Rule, n: u64, weights: &[u16], w: u64) -> Verdict
-    requires { ⌜ (Accepted rule n (now weights)) × (w < 2 ^ n) ⌝ }
-    ensures { λ r. ⌜ r ≡ judgment (fails rule n (now (weights .entry)) w) (placeOf rule n w) ⌝ }
+fn judge(rule: Rule, n: u64, weights: &[u16], more: &[u64], w: u64) -> Verdict
+    requires { ⌜ (Accepted rule n (besideOf rule (now weights) (now more))) × (w < 2 ^ n) ⌝ }
+    ensures { λ r. ⌜ r ≡ judgedOf rule n (now (weights .entry)) (now (more .entry)) w ⌝ }
 {
     let kind = rule.kind;
     let failed = ones_of(w);
@@ -146,20 +148,21 @@ fn judge(rule: Rule, n: u64, weights: &[u16], w: u64) -> Verdict
         4 => judge_windows(false, n, rule.first, rule.first, w),
         5 => judge_windows(true, n, rule.first, rule.first, w),
         6 => judge_windows(false, n, fitting(rule.second, n), 2, w),
-        _ => judge_windows(true, n, rule.second, 2, w),
+        7 => judge_windows(true, n, rule.second, 2, w),
+        _ => pairs::judge_pairs(rule.first, rule.second, more, n, w),
     }
 }
 
 // The verdict on one state: refusals 1, 2, 5, 6 and 9, then the rule.
-pub fn verdict_on(rule: Rule, n: u64, weights: &[u16], state: u64) -> Verdict
-    ensures { λ r. ⌜ Judged rule n (now (weights .entry)) state r ⌝ }
+pub fn verdict_on(rule: Rule, n: u64, weights: &[u16], more: &[u64], state: u64) -> Verdict
+    ensures { λ r. ⌜ Judged rule n (now (weights .entry)) (now (more .entry)) state r ⌝ }
 {
-    let refusal = refusals::rule_refusal(rule, n, weights);
+    let refusal = refusals::rule_refusal(rule, n, weights, more);
     if refusal != 0 {
         return Verdict::Refused(refusal);
     }
     if high_one(n, state) {
         return Verdict::Refused(9);
     }
-    judge(rule, n, weights, state)
+    judge(rule, n, weights, more, state)
 }
