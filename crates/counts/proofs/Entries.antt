@@ -14,7 +14,7 @@ use Rattle.rules.specs.Refusal.{cells}
 use Rattle.rules.specs.Accepted.{Accepted}
 use Rattle.rules.proofs.Accepted.{range2, range4, range5, range6, range7}
 use Rattle.rules.proofs.Conditions.{count-by-reading}
-use Rattle.rules.proofs.Seven.{seven}
+use Rattle.rules.proofs.EachKind.{each-kind}
 use Rattle.pascal.proofs.Triangle.{count-fit}
 use Rattle.counts.specs.From.{from, line4, bins}
 use Rattle.counts.specs.Ways.{entryOf, Spread}
@@ -31,12 +31,12 @@ use Rattle.counts.proofs.ByNumber.{entry-count}
 
 -- the kinds that are looked up
 abbrev pub OnWays : ℕ → Type 0
-OnWays kind = ((kind ≡ 1) ⊎ (kind ≡ 3)) ⊎ (6 ≤ kind)
+OnWays kind = ((kind ≡ 1) ⊎ (kind ≡ 3)) ⊎ ((6 ≤ kind) × (kind ≤ 7))
 
 -- and those that are left
 pub on-table : (kind : ℕ) → 1 ≤ kind → kind < 6 → ((kind ≡ 1) ⊎ (kind ≡ 3) → ⊥) → OnTable kind
 on-table kind l h =
-    seven (λ k. k < 6 → ((k ≡ 1) ⊎ (k ≡ 3) → ⊥) → OnTable k)
+    each-kind (λ k. k < 6 → ((k ≡ 1) ⊎ (k ≡ 3) → ⊥) → OnTable k)
     (λ h o. absurd (o (inl refl)))
     (λ h o. inl refl)
     (λ h o. absurd (o (inr refl)))
@@ -44,11 +44,12 @@ on-table kind l h =
     (λ h o. inr (inr refl))
     (λ h o. absurd (omega arith))
     (λ h o. absurd (omega arith))
+    (λ h o. absurd (omega arith))
     kind l (omega arith) h
 
 module _ {rule : Rule} {n : ℕ} {weights : List ℕ} (ok : Accepted rule n weights) where
   -- kinds 6 and 7
-  two : 6 ≤ rule .kind → (rule .kind ≡ 6) ⊎ (rule .kind ≡ 7)
+  two : (6 ≤ rule .kind) × (rule .kind ≤ 7) → (rule .kind ≡ 6) ⊎ (rule .kind ≡ 7)
   two l = ⊎-elim (λ (h : rule .kind < 7). inl (omega arith)) (λ h. inr (omega arith)) (below-or (rule .kind) 7)
 
   pub spread : OnWays (rule .kind) → Spread rule n

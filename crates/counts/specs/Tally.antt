@@ -2,14 +2,14 @@
 use mathlib.Core.Path.{_≡_}
 use mathlib.Core.Bool.{cond}
 use mathlib.Core.Logic.{_⊎_}
-use mathlib.Core.List.{List}
+use mathlib.Core.List.{List, []}
 use Prim.Native.Nat.{ℕ, suc, _+_, _-_, _*_, _^_, _≤_, _<_}
 use lib.Dec.{eqb, ltb}
 use lib.ListN.{length, getD}
 use Rattle.rules.specs.declared.Rule.{Rule}
 use Rattle.rules.specs.Below.{sumBelow}
 use Rattle.rules.specs.Count.{countOf}
-use Rattle.rules.specs.Refusal.{after, most, heaviest, cells}
+use Rattle.rules.specs.Refusal.{after, most, heaviest, cells, notCounted}
 use Rattle.rules.specs.Accepted.{Accepted}
 use Rattle.refusals.specs.Shared.{ruleRefusal}
 use Rattle.counts.specs.Cells.{Outside, Stored}
@@ -19,11 +19,12 @@ use Rattle.counts.specs.Sums.{cellAt}
 -- the call's refusal, by the lengths of the lent tables
 abbrev pub refusalOf : Rule → (n : ℕ) (weights : List ℕ) (lent slots : ℕ) → ℕ
 refusalOf rule n weights lent slots =
-    after (ruleRefusal rule n weights) (cond (ltb lent cells) 7 (cond (ltb slots (suc n)) 8 0))
+    cond (notCounted rule) 15 (after (ruleRefusal rule n weights []) (cond (ltb lent cells) 7 (cond (ltb slots (suc n)) 8 0)))
 
 -- a call that nothing refuses
 pub record Countable (rule : Rule) (n : ℕ) (weights table room : List ℕ) : Type 0 where
   pub accepted : Accepted rule n weights
+  pub counted : rule .kind ≤ 7
   pub long : cells ≤ length table
   pub slots : n < length room
 

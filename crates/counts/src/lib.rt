@@ -9,13 +9,20 @@ ghost use mathlib.Core.Path.{_≡_};
 ghost use Rattle.counts.specs.Tally.{refusalOf, Countable, Tallied};
 ghost use Rattle.counts.specs.Outcome.{Outcome};
 use rules::Counting;
+use rules::NO_MORE;
 use rules::Rule;
 
-// Refusals 1, 2, 5, 6, 7 and 8, the lowest that applies; 0 for none.
+// The kind that has no count table.
+const UNCOUNTED: u64 = 8;
+
+// Refusals 1, 15, 2, 5, 6, 7 and 8, the first that applies; 0 for none. Kind 8 is never refused by 1, so that 15 may be looked at first.
 fn refusal(rule: Rule, n: u64, weights: &[u16], lent: usize, slots: usize) -> u64
     ensures { λ r. ⌜ r ≡ refusalOf rule n (now (weights .entry)) lent slots ⌝ }
 {
-    let first = refusals::rule_refusal(rule, n, weights);
+    if rule.kind == UNCOUNTED {
+        return 15;
+    }
+    let first = refusals::rule_refusal(rule, n, weights, &NO_MORE);
     if first != 0 {
         return first;
     }

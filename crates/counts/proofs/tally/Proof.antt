@@ -2,7 +2,7 @@
 use mathlib.Core.Logic.{inl, inr, ⊎-elim}
 use native.Mathlib.Omega.{arith}
 use Rattle.counts.proofs.Cells.{outside-none, stored-same}
-use Rattle.counts.proofs.Entries.{on-table, spread, ways-count, layable}
+use Rattle.counts.proofs.Entries.{OnWays, on-table, spread, ways-count, layable}
 use borrow.Author.Needs.{needs}
 use Rattle.counts.proofs.tally.Statement.{statement}
 use Rattle.counts.proofs.tally.Tie as tie
@@ -10,7 +10,7 @@ use Rattle.counts.proofs.tally.Tie as tie
 work-requires : tie.Need-work-requires
 work-requires c κs =
     let p = c .before .before .before .before .before .before .pre in
-    let few = ⊎-elim (λ l. l .taken) (λ o. absurd (omega (arith, o .1 .left, p .accepted .kind-high))) (c .before .if1 .came) in
+    let few = ⊎-elim (λ l. l .taken) (λ o. absurd (omega (arith, o .1 .left, p .counted))) (c .before .if1 .came) in
     record { kind = on-table _ (p .accepted .kind-low) few (c .before .before .match .rest .1); accepted = p .accepted; long = p .long }
 
 lay-requires : tie.Need-lay-requires
@@ -21,7 +21,7 @@ lay-requires c κs =
 by-ways-requires : tie.Need-by-ways-requires
 by-ways-requires c κs =
     let p = c .before .before .before .before .before .pre in
-    (spread (p .accepted) (⊎-elim (λ k. inl (k .keys1)) (λ o. inr (o .1 .left)) (c .before .match .came)), p .slots)
+    (spread (p .accepted) (⊎-elim (λ k. inl (k .keys1)) (λ o. inr (o .1 .left, p .counted)) (c .before .match .came)), p .slots)
 
 same-length : tie.Need-same-length
 same-length c = search needs
@@ -40,7 +40,7 @@ same-length-3 c = search needs
 returns-2 : tie.Need-returns-2
 returns-2 c =
     let p = c .before .before .before .before .before .before .before .before .pre in
-    let kind = ⊎-elim (λ k. inl (k .keys1)) (λ o. inr (o .1 .left)) (c .before .before .before .before .match .came) in
+    let kind : OnWays _ = ⊎-elim (λ k. inl (k .keys1)) (λ o. inr (o .1 .left, p .counted)) (c .before .before .before .before .match .came) in
     record { used = outside-none; counts = stored-same (λ j l h. ways-count (p .accepted) j kind) (c .before .before .by-ways .ensures) }
 
 pub tally-spec : {M : Type 1} → statement M
