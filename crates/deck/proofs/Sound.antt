@@ -7,7 +7,7 @@ use borrow.Author.Tests.{ltb-false, eqb-true, not-false, le-ltb, le-leb, eq-eqb}
 use Rattle.rules.specs.Refusal.{firstOf}
 use Rattle.rules.specs.File.{numberAt, versionField, zeroField, survivalField, weightsField, systemsField, headerLength, version, mostFans, mostSystems, fansIn, countIn, survivalOffset, weightsOffset, systemsOffset, fileLength, fileRefusal}
 use Rattle.rules.proofs.Tests.{both}
-use Rattle.rules.proofs.Seven.{within-true}
+use Rattle.rules.proofs.EachKind.{within-true}
 use Rattle.rules.proofs.Accepted.{none-first}
 
 pub record Sound (bytes : List ℕ) : Type 0 where

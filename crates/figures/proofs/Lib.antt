@@ -1,4 +1,6 @@
--- What the call's proofs share, its outcome, and that the call for a whole list, which it took the place of, answered as it does.
+-- What the call's proofs share, its outcome, that kinds 1 to 7 are answered as they were, and that the call for a whole list, which it took the place of,
+-- answered as it does.
 pub mod Refused
 pub mod Outcome
+pub mod Earlier
 pub mod Whole

@@ -1,5 +1,5 @@
--- The refusal of the figures, as the code works it out: 1 to 4, then 5 and 6 over the weights that are rated, then 7; and where there is none, the part can
--- be rated. Weights that kind 2 does not read change nothing. Assumes nothing.
+-- The refusal of the figures, as the code works it out: 1 to 4, then 5 and 6 over the weights that are rated and the further pairs, then 7; and where there
+-- is none, the part can be rated. A list that the kind does not read changes nothing. Assumes nothing.
 use Prim.Native.Nat.{ℕ, suc, _-_, _≤_}
 use mathlib.Core.Path.{_≡_, refl, sym, ap, _∙_}
 use mathlib.Core.Bool.{Bool, true, false, cond, not}
@@ -11,15 +11,15 @@ use lib.ListN.{length, take, drop, length-take, length-drop}
 use borrow.Author.Tests.{eqb-true, eqb-false, eq-eqb, ne-eqb}
 use Rattle.rules.specs.declared.Rule.{Rule}
 use Rattle.rules.specs.Below.{total}
-use Rattle.rules.specs.State.{S}
+use Rattle.rules.specs.State.{S, besideOf}
 use Rattle.rules.specs.Figure.{figure}
 use Rattle.rules.specs.Stretch.{stretch}
-use Rattle.rules.specs.Asked.{Asked, lengthOf, sizeOf, partOf, weightsOf}
+use Rattle.rules.specs.Asked.{Asked, lengthOf, sizeOf, partOf, weightsOf, readOf}
 use Rattle.rules.specs.Refusal.{after, firstOf, badKind, badSize, badStretch, aboveUnit, weightsOut, badWeights, ranged, inRange, shortTable, figuresRefusal}
 use Rattle.rules.specs.Accepted.{Ratable}
 use Rattle.rules.proofs.Tests.{by-test}
 use Rattle.rules.proofs.Accepted.{first-same, first-after, in-stretch, figures-ratable, weights-accepted}
-use Rattle.rules.proofs.Unread.{accepted-unread, unread-range, unread-figure}
+use Rattle.rules.proofs.Unread.{Unread, accepted-unread, unread-total, beside-range, unread-figure}
 use Rattle.refusals.specs.Shared.{ratedRefusal}
 use Rattle.figures.specs.Outcome.{ratedOf}
 
@@ -52,12 +52,16 @@ module _ (rule : Rule) (n : ℕ) (ws : List ℕ) (a b : ℕ) where
   rated-same : (rule .kind ≡ 2 → length ws ≡ n) → (ratedOf rule n ws a b ≡ stretch a b ws) ⊎ (rule .kind ≡ 2 → ⊥)
   rated-same listed = ⊎-elim (λ s. inl (s .0)) (λ o. ⊎-elim (λ k. absurd (eqb-false _ _ (k .1) (listed (k .0)))) inr o) rated-by
 
-  six-same : (m : ℕ) → badWeights rule n ws (stretch a b ws) ≡ false → ranged rule m (total (ratedOf rule n ws a b)) ≡ inRange rule m (stretch a b ws)
-  six-same m e = ⊎-elim (λ s. rw s) (λ k. unread-range rule m _ _ k) (rated-same (λ two. weights-accepted rule n (length ws) _ e two .0))
+  six-same : (m : ℕ) (more : List ℕ) → badWeights rule n ws (stretch a b ws) ≡ false
+      → ranged rule m (total (ratedOf rule n ws a b)) more ≡ inRange rule m (besideOf rule (stretch a b ws) more)
+  six-same m more e =
+      ⊎-elim (λ s. rw s) (λ k. unread-total rule m _ _ more k) (rated-same (λ two. weights-accepted rule n (length ws) _ e two .0))
+      ∙ sym (beside-range rule m (stretch a b ws) more)
 
-  pub own-is : (m : ℕ) → ratedRefusal rule n (length ws) m (total (ratedOf rule n ws a b)) ≡ firstOf ((5, badWeights rule n ws (stretch a b ws)) ∷ (6, not (inRange rule m (stretch a b ws))) ∷ [])
+  pub own-is : (m : ℕ) (more : List ℕ) → ratedRefusal rule n (length ws) m (total (ratedOf rule n ws a b)) more
+      ≡ firstOf ((5, badWeights rule n ws (stretch a b ws)) ∷ (6, not (inRange rule m (besideOf rule (stretch a b ws) more))) ∷ [])
   unfolding ratedRefusal
-  own-is m = first-same 5 _ _ _ _ five-same (λ e. first-same 6 _ _ _ _ (ap not (six-same m (sym five-same ∙ e))) (λ r. refl))
+  own-is m more = first-same 5 _ _ _ _ five-same (λ e. first-same 6 _ _ _ _ (ap not (six-same m more (sym five-same ∙ e))) (λ r. refl))
 
   pub rated-short : length (ratedOf rule n ws a b) ≤ length ws
   unfolding ratedOf stretch
@@ -72,14 +76,17 @@ seven-after true c d = refl
 seven-after false true d = refl
 seven-after false false d = refl
 
--- the weights that the code hands on
+-- the weights that the code hands on, and what is read with the rule then
 abbrev handed : Asked → List ℕ
 handed q = ratedOf (q .rule) (lengthOf q) (q .weights) (q .a) (q .b)
+
+abbrev read : Asked → List ℕ
+read q = besideOf (q .rule) (handed q) (q .more)
 
 module _ (q : Asked) (table : List ℕ) where
   -- 5, 6 and 7 once 1 to 4 are past
   pub rest-is : badKind (q .rule) ≡ false → badSize (lengthOf q) ≡ false → badStretch (q .a) (q .b) (lengthOf q) ≡ false → aboveUnit (partOf q) ≡ false
-      → {own : ℕ} {rated : List ℕ} → own ≡ ratedRefusal (q .rule) (lengthOf q) (length (q .weights)) (q .b - (q .a - 1)) (total rated) → rated ≡ handed q
+      → {own : ℕ} {rated : List ℕ} → own ≡ ratedRefusal (q .rule) (lengthOf q) (length (q .weights)) (q .b - (q .a - 1)) (total rated) (q .more) → rated ≡ handed q
       → figuresRefusal q table ≡ after own (cond (shortTable table) 7 0)
   unfolding figuresRefusal
   rest-is one two three four e d =
@@ -88,12 +95,13 @@ module _ (q : Asked) (table : List ℕ) where
       first-after 1 _ _ one ∙ first-after 2 _ _ two ∙ first-after 3 _ _ three ∙ first-after 4 _ _ four
       ∙ seven-after _ _ _
       ∙ ap (λ r. after r (cond (shortTable table) 7 0))
-      (sym (e ∙ ap (λ xs. ratedRefusal (q .rule) (lengthOf q) (length (q .weights)) (q .b - (q .a - 1)) (total xs)) d ∙ own-is (q .rule) (lengthOf q) (q .weights) (q .a) (q .b) (q .b - (q .a - 1))
-      ∙ ap (λ x. firstOf ((5, badWeights (q .rule) (lengthOf q) (q .weights) (weightsOf q)) ∷ (6, not (inRange (q .rule) x (weightsOf q))) ∷ [])) (sym m)))
+      (sym (e ∙ ap (λ xs. ratedRefusal (q .rule) (lengthOf q) (length (q .weights)) (q .b - (q .a - 1)) (total xs) (q .more)) d
+      ∙ own-is (q .rule) (lengthOf q) (q .weights) (q .a) (q .b) (q .b - (q .a - 1)) (q .more)
+      ∙ ap (λ x. firstOf ((5, badWeights (q .rule) (lengthOf q) (q .weights) (weightsOf q)) ∷ (6, not (inRange (q .rule) x (readOf q))) ∷ [])) (sym m)))
 
 -- no refusal: the part can be rated, and its figures are those asked for
 module _ (q : Asked) (table : List ℕ) (none : figuresRefusal q table ≡ 0) where
-  ratable : (badStretch (q .a) (q .b) (lengthOf q) ≡ false) × (q .rule .kind ≡ 2 → length (q .weights) ≡ lengthOf q) × Ratable (q .rule) (partOf q) (weightsOf q) table
+  ratable : (badStretch (q .a) (q .b) (lengthOf q) ≡ false) × (q .rule .kind ≡ 2 → length (q .weights) ≡ lengthOf q) × Ratable (q .rule) (partOf q) (readOf q) table
   ratable = figures-ratable q table none
 
   pub inside : badStretch (q .a) (q .b) (lengthOf q) ≡ false
@@ -102,13 +110,19 @@ module _ (q : Asked) (table : List ℕ) (none : figuresRefusal q table ≡ 0) wh
   pub fits : (1 ≤ q .a) × (q .a ≤ q .b) × (q .b ≤ lengthOf q)
   fits = in-stretch (q .a) (q .b) (lengthOf q) inside
 
-  same : (handed q ≡ weightsOf q) ⊎ (q .rule .kind ≡ 2 → ⊥)
-  same = rated-same (q .rule) (lengthOf q) (q .weights) (q .a) (q .b) (ratable .1)
+  same : (read q ≡ readOf q) ⊎ Unread (q .rule .kind)
+  same =
+      ⊎-elim (λ s. inl (ap (λ ws. besideOf (q .rule) ws (q .more)) s)) (λ not-two. by-eight not-two (eqb (q .rule .kind) 8) refl)
+      (rated-same (q .rule) (lengthOf q) (q .weights) (q .a) (q .b) (ratable .1))
+    where
+      by-eight : (q .rule .kind ≡ 2 → ⊥) → (b : Bool) → eqb (q .rule .kind) 8 ≡ b → (cond b (q .more) (handed q) ≡ cond b (q .more) (weightsOf q)) ⊎ Unread (q .rule .kind)
+      by-eight not-two true e = inl refl
+      by-eight not-two false e = inr (record { not-two = not-two; not-eight = eqb-false _ _ e })
 
-  pub part-ratable : Ratable (q .rule) (partOf q) (handed q) table
+  pub part-ratable : Ratable (q .rule) (partOf q) (read q) table
   part-ratable =
       let y = ratable .2 in
       record { accepted = ⊎-elim (λ s. rw s (y .accepted)) (accepted-unread (y .accepted)) same; units = y .units; room = y .room }
 
-  pub part-figure : (up : Bool) → figure up S (q .rule) (partOf q) (handed q) ≡ figure up S (q .rule) (partOf q) (weightsOf q)
-  part-figure up = ⊎-elim (λ s. rw s) (λ k. unread-figure up (q .rule) (partOf q) (handed q) (weightsOf q) k) same
+  pub part-figure : (up : Bool) → figure up S (q .rule) (partOf q) (read q) ≡ figure up S (q .rule) (partOf q) (readOf q)
+  part-figure up = ⊎-elim (λ s. rw s) (unread-figure up (q .rule) (partOf q) (read q) (readOf q)) same

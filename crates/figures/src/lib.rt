@@ -55,8 +55,16 @@ fn rated_weights(rule: Rule, n: usize, weights: &[u16], a: u64, b: u64) -> &[u16
 }
 
 // Refusals 1 to 7, the lowest that applies; 0 for none.
-pub fn refusal(rule: Rule, a: u64, b: u64, survival: &[u32], weights: &[u16], table: &[u64]) -> u64
-    ensures { λ r. ⌜ r ≡ figuresRefusal (askedOf rule a b (now (survival .entry)) (now (weights .entry))) (now (table .entry)) ⌝ }
+pub fn refusal(
+    rule: Rule,
+    a: u64,
+    b: u64,
+    survival: &[u32],
+    weights: &[u16],
+    more: &[u64],
+    table: &[u64],
+) -> u64
+    ensures { λ r. ⌜ r ≡ figuresRefusal (askedOf rule a b (now (survival .entry)) (now (weights .entry)) (now (more .entry))) (now (table .entry)) ⌝ }
 {
     if refusals::kind_out(rule) {
         return 1;
@@ -80,6 +88,7 @@ pub fn refusal(rule: Rule, a: u64, b: u64, survival: &[u32], weights: &[u16], ta
         weights.len() as u64,
         (upto - from) as u64,
         rated,
+        more,
     );
     if own != 0 {
         return own;
@@ -97,15 +106,16 @@ pub fn work(
     b: u64,
     survival: &[u32],
     weights: &[u16],
+    more: &[u64],
     table: &mut [u64],
 ) -> Ends
-    requires { ⌜ figuresRefusal (askedOf rule a b (now survival) (now weights)) (now table) ≡ 0 ⌝ }
-    ensures { λ r. ⌜ Worked (askedOf rule a b (now (survival .entry)) (now (weights .entry))) (now (table .entry)) (now (table .exit)) r ⌝ }
+    requires { ⌜ figuresRefusal (askedOf rule a b (now survival) (now weights) (now more)) (now table) ≡ 0 ⌝ }
+    ensures { λ r. ⌜ Worked (askedOf rule a b (now (survival .entry)) (now (weights .entry)) (now (more .entry))) (now (table .entry)) (now (table .exit)) r ⌝ }
 {
     let start = a as usize - 1;
     let end = b as usize;
     let rated = rated_weights(rule, survival.len(), weights, a, b);
-    engine::rate(rule, &survival[start..end], rated, table)
+    engine::rate(rule, &survival[start..end], rated, more, table)
 }
 
 // The figures of a stretch that is not refused, likewise.
@@ -115,12 +125,13 @@ pub fn rate(
     b: u64,
     survival: &[u32],
     weights: &[u16],
+    more: &[u64],
     table: &mut [u64],
 ) -> Rating
-    requires { ⌜ figuresRefusal (askedOf rule a b (now survival) (now weights)) (now table) ≡ 0 ⌝ }
-    ensures { λ r. ⌜ Ranged (askedOf rule a b (now (survival .entry)) (now (weights .entry))) (now (table .entry)) (now (table .exit)) r ⌝ }
+    requires { ⌜ figuresRefusal (askedOf rule a b (now survival) (now weights) (now more)) (now table) ≡ 0 ⌝ }
+    ensures { λ r. ⌜ Ranged (askedOf rule a b (now (survival .entry)) (now (weights .entry)) (now (more .entry))) (now (table .entry)) (now (table .exit)) r ⌝ }
 {
-    let ends = work(rule, a, b, survival, weights, table);
+    let ends = work(rule, a, b, survival, weights, more, table);
     let low = ends.low;
     let high = ends.high;
     Rating::Range { low, high }
@@ -134,15 +145,16 @@ pub fn figures(
     b: u64,
     survival: &[u32],
     weights: &[u16],
+    more: &[u64],
     table: &mut [u64],
 ) -> Rating
-    ensures { λ r. ⌜ Rated (askedOf rule a b (now (survival .entry)) (now (weights .entry))) (now (table .entry)) (now (table .exit)) r ⌝ }
+    ensures { λ r. ⌜ Rated (askedOf rule a b (now (survival .entry)) (now (weights .entry)) (now (more .entry))) (now (table .entry)) (now (table .exit)) r ⌝ }
 {
-    let refused = refusal(rule, a, b, survival, weights, table);
+    let refused = refusal(rule, a, b, survival, weights, more, table);
     if refused != 0 {
         return Rating::Refused(refused);
     }
-    let rating = rate(rule, a, b, survival, weights, table);
+    let rating = rate(rule, a, b, survival, weights, more, table);
     cells::zero(table, CELLS);
     rating
 }

@@ -10,7 +10,7 @@ use Rattle.rules.specs.Refusal.{after}
 use Rattle.rules.specs.Answer.{unless}
 use Rattle.rules.specs.File.{countIn, fileRefusal, badNumber}
 use Rattle.deck.specs.Outcome.{Placed}
-use Rattle.rules.proofs.Seven.{within-true}
+use Rattle.rules.proofs.EachKind.{within-true}
 use Rattle.loading.specs.Outcome.{openRefusal}
 
 both-refusals : {A : Type 0} (refused : ℕ → A) (answer : A) (r : ℕ) (b : Bool)

@@ -11,7 +11,7 @@ use Rattle.rules.specs.declared.Rating.{Rating}
 use Rattle.rules.specs.declared.Rating.the-variants.{Range, Refused}
 use Rattle.rules.specs.State.{S}
 use Rattle.rules.specs.Figure.{figure}
-use Rattle.rules.specs.Asked.{Asked, partOf, weightsOf}
+use Rattle.rules.specs.Asked.{Asked, partOf, readOf}
 use Rattle.rules.specs.Refusal.{cells, figuresRefusal}
 use Rattle.rules.specs.Answer.{figuresOf}
 use Rattle.rules.specs.File.{Deck, askedBy, badNumber, fileRefusal, systemOf, packed, loadingOf}
@@ -30,7 +30,7 @@ figures-le q table =
 pub figures-packable : (q : Asked) (table : List ℕ) → Packable (figuresOf q table)
 unfolding figuresOf
 figures-packable q table =
-    let within : (up : Bool) → figuresRefusal q table ≡ 0 → figure up S (q .rule) (partOf q) (weightsOf q) ≤ S
+    let within : (up : Bool) → figuresRefusal q table ≡ 0 → figure up S (q .rule) (partOf q) (readOf q) ≤ S
     = λ up e. figure-within up (q .rule) _ _ (figures-ratable q table e .2 .units) in
     unless-by Packable _ Refused _ (figures-le q table) (λ e. (within false e, within true e))
 

@@ -12,7 +12,7 @@ use lib.Seq.{length-take-le, take-all, getD-take}
 use borrow.Author.Tests.{le-ltb, ne-eqb, not-false}
 use Rattle.rules.specs.Refusal.{badSize}
 use Rattle.rules.specs.File.{versionField, zeroField, fansField, countField, survivalField, weightsField, systemsField, headerLength, mostFans, mostSystems, survivalOffset, weightsOffset, systemsOffset, fileLength, numberAt, fansIn, countIn, badLayout, fileRefusal}
-use Rattle.rules.proofs.Seven.{within-true}
+use Rattle.rules.proofs.EachKind.{within-true}
 use Rattle.rules.proofs.Accepted.{first-same}
 use Rattle.rules.proofs.Unless.{unless-some}
 use Rattle.deck.specs.declared.Read.{Read}

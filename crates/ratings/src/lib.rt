@@ -18,7 +18,7 @@ fn rule_of(kind: u64, first: u64, second: u64) -> Rule
 }
 
 // In C: `uint64_t foambeetle_figures(uint64_t kind, uint64_t first, uint64_t second, uint64_t a, uint64_t b,
-// const uint32_t *survival, size_t n, const uint16_t *weights, size_t weighed, uint64_t *table, size_t cells)`.
+// const uint32_t *survival, size_t n, const uint16_t *weights, size_t weighed, const uint64_t *more, size_t further, uint64_t *table, size_t cells)`.
 #[no_mangle]
 pub extern "C" fn foambeetle_figures(
     kind: u64,
@@ -28,16 +28,18 @@ pub extern "C" fn foambeetle_figures(
     b: u64,
     survival: &[u32],
     weights: &[u16],
+    more: &[u64],
     table: &mut [u64],
 ) -> u64
-    ensures { λ r. ⌜ Timed (askedOf (ruleOf kind first second) a b (now (survival .entry)) (now (weights .entry))) (now (table .entry)) (now (table .exit)) r ⌝ }
+    ensures { λ r. ⌜ Timed (askedOf (ruleOf kind first second) a b (now (survival .entry)) (now (weights .entry)) (now (more .entry))) (now (table .entry)) (now (table .exit)) r ⌝ }
 {
     let rule = rule_of(kind, first, second);
-    loading::pack(figures::figures(rule, a, b, survival, weights, table))
+    loading::pack(figures::figures(rule, a, b, survival, weights, more, table))
 }
 
 // The worth of a fan, likewise. In C: `uint64_t foambeetle_worth_of(uint64_t kind, uint64_t first, uint64_t second, uint64_t a, uint64_t b, uint64_t fan,
-// const uint32_t *survival, size_t n, const uint16_t *weights, size_t weighed, uint64_t *table, size_t cells, int64_t ends[2])`.
+// const uint32_t *survival, size_t n, const uint16_t *weights, size_t weighed, const uint64_t *more, size_t further, uint64_t *table, size_t cells,
+// int64_t ends[2])`.
 #[no_mangle]
 pub extern "C" fn foambeetle_worth_of(
     kind: u64,
@@ -48,14 +50,15 @@ pub extern "C" fn foambeetle_worth_of(
     fan: u64,
     survival: &[u32],
     weights: &[u16],
+    more: &[u64],
     table: &mut [u64],
     ends: &mut [i64; 2],
 ) -> u64
-    ensures { λ r. ⌜ TimedWorth (askedOf (ruleOf kind first second) a b (now (survival .entry)) (now (weights .entry))) fan (now (table .entry)) (now (table .exit)) (now (ends .entry)) (now (ends .exit)) r ⌝ }
+    ensures { λ r. ⌜ TimedWorth (askedOf (ruleOf kind first second) a b (now (survival .entry)) (now (weights .entry)) (now (more .entry))) fan (now (table .entry)) (now (table .exit)) (now (ends .entry)) (now (ends .exit)) r ⌝ }
 {
     let rule = rule_of(kind, first, second);
     loading::tell(
-        worth::worth(rule, a, b, fan, survival, weights, table),
+        worth::worth(rule, a, b, fan, survival, weights, more, table),
         ends,
     )
 }

@@ -1,6 +1,6 @@
 -- The deck that the reader hands on for a file: the system at a place can be rated, and answers as the file's system does, and its fans are worth as much. Assumes nothing.
 use mathlib.Core.Path.{_≡_, ap, ap₂, _∙_}
-use mathlib.Core.List.{List}
+use mathlib.Core.List.{List, []}
 use Prim.Native.Nat.{ℕ, _<_}
 use native.Mathlib.Omega.{arith}
 use lib.ListN.{getD, replicate, length-append}
@@ -20,14 +20,14 @@ module _ (bytes : List ℕ) (s : ℕ) where
   unfolding answerAt systemOf keptDeck
   kept-answer h =
       let y = getD (keptDeck bytes .systems) s noSystem in
-      ap₂ (λ xs ws. figuresOf (askedOf (y .rule) (y .a) (y .b) xs ws) (replicate cells 0)) (kept-survival bytes) (kept-weights bytes)
+      ap₂ (λ xs ws. figuresOf (askedOf (y .rule) (y .a) (y .b) xs ws []) (replicate cells 0)) (kept-survival bytes) (kept-weights bytes)
       ∙ ap (systemOf (deckIn bytes)) (kept-system bytes noSystem s h)
 
   pub kept-worth : (fan : ℕ) → s < countIn bytes → worthAt (keptDeck bytes) s fan ≡ worthIn bytes s fan
   unfolding worthAt systemWorth keptDeck
   kept-worth fan h =
       let y = getD (keptDeck bytes .systems) s noSystem in
-      ap₂ (λ xs ws. worthOf (askedOf (y .rule) (y .a) (y .b) xs ws) fan (replicate cells 0)) (kept-survival bytes) (kept-weights bytes)
+      ap₂ (λ xs ws. worthOf (askedOf (y .rule) (y .a) (y .b) xs ws []) fan (replicate cells 0)) (kept-survival bytes) (kept-weights bytes)
       ∙ ap (λ z. systemWorth (deckIn bytes) z fan) (kept-system bytes noSystem s h)
 
   pub kept-held : fileRefusal bytes ≡ 0 → s < countIn bytes → Held (keptDeck bytes) s

@@ -1,4 +1,5 @@
 // The figures of a system of a deck, and the worth of a fan to it.
+ghost use mathlib.Core.List.{[]};
 ghost use mathlib.Core.Path.{_≡_};
 ghost use lib.ListN.{replicate};
 ghost use Rattle.rules.specs.Asked.{askedOf};
@@ -10,23 +11,24 @@ ghost use Rattle.deck.specs.Outcome.{Placed};
 ghost use Rattle.systems.specs.Arrays.{answerAt, worthAt, Held};
 use cells::CELLS;
 use deck::Deck;
+use rules::NO_MORE;
 use rules::Rating;
 use rules::System;
 use rules::Worth;
 
 // A system's figures over a deck's lists, in a working table of the call's own, which nobody sees after it and nobody clears.
 fn rate_lists(system: System, survival: &[u32], weights: &[u16]) -> Rating
-    ensures { λ r. ⌜ r ≡ figuresOf (askedOf (system .rule) (system .a) (system .b) (now (survival .entry)) (now (weights .entry))) (replicate cells 0) ⌝ }
+    ensures { λ r. ⌜ r ≡ figuresOf (askedOf (system .rule) (system .a) (system .b) (now (survival .entry)) (now (weights .entry)) []) (replicate cells 0) ⌝ }
 {
     let mut table = [0u64; CELLS];
     let rule = system.rule;
     let a = system.a;
     let b = system.b;
-    let refused = figures::refusal(rule, a, b, survival, weights, &table);
+    let refused = figures::refusal(rule, a, b, survival, weights, &NO_MORE, &table);
     if refused != 0 {
         return Rating::Refused(refused);
     }
-    figures::rate(rule, a, b, survival, weights, &mut table)
+    figures::rate(rule, a, b, survival, weights, &NO_MORE, &mut table)
 }
 
 // The figures of the system at a place of a deck, counted from 0.
@@ -43,17 +45,17 @@ pub fn rate_system(deck: Deck, s: usize) -> Rating
 
 // The worth of a fan over a deck's lists, likewise.
 fn weigh_lists(system: System, fan: u64, survival: &[u32], weights: &[u16]) -> Worth
-    ensures { λ r. ⌜ r ≡ worthOf (askedOf (system .rule) (system .a) (system .b) (now (survival .entry)) (now (weights .entry))) fan (replicate cells 0) ⌝ }
+    ensures { λ r. ⌜ r ≡ worthOf (askedOf (system .rule) (system .a) (system .b) (now (survival .entry)) (now (weights .entry)) []) fan (replicate cells 0) ⌝ }
 {
     let mut working = [0u64; CELLS];
     let rule = system.rule;
     let a = system.a;
     let b = system.b;
-    let refused = worth::refusal(rule, a, b, fan, survival, weights, &working);
+    let refused = worth::refusal(rule, a, b, fan, survival, weights, &NO_MORE, &working);
     if refused != 0 {
         return Worth::Refused(refused);
     }
-    worth::weigh(rule, a, b, fan, survival, weights, &mut working)
+    worth::weigh(rule, a, b, fan, survival, weights, &NO_MORE, &mut working)
 }
 
 // The worth of a fan to the system at a place of a deck, counted from 0.

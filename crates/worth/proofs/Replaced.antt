@@ -14,11 +14,11 @@ use mir.Val.{SFits}
 use borrow.Author.Tests.{not-false}
 use Rattle.rules.specs.State.{S}
 use Rattle.rules.specs.Figure.{figure}
-use Rattle.rules.specs.Asked.{Asked, lengthOf, partOf, weightsOf}
+use Rattle.rules.specs.Asked.{Asked, lengthOf, partOf, readOf}
 use Rattle.rules.specs.Refusal.{most, cells, figuresRefusal}
 use Rattle.places.specs.Cells.{Kept}
 use Rattle.rules.specs.Worth.{working, failing, badFan, worthRefusal}
-use Rattle.rules.proofs.Seven.{within-true}
+use Rattle.rules.proofs.EachKind.{within-true}
 use Rattle.rules.proofs.Accepted.{first-same, none-first, in-stretch, figures-ratable}
 use Rattle.rules.proofs.Unless.{after-none}
 use Rattle.rules.proofs.Differences.{by-sign}
@@ -66,10 +66,10 @@ module _ (q : Asked) (fan : ℕ) (table : List ℕ) (none : worthRefusal q fan t
   pub room : cells ≤ length table
   room = figures-ratable q table accepted .2 .room
 
-  pub works-within : (up : Bool) → figure up S (q .rule) (partOf (working fan q)) (weightsOf q) ≤ S
+  pub works-within : (up : Bool) → figure up S (q .rule) (partOf (working fan q)) (readOf q) ≤ S
   works-within = sure-within q table fan S accepted (omega arith)
 
-  pub fails-within : (up : Bool) → figure up S (q .rule) (partOf (failing fan q)) (weightsOf q) ≤ S
+  pub fails-within : (up : Bool) → figure up S (q .rule) (partOf (failing fan q)) (readOf q) ≤ S
   fails-within = sure-within q table fan 0 accepted (omega arith)
 
 -- the difference of two figures is a signed number of 64 bits

@@ -26,11 +26,12 @@ pub fn refusal(
     fan: u64,
     survival: &[u32],
     weights: &[u16],
+    more: &[u64],
     table: &[u64],
 ) -> u64
-    ensures { λ r. ⌜ r ≡ worthRefusal (askedOf rule a b (now (survival .entry)) (now (weights .entry))) fan (now (table .entry)) ⌝ }
+    ensures { λ r. ⌜ r ≡ worthRefusal (askedOf rule a b (now (survival .entry)) (now (weights .entry)) (now (more .entry))) fan (now (table .entry)) ⌝ }
 {
-    let own = figures::refusal(rule, a, b, survival, weights, table);
+    let own = figures::refusal(rule, a, b, survival, weights, more, table);
     let refused = own != 0;
     let outside = refusals::outside(a, fan, b);
     if refused {
@@ -65,15 +66,16 @@ fn rate_sure(
     p: u32,
     survival: &[u32],
     weights: &[u16],
+    more: &[u64],
     table: &mut [u64],
 ) -> Ends
-    requires { ⌜ Replaceable (askedOf rule a b (now survival) (now weights)) fan p (now table) ⌝ }
-    ensures { λ r. ⌜ Worked (sure fan p (askedOf rule a b (now (survival .entry)) (now (weights .entry)))) (now (table .entry)) (now (table .exit)) r ⌝ }
+    requires { ⌜ Replaceable (askedOf rule a b (now survival) (now weights) (now more)) fan p (now table) ⌝ }
+    ensures { λ r. ⌜ Worked (sure fan p (askedOf rule a b (now (survival .entry)) (now (weights .entry)) (now (more .entry)))) (now (table .entry)) (now (table .exit)) r ⌝ }
 {
     let n = survival.len();
     let mut numbers = copied(survival);
     numbers[fan as usize - 1] = p;
-    figures::work(rule, a, b, &numbers[..n], weights, table)
+    figures::work(rule, a, b, &numbers[..n], weights, more, table)
 }
 
 // The difference of two figures.
@@ -92,13 +94,14 @@ pub fn weigh(
     fan: u64,
     survival: &[u32],
     weights: &[u16],
+    more: &[u64],
     table: &mut [u64],
 ) -> Worth
-    requires { ⌜ worthRefusal (askedOf rule a b (now survival) (now weights)) fan (now table) ≡ 0 ⌝ }
-    ensures { λ r. ⌜ Found (askedOf rule a b (now (survival .entry)) (now (weights .entry))) fan (now (table .entry)) (now (table .exit)) r ⌝ }
+    requires { ⌜ worthRefusal (askedOf rule a b (now survival) (now weights) (now more)) fan (now table) ≡ 0 ⌝ }
+    ensures { λ r. ⌜ Found (askedOf rule a b (now (survival .entry)) (now (weights .entry)) (now (more .entry))) fan (now (table .entry)) (now (table .exit)) r ⌝ }
 {
-    let works = rate_sure(rule, a, b, fan, UNIT as u32, survival, weights, table);
-    let fails = rate_sure(rule, a, b, fan, 0, survival, weights, table);
+    let works = rate_sure(rule, a, b, fan, UNIT as u32, survival, weights, more, table);
+    let fails = rate_sure(rule, a, b, fan, 0, survival, weights, more, table);
     let lower = less(works.low, fails.high);
     let upper = less(works.high, fails.low);
     Worth::Ends { lower, upper }
@@ -113,15 +116,16 @@ pub fn worth(
     fan: u64,
     survival: &[u32],
     weights: &[u16],
+    more: &[u64],
     table: &mut [u64],
 ) -> Worth
-    ensures { λ r. ⌜ Weighed (askedOf rule a b (now (survival .entry)) (now (weights .entry))) fan (now (table .entry)) (now (table .exit)) r ⌝ }
+    ensures { λ r. ⌜ Weighed (askedOf rule a b (now (survival .entry)) (now (weights .entry)) (now (more .entry))) fan (now (table .entry)) (now (table .exit)) r ⌝ }
 {
-    let refused = refusal(rule, a, b, fan, survival, weights, table);
+    let refused = refusal(rule, a, b, fan, survival, weights, more, table);
     if refused != 0 {
         return Worth::Refused(refused);
     }
-    let worth = weigh(rule, a, b, fan, survival, weights, table);
+    let worth = weigh(rule, a, b, fan, survival, weights, more, table);
     cells::zero(table, CELLS);
     worth
 }

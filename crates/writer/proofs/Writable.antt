@@ -10,7 +10,7 @@ use Rattle.rules.specs.File.{mostFans, mostSystems, perSystem, systemsOf, fileL
 use Rattle.rules.specs.Writing.{Typed, deckOf, bytesFor, badFives, writeRefusal}
 use Rattle.rules.proofs.Lists.{below-length}
 use Rattle.rules.proofs.Tests.{both}
-use Rattle.rules.proofs.Seven.{within-true}
+use Rattle.rules.proofs.EachKind.{within-true}
 use Rattle.rules.proofs.Accepted.{none-first}
 use Rattle.deck.proofs.File.{file-length}
 

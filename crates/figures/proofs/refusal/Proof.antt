@@ -7,7 +7,7 @@ use lib.ListN.{length}
 use borrow.Author.Tests.{lt-ltb, le-ltb, not-false}
 use Rattle.rules.specs.Asked.{askedOf}
 use Rattle.rules.specs.Refusal.{aboveUnit, figuresRefusal}
-use Rattle.rules.proofs.Seven.{within-true}
+use Rattle.rules.proofs.EachKind.{within-true}
 use Rattle.rules.proofs.Accepted.{in-stretch, first-of, first-after}
 use Rattle.rules.proofs.Unless.{after-none, after-some}
 use Rattle.figures.proofs.Refused.{part-is, rated-short, rest-is}
@@ -46,31 +46,31 @@ returns-3 c =
 
 sub-from : tie.Need-sub-from
 sub-from c =
-    let x = c .before .before .before .before .before .before .before .before .before .args in
+    let x = c .before .before .before .before .before .before .before .before .before .before .args in
     let three = sym (c .before .stretch-out .ensures) ∙ c .if3 .left in
     omega (arith, in-stretch (x .a) (x .b) (length (x .survival .now)) three)
 
 mul-above-unit : tie.Need-mul-above-unit
 mul-above-unit c =
-    let x = c .before .before .before .before .before .before .before .before .before .args in
+    let x = c .before .before .before .before .before .before .before .before .before .before .args in
     let three = sym (c .before .stretch-out .ensures) ∙ c .if3 .left in
     omega (arith, in-stretch (x .a) (x .b) (length (x .survival .now)) three)
 
 sub-above-unit : tie.Need-sub-above-unit
 sub-above-unit c =
-    let x = c .before .before .before .before .before .before .before .before .before .args in
+    let x = c .before .before .before .before .before .before .before .before .before .before .args in
     let three = sym (c .before .stretch-out .ensures) ∙ c .if3 .left in
     omega (arith, in-stretch (x .a) (x .b) (length (x .survival .now)) three)
 
 part-above-unit-start : tie.Need-part-above-unit-start
 part-above-unit-start c =
-    let x = c .before .before .before .before .before .before .before .before .before .args in
+    let x = c .before .before .before .before .before .before .before .before .before .before .args in
     let three = sym (c .before .stretch-out .ensures) ∙ c .if3 .left in
     omega (arith, in-stretch (x .a) (x .b) (length (x .survival .now)) three)
 
 part-above-unit-end : tie.Need-part-above-unit-end
 part-above-unit-end c =
-    let x = c .before .before .before .before .before .before .before .before .before .args in
+    let x = c .before .before .before .before .before .before .before .before .before .before .args in
     let three = sym (c .before .stretch-out .ensures) ∙ c .if3 .left in
     omega (arith, in-stretch (x .a) (x .b) (length (x .survival .now)) three)
 
@@ -80,7 +80,7 @@ above-unit-requires c κs = search needs
 returns-4 : tie.Need-returns-4
 unfolding figuresRefusal
 returns-4 c =
-    let x = c .before .before .before .before .before .before .before .before .before .before .before .before .args in
+    let x = c .before .before .before .before .before .before .before .before .before .before .before .before .before .args in
     let one = sym (c .before .before .before .before .before .before .before .before .kind-out .ensures) ∙ c .before .before .before .before .before .before .before .if1 .left in
     let two = sym (c .before .before .before .before .before .before .size-out .ensures) ∙ c .before .before .before .before .before .if2 .left in
     let three = sym (c .before .before .before .before .stretch-out .ensures) ∙ c .before .before .before .if3 .left in
@@ -92,51 +92,51 @@ rated-weights-requires c κs = sym (c .before .before .before .before .stretch-o
 
 sub-rated-refusal : tie.Need-sub-rated-refusal
 sub-rated-refusal c =
-    let x = c .before .before .before .before .before .before .before .before .before .before .before .before .before .args in
+    let x = c .before .before .before .before .before .before .before .before .before .before .before .before .before .before .args in
     let three = sym (c .before .before .before .before .before .stretch-out .ensures) ∙ c .before .before .before .before .if3 .left in
     omega (arith, in-stretch (x .a) (x .b) (length (x .survival .now)) three)
 
 rated-refusal-requires : tie.Need-rated-refusal-requires
 rated-refusal-requires c κs =
-    let x = c .before .before .before .before .before .before .before .before .before .before .before .before .before .args in
+    let x = c .before .before .before .before .before .before .before .before .before .before .before .before .before .before .args in
     let two = sym (c .before .before .before .before .before .before .before .size-out .ensures) ∙ c .before .before .before .before .before .before .if2 .left in
     let small = within-true 1 (length (x .survival .now)) 64 (not-false _ two) in
     (small .1, rw (c .rated-weights .ensures) (rated-short (x .rule) _ (x .weights .now) (x .a) (x .b)))
 
 returns-5 : tie.Need-returns-5
 returns-5 c =
-    let x = c .before .before .before .before .before .before .before .before .before .before .before .before .before .before .before .args in
+    let x = c .before .before .before .before .before .before .before .before .before .before .before .before .before .before .before .before .args in
     let one = sym (c .before .before .before .before .before .before .before .before .before .before .before .kind-out .ensures) ∙ c .before .before .before .before .before .before .before .before .before .before .if1 .left in
     let two = sym (c .before .before .before .before .before .before .before .before .before .size-out .ensures) ∙ c .before .before .before .before .before .before .before .before .if2 .left in
     let three = sym (c .before .before .before .before .before .before .before .stretch-out .ensures) ∙ c .before .before .before .before .before .before .if3 .left in
     let four = sym (c .before .before .before .before .above-unit .ensures ∙ ap aboveUnit (part-is (x .a) (x .b) _ _ three)) ∙ c .before .before .before .if4 .left in
     let own = c .before .rated-refusal .ensures in
     let rated = c .before .before .rated-weights .ensures in
-    let rest = rest-is (askedOf (x .rule) (x .a) (x .b) (x .survival .now) (x .weights .now)) (x .table .now) one two three four own rated in
+    let rest = rest-is (askedOf (x .rule) (x .a) (x .b) (x .survival .now) (x .weights .now) (x .more .now)) (x .table .now) one two three four own rated in
     sym (rest ∙ after-some _ _ (c .if5 .taken))
 
 returns-6 : tie.Need-returns-6
 returns-6 c =
-    let x = c .before .before .before .before .before .before .before .before .before .before .before .before .before .before .before .before .args in
+    let x = c .before .before .before .before .before .before .before .before .before .before .before .before .before .before .before .before .before .args in
     let one = sym (c .before .before .before .before .before .before .before .before .before .before .before .before .kind-out .ensures) ∙ c .before .before .before .before .before .before .before .before .before .before .before .if1 .left in
     let two = sym (c .before .before .before .before .before .before .before .before .before .before .size-out .ensures) ∙ c .before .before .before .before .before .before .before .before .before .if2 .left in
     let three = sym (c .before .before .before .before .before .before .before .before .stretch-out .ensures) ∙ c .before .before .before .before .before .before .before .if3 .left in
     let four = sym (c .before .before .before .before .before .above-unit .ensures ∙ ap aboveUnit (part-is (x .a) (x .b) _ _ three)) ∙ c .before .before .before .before .if4 .left in
     let own = c .before .before .rated-refusal .ensures in
     let rated = c .before .before .before .rated-weights .ensures in
-    let rest = rest-is (askedOf (x .rule) (x .a) (x .b) (x .survival .now) (x .weights .now)) (x .table .now) one two three four own rated in
+    let rest = rest-is (askedOf (x .rule) (x .a) (x .b) (x .survival .now) (x .weights .now) (x .more .now)) (x .table .now) one two three four own rated in
     sym (rest ∙ after-none _ _ (c .before .if5 .left) ∙ ap (λ t. cond t 7 0) (lt-ltb _ _ (c .if6 .taken)))
 
 returns-7 : tie.Need-returns-7
 returns-7 c =
-    let x = c .before .before .before .before .before .before .before .before .before .before .before .before .before .before .before .before .args in
+    let x = c .before .before .before .before .before .before .before .before .before .before .before .before .before .before .before .before .before .args in
     let one = sym (c .before .before .before .before .before .before .before .before .before .before .before .before .kind-out .ensures) ∙ c .before .before .before .before .before .before .before .before .before .before .before .if1 .left in
     let two = sym (c .before .before .before .before .before .before .before .before .before .before .size-out .ensures) ∙ c .before .before .before .before .before .before .before .before .before .if2 .left in
     let three = sym (c .before .before .before .before .before .before .before .before .stretch-out .ensures) ∙ c .before .before .before .before .before .before .before .if3 .left in
     let four = sym (c .before .before .before .before .before .above-unit .ensures ∙ ap aboveUnit (part-is (x .a) (x .b) _ _ three)) ∙ c .before .before .before .before .if4 .left in
     let own = c .before .before .rated-refusal .ensures in
     let rated = c .before .before .before .rated-weights .ensures in
-    let rest = rest-is (askedOf (x .rule) (x .a) (x .b) (x .survival .now) (x .weights .now)) (x .table .now) one two three four own rated in
+    let rest = rest-is (askedOf (x .rule) (x .a) (x .b) (x .survival .now) (x .weights .now) (x .more .now)) (x .table .now) one two three four own rated in
     sym (rest ∙ after-none _ _ (c .before .if5 .left) ∙ ap (λ t. cond t 7 0) (le-ltb _ _ (c .if6 .left)))
 
 pub refusal-spec : {M : Type 1} → statement M

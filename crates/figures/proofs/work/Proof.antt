@@ -8,26 +8,26 @@ use Rattle.figures.proofs.work.Statement.{statement}
 use Rattle.figures.proofs.work.Tie as tie
 
 sub-start : tie.Need-sub-start
-sub-start c = omega (arith, fits _ _ (c .before .before .before .pre))
+sub-start c = omega (arith, fits _ _ (c .before .before .before .before .pre))
 
 rated-weights-requires : tie.Need-rated-weights-requires
-rated-weights-requires c κs = inside _ _ (c .before .before .before .pre)
+rated-weights-requires c κs = inside _ _ (c .before .before .before .before .pre)
 
 mul-rate : tie.Need-mul-rate
-mul-rate c = omega (arith, fits _ _ (c .before .before .before .before .pre))
+mul-rate c = omega (arith, fits _ _ (c .before .before .before .before .before .pre))
 
 sub-rate : tie.Need-sub-rate
-sub-rate c = omega (arith, fits _ _ (c .before .before .before .before .pre))
+sub-rate c = omega (arith, fits _ _ (c .before .before .before .before .before .pre))
 
 part-rate-start : tie.Need-part-rate-start
-part-rate-start c = omega (arith, fits _ _ (c .before .before .before .before .pre))
+part-rate-start c = omega (arith, fits _ _ (c .before .before .before .before .before .pre))
 
 part-rate-end : tie.Need-part-rate-end
-part-rate-end c = omega (arith, fits _ _ (c .before .before .before .before .pre))
+part-rate-end c = omega (arith, fits _ _ (c .before .before .before .before .before .pre))
 
 rate-requires : tie.Need-rate-requires
 rate-requires c κs =
-    let start = c .before .before .before .before .before .before in
+    let start = c .before .before .before .before .before .before .before in
     let x = start .args in
     rw (c .before .before .rated-weights .ensures, part-is (x .a) (x .b) _ _ (inside _ _ (start .pre))) (part-ratable _ _ (start .pre))
 
@@ -36,7 +36,7 @@ same-length c = search needs
 
 returns : tie.Need-returns
 returns c =
-    let start = c .before .before .before .before .before .before .before .before .before in
+    let start = c .before .before .before .before .before .before .before .before .before .before in
     let x = start .args in
     let e = rw (c .before .before .before .before .before .rated-weights .ensures, part-is (x .a) (x .b) _ _ (inside _ _ (start .pre))) at (c .before .before .rate .ensures) in
     record {

@@ -10,6 +10,9 @@ use Rattle.systems.proofs.rate_lists.Tie as tie
 slice-aggregate-refusal : tie.Need-slice-aggregate-refusal
 slice-aggregate-refusal c = search needs
 
+slice-aggregate-refusal-2 : tie.Need-slice-aggregate-refusal-2
+slice-aggregate-refusal-2 c = search needs
+
 refusal-requires : tie.Need-refusal-requires
 refusal-requires c κs = search needs
 
@@ -22,13 +25,16 @@ returns c =
 slice-aggregate-rate : tie.Need-slice-aggregate-rate
 slice-aggregate-rate c = search needs
 
+slice-aggregate-rate-2 : tie.Need-slice-aggregate-rate-2
+slice-aggregate-rate-2 c = search needs
+
 rate-requires : tie.Need-rate-requires
-rate-requires c κs = sym (c .before .before .refusal .ensures) ∙ c .before .if1 .left
+rate-requires c κs = sym (c .before .before .before .refusal .ensures) ∙ c .before .before .if1 .left
 
 returns-2 : tie.Need-returns-2
 unfolding figuresOf
 returns-2 c =
-    let none = sym (c .before .before .before .before .refusal .ensures) ∙ c .before .before .before .if1 .left in
+    let none = sym (c .before .before .before .before .before .refusal .ensures) ∙ c .before .before .before .before .if1 .left in
     c .before .rate .ensures .range ∙ sym (unless-none _ _ _ none)
 
 pub rate-lists-spec : {M : Type 1} → statement M
@@ -36,8 +42,10 @@ rate-lists-spec =
     tie.close
     (tie.spec
     slice-aggregate-refusal
+    slice-aggregate-refusal-2
     refusal-requires
     returns
     slice-aggregate-rate
+    slice-aggregate-rate-2
     rate-requires
     returns-2)

@@ -1,5 +1,6 @@
 -- `systems::weigh_in` meets its contract: the first n entries of the arrays are the deck's lists. Assumes nothing.
 use mathlib.Core.Path.{sym, ap₂, _∙_}
+use mathlib.Core.List.{[]}
 use native.Mathlib.Omega.{arith}
 use lib.ListN.{take, replicate}
 use lib.Seq.{length-take-le}
@@ -51,7 +52,7 @@ returns c =
     let survival = ap₂ take n (c .before .before .before .before .before .survival-in .ensures) ∙ kept-survival bytes in
     let weights = ap₂ take n (c .before .before .before .before .weights-in .ensures) ∙ kept-weights bytes in
     let system = c .before .before .before .system-in .ensures in
-    c .weigh-lists .ensures ∙ (λ i. worthOf (askedOf (system i .rule) (system i .a) (system i .b) (survival i) (weights i)) fan (replicate cells 0))
+    c .weigh-lists .ensures ∙ (λ i. worthOf (askedOf (system i .rule) (system i .a) (system i .b) (survival i) (weights i) []) fan (replicate cells 0))
 
 pub weigh-in-spec : {M : Type 1} → statement M
 weigh-in-spec =

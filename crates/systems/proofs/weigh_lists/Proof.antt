@@ -10,6 +10,9 @@ use Rattle.systems.proofs.weigh_lists.Tie as tie
 slice-aggregate-refusal : tie.Need-slice-aggregate-refusal
 slice-aggregate-refusal c = search needs
 
+slice-aggregate-refusal-2 : tie.Need-slice-aggregate-refusal-2
+slice-aggregate-refusal-2 c = search needs
+
 refusal-requires : tie.Need-refusal-requires
 refusal-requires c κs = search needs
 
@@ -22,13 +25,16 @@ returns c =
 slice-aggregate-weigh : tie.Need-slice-aggregate-weigh
 slice-aggregate-weigh c = search needs
 
+slice-aggregate-weigh-2 : tie.Need-slice-aggregate-weigh-2
+slice-aggregate-weigh-2 c = search needs
+
 weigh-requires : tie.Need-weigh-requires
-weigh-requires c κs = sym (c .before .before .refusal .ensures) ∙ c .before .if1 .left
+weigh-requires c κs = sym (c .before .before .before .refusal .ensures) ∙ c .before .before .if1 .left
 
 returns-2 : tie.Need-returns-2
 unfolding worthOf
 returns-2 c =
-    let none = sym (c .before .before .before .before .refusal .ensures) ∙ c .before .before .before .if1 .left in
+    let none = sym (c .before .before .before .before .before .refusal .ensures) ∙ c .before .before .before .before .if1 .left in
     c .before .weigh .ensures .ends ∙ sym (unless-none _ _ _ none)
 
 pub weigh-lists-spec : {M : Type 1} → statement M
@@ -36,8 +42,10 @@ weigh-lists-spec =
     tie.close
     (tie.spec
     slice-aggregate-refusal
+    slice-aggregate-refusal-2
     refusal-requires
     returns
     slice-aggregate-weigh
+    slice-aggregate-weigh-2
     weigh-requires
     returns-2)

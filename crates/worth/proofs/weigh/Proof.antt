@@ -17,13 +17,13 @@ cast-rate-sure c = search needs
 
 rate-sure-requires : tie.Need-rate-sure-requires
 rate-sure-requires c κs =
-    let start = c .before .before .before .before in
+    let start = c .before .before .before .before .before in
     let fan = start .args .fan in
     record { accepted = accepted _ fan _ (start .pre); inside = chosen _ fan _ (start .pre); small = omega arith }
 
 rate-sure-requires-2 : tie.Need-rate-sure-requires-2
 rate-sure-requires-2 c κs =
-    let start = c .before .before .before .before .before .before .before .before in
+    let start = c .before .before .before .before .before .before .before .before .before in
     let fan = start .args .fan in
     record {
       accepted = second-accepted _ fan _ (start .pre) _ (c .before .before .before .rate-sure .ensures .kept);
@@ -33,7 +33,7 @@ rate-sure-requires-2 c κs =
 
 less-requires : tie.Need-less-requires
 less-requires c κs =
-    let start = c .before .before .before .before .before .before .before .before .before .before .before in
+    let start = c .before .before .before .before .before .before .before .before .before .before .before .before in
     let fan = start .args .fan in
     let works = c .before .before .before .before .before .before .rate-sure .ensures in
     let fails = c .before .before .rate-sure2 .ensures in
@@ -41,7 +41,7 @@ less-requires c κs =
 
 less-requires-2 : tie.Need-less-requires-2
 less-requires-2 c κs =
-    let start = c .before .before .before .before .before .before .before .before .before .before .before .before in
+    let start = c .before .before .before .before .before .before .before .before .before .before .before .before .before in
     let fan = start .args .fan in
     let works = c .before .before .before .before .before .before .before .rate-sure .ensures in
     let fails = c .before .before .before .rate-sure2 .ensures in
@@ -52,7 +52,7 @@ same-length c = search needs
 
 returns : tie.Need-returns
 returns c =
-    let start = c .before .before .before .before .before .before .before .before .before .before .before .before .before in
+    let start = c .before .before .before .before .before .before .before .before .before .before .before .before .before .before in
     let fan = start .args .fan in
     let works = c .before .before .before .before .before .before .before .before .rate-sure .ensures in
     let fails = c .before .before .before .before .rate-sure2 .ensures in

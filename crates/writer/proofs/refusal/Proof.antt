@@ -10,7 +10,7 @@ use borrow.Author.Tests.{lt-ltb, le-ltb, eqb-true, not-false}
 use Rattle.rules.specs.File.{mostFans, mostSystems}
 use Rattle.rules.specs.Refusal.{firstOf}
 use Rattle.rules.specs.Writing.{Typed, typedOf, bytesFor, unpaired, badFives, shortFor, writeRefusal}
-use Rattle.rules.proofs.Seven.{within-true}
+use Rattle.rules.proofs.EachKind.{within-true}
 use Rattle.rules.proofs.Accepted.{first-of, first-after}
 use Rattle.writer.proofs.Writable.{count, bytes-long, fives}
 use Rattle.writer.proofs.refusal.Statement.{statement}

@@ -1,0 +1,70 @@
+-- Document 02, request 05: the further pairs are kind 8's, "which the other kinds do not read". Under every kind but 8 the call leaves what it left before
+-- there were any, whatever they are: its refusals and its outcome stand here as they were. Assumes nothing.
+use mathlib.Core.Path.{_≡_, ap, _∙_}
+use mathlib.Core.Bool.{Bool, true, false, not, _&&_}
+use mathlib.Core.List.{List, [], _∷_}
+use Prim.Native.Nat.{ℕ, suc, _-_, _≤_}
+use native.Mathlib.Omega.{arith}
+use native.Mathlib.Decide.{decLe}
+use lib.Dec.{leb}
+use lib.ListN.{length}
+use borrow.Author.Tests.{le-leb, lt-leb}
+use Rattle.rules.specs.declared.Rule.{Rule}
+use Rattle.rules.specs.declared.Rating.{Rating}
+use Rattle.rules.specs.Below.{within}
+use Rattle.rules.specs.State.{S}
+use Rattle.rules.specs.Figure.{figure, low, high}
+use Rattle.rules.specs.Stretch.{stretch}
+use Rattle.rules.specs.Asked.{Asked, askedOf, readOf}
+use Rattle.rules.specs.Refusal.{firstOf, badKind, badSize, badStretch, aboveUnit, badWeights, inRange, shortTable, figuresRefusal}
+use Rattle.rules.specs.Answer.{Rates, tableAfter}
+use Rattle.rules.proofs.Accepted.{beside-weights}
+use Rattle.rules.proofs.Answer.{rates-same}
+use Rattle.figures.specs.Outcome.{Rated}
+
+-- "1: kind not 1..7"
+abbrev pub badKindBefore : Rule → Bool
+badKindBefore rule = not (within 1 (rule .kind) 7)
+
+unfoldable pub refusalBefore : Rule → (a b : ℕ) (survival weights table : List ℕ) → ℕ
+refusalBefore rule a b survival weights table =
+    firstOf
+    ((1, badKindBefore rule)
+    ∷ (2, badSize (length survival))
+    ∷ (3, badStretch a b (length survival))
+    ∷ (4, aboveUnit (stretch a b survival))
+    ∷ (5, badWeights rule (length survival) weights (stretch a b weights))
+    ∷ (6, not (inRange rule (suc b - a) (stretch a b weights)))
+    ∷ (7, shortTable table)
+    ∷ [])
+
+pub record RatedBefore (rule : Rule) (a b : ℕ) (survival weights t₀ t : List ℕ) (r : Rating) : Type 0 where
+  pub answer : Rates r (refusalBefore rule a b survival weights t₀) (low S rule (stretch a b survival) (stretch a b weights)) (high S rule (stretch a b survival) (stretch a b weights))
+  pub table : t ≡ tableAfter (refusalBefore rule a b survival weights t₀) t₀
+
+module _ (rule : Rule) (a b : ℕ) (survival weights more : List ℕ) (earlier : rule .kind ≡ 8 → ⊥) where
+  abbrev q : Asked
+  q = askedOf rule a b survival weights more
+
+  kind-same : badKind rule ≡ badKindBefore rule
+  kind-same = ap (λ x. not (leb 1 (rule .kind) && x)) (go (decLe (rule .kind) 7))
+    where
+      go : Dec (rule .kind ≤ 7) → leb (rule .kind) 8 ≡ leb (rule .kind) 7
+      go (yes l) = rw (le-leb (rule .kind) 8 (omega arith), le-leb (rule .kind) 7 l)
+      go (no l) = rw (lt-leb (rule .kind) 8 (omega (arith, earlier)), lt-leb (rule .kind) 7 (omega arith))
+
+  read-same : readOf q ≡ stretch a b weights
+  read-same = beside-weights rule (stretch a b weights) more earlier
+
+  refusal-same : (table : List ℕ) → figuresRefusal q table ≡ refusalBefore rule a b survival weights table
+  unfolding figuresRefusal refusalBefore
+  refusal-same table = rw (kind-same, read-same)
+
+  figure-same : (up : Bool) → figure up S rule (stretch a b survival) (readOf q) ≡ figure up S rule (stretch a b survival) (stretch a b weights)
+  figure-same up = rw read-same
+
+  pub rated-as-before : {t₀ t : List ℕ} {r : Rating} → Rated q t₀ t r → RatedBefore rule a b survival weights t₀ t r
+  rated-as-before {t₀} {t} {r} h = record {
+    answer = rates-same r (refusal-same t₀) (λ e. (figure-same false, figure-same true)) (h .answer);
+    table = h .table ∙ ap (λ x. tableAfter x t₀) (refusal-same t₀);
+  }
