@@ -49,7 +49,7 @@ def hold2():
 
 
 def hold3():
-    """64 worn fans on two decks of 32, with one rule that asks for more in a row than a pen has."""
+    """64 worn fans on two decks of 32, of which any 8 in a row must have 4 running; one rule asks for more in a row than a pen has."""
     fans = [parts(0.95) - 1000 * i for i in range(64)]
     return Deck(fans, [1] * 64, [
         System(Rule(1, 10, 0), 1, 64),
@@ -58,6 +58,7 @@ def hold3():
         System(Rule(5, 4, 0), 1, 64),
         System(Rule(6, 2, 6), 1, 64),
         System(Rule(4, 9, 0), 1, 8),
+        System(Rule(8, 4, 8), 1, 64),
     ])
 
 

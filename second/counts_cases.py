@@ -1,11 +1,11 @@
-"""Cases for the count table: kind, first, second, n, room, slots, seed, W, then the weights."""
+"""Cases for the count table: kind, first, second, n, room, slots, seed, W, then the weights; kind 8 has none, and its further pairs no place here."""
 
 import random
 from typing import NamedTuple
 
 import published
 from foambeetle import (
-    KINDS, MOST_WEIGHT, TABLE_CELLS, Refusal, Rule, count_slots_after, count_table, working_table_after,
+    MOST_WEIGHT, PAIRS_KIND, SEVEN_KINDS, TABLE_CELLS, Refusal, Rule, count_slots_after, count_table, working_table_after,
 )
 from samples import (
     all_rules, edge_rules, random_rule, random_weights, short_lines, spoil_rule, unread_weights, weights_for,
@@ -13,7 +13,7 @@ from samples import (
 )
 from words import checksum, rubbish
 
-ANSWERS_WANTED = {"counts"} | {f"refused {number}" for number in (1, 2, 5, 6, 7, 8)}
+ANSWERS_WANTED = {"counts"} | {f"refused {number}" for number in (1, 2, 5, 6, 7, 8, 15)}
 SEEDS = (0, 1, 2, 2 ** 32, 2 ** 63, 2 ** 64 - 1, 88172645463325252)
 MOST_SLOTS = 80
 
@@ -27,7 +27,7 @@ class Case(NamedTuple):
     weights: list
 
     def words(self):
-        return [*self.rule, self.n, self.room, self.slots, self.seed, len(self.weights), *self.weights]
+        return [*self.rule.numbers, self.n, self.room, self.slots, self.seed, len(self.weights), *self.weights]
 
     def line(self):
         answer = count_table(self.rule, self.n, self.weights, self.room, self.slots)
@@ -69,14 +69,14 @@ def small_cases(rng):
     for n in range(1, 6):
         for _ in range(2):
             weights = weights_of_total(rng, n, n + 2)
-            for rule in all_rules(n, sum(weights)):
+            for rule in all_rules(n, sum(weights), SEVEN_KINDS):
                 read = weights if rule.kind == 2 else unread_weights(rng)
                 yield Case(rule, n, *lent(rng, n), read)
 
 
 def long_cases(rng):
     """Rules of every kind for larger n, the ends of the range at n = 64 among them."""
-    for kind in KINDS:
+    for kind in SEVEN_KINDS:
         weights = weights_of_total(rng, 64, MOST_WEIGHT) if kind == 2 else []
         for rule in edge_rules(kind, 64, MOST_WEIGHT):
             yield Case(rule, 64, *lent(rng, 64), weights)
@@ -90,7 +90,7 @@ def rule_cases(rng):
     """Rules just out of range."""
     # document 01, 'Refusal numbers', row 6
     for n in (1, 2, 3, 5, 64):
-        for kind in KINDS:
+        for kind in SEVEN_KINDS:
             for rule in wrong_rules(kind, n, n + 1):
                 weights = weights_of_total(rng, n, n + 1) if kind == 2 else []
                 yield Case(rule, n, *lent(rng, n), weights)
@@ -118,7 +118,7 @@ def refused_cases(rng):
     """One, two or three things wrong at once, so that the lowest number must win."""
     for _ in range(360):
         n = rng.choice((1, 2, 3, 5, 7, 12))
-        kind = rng.choice(KINDS)
+        kind = rng.choice(SEVEN_KINDS)
         weights = random_weights(rng, n) if kind == 2 else unread_weights(rng)
         rule = random_rule(rng, kind, n, sum(weights)) or Rule(1, 1, 0)
         case = Case(rule, n, *lent(rng, n), weights)
@@ -133,7 +133,17 @@ def short_line_cases(rng):
         yield Case(rule, n, *lent(rng, n), unread_weights(rng))
 
 
+def pair_cases(rng):
+    """Kind 8, which has no count table: whatever its pair and n, and before any other refusal but 1; kind 9 is no kind."""
+    # document 02, request 05: "15 for a kind 8 count table, right after 1"
+    for kind in (PAIRS_KIND, PAIRS_KIND + 1):
+        for n in (0, 1, 2, 10, 11, 64, 65, 2 ** 64 - 1):
+            for first, second in ((1, 1), (2, 5), (1, 11), (0, 0), (2 ** 64 - 1, 1)):
+                yield Case(Rule(kind, first, second), n, *lent(rng, min(n, 64)), unread_weights(rng))
+        yield from (Case(Rule(kind, 1, 1), 3, room, slots, rng.choice(SEEDS), []) for room in (0, TABLE_CELLS - 1, TABLE_CELLS) for slots in (0, 3, 4))
+
+
 def make_cases():
     rng = random.Random(202)
     return [*published_cases(), *run_only_cases(rng), *small_cases(rng), *long_cases(rng),
-            *rule_cases(rng), *slot_cases(rng), *refused_cases(rng), *short_line_cases(rng)]
+            *rule_cases(rng), *slot_cases(rng), *refused_cases(rng), *short_line_cases(rng), *pair_cases(rng)]

@@ -1,18 +1,20 @@
 """Cases for the figures of a stretch; a whole list is its stretch 1 to n.
 
 Words of a case: call (0 the figures, 1 the worth of a fan), kind, first, second, a, b, fan (0 for the figures), room, seed, N, the survival
-numbers, W, the weights. second/worth_cases.py has the cases of call 1, which stand behind these in the same file.
+numbers, W, the weights, M, the numbers of further pairs. second/worth_cases.py has the cases of call 1, which stand behind these in the same file.
 """
 
 import random
 from typing import NamedTuple
 
 import published
-from foambeetle import KINDS, MOST_WEIGHT, TABLE_CELLS, UNIT, Refusal, Rule, figures, working_table_after
+from foambeetle import (
+    LONGEST_WINDOW, MOST_PAIRS, MOST_WEIGHT, PAIRS_KIND, SEVEN_KINDS, TABLE_CELLS, UNIT, Refusal, Rule, figures, working_table_after,
+)
 from samples import (
-    EDGE_SURVIVALS, HUGE, OVER_UNIT, all_rules, edge_rules, random_rule, random_stretch,
-    random_survivals, random_weights, rules_in_range, short_lines, unread_weights, weights_for, weights_of_total,
-    wrong_rules,
+    EDGE_SURVIVALS, HUGE, OVER_UNIT, all_rules, edge_rules, far_too_many_pairs, random_pairs, random_rule, random_stretch, random_survivals,
+    random_weights, rules_in_range, short_lines, two_windows, unread_more, unread_weights, weights_for, weights_of_total, wrong_further_pairs,
+    wrong_numbers_of_pairs, wrong_rules,
 )
 from words import checksum, rubbish
 
@@ -31,8 +33,8 @@ class Case(NamedTuple):
     weights: list
 
     def words(self, call=FIGURES, fan=0):
-        return [call, *self.rule, self.a, self.b, fan, self.room, self.seed,
-                len(self.survivals), *self.survivals, len(self.weights), *self.weights]
+        return [call, *self.rule.numbers, self.a, self.b, fan, self.room, self.seed,
+                len(self.survivals), *self.survivals, len(self.weights), *self.weights, len(self.rule.more), *self.rule.more]
 
     def answer(self):
         return figures(self.rule, self.a, self.b, self.survivals, self.weights, self.room)
@@ -69,7 +71,7 @@ def small_cases(rng):
     for n in range(1, 7):
         for _ in range(4 if n < 5 else 2):
             weights = weights_of_total(rng, n, n + 1)
-            for rule in all_rules(n, sum(weights)):
+            for rule in all_rules(n, sum(weights), SEVEN_KINDS):
                 read = weights if rule.kind == 2 else unread_weights(rng)
                 yield whole(rng, rule, random_survivals(rng, n), read)
 
@@ -77,7 +79,7 @@ def small_cases(rng):
 def alike_cases(rng):
     """All survival numbers at one edge of their range, and S + 1 beside them."""
     for survival in EDGE_SURVIVALS + OVER_UNIT:
-        for kind in KINDS:
+        for kind in SEVEN_KINDS:
             for n in (2, 3, 5, 9):
                 weights = [1] * n if kind == 2 else []
                 yield whole(rng, random_rule(rng, kind, n, n), [survival] * n, weights)
@@ -85,7 +87,7 @@ def alike_cases(rng):
 
 def every_length_cases(rng):
     for n in range(1, 65):
-        for kind in rng.sample(KINDS, 2):
+        for kind in rng.sample(SEVEN_KINDS, 2):
             weights = weights_for(rng, kind, n)
             rule = random_rule(rng, kind, n, sum(weights)) or Rule(5, 1, 0)
             yield whole(rng, rule, random_survivals(rng, n), weights)
@@ -93,7 +95,7 @@ def every_length_cases(rng):
 
 def long_cases(rng):
     """Random rules for larger n, and the ends of the range for n = 63 and 64."""
-    for kind in KINDS:
+    for kind in SEVEN_KINDS:
         for place in range(24):
             n = rng.randint(7, 64) if place % 3 == 0 else rng.randint(7, 24)
             weights = weights_for(rng, kind, n)
@@ -106,7 +108,7 @@ def long_cases(rng):
 
 def sound_fan_cases(rng):
     """Lists of 64 sound fans, where low and high stand well inside the range."""
-    for kind in KINDS:
+    for kind in SEVEN_KINDS:
         weights = weights_of_total(rng, 64, MOST_WEIGHT) if kind == 2 else []
         rules = rules_in_range(kind, 64, MOST_WEIGHT)
         for rule in (rules[0], rules[1], rules[3], rng.choice(rules)):
@@ -130,7 +132,7 @@ def stretch_case(rng, n):
     """A stretch of a list of n fans; what stands outside must not be read."""
     # document 01, 'Stretches': "Components and weights outside it are not read"
     a, b = random_stretch(rng, n)
-    kind = rng.choice(KINDS)
+    kind = rng.choice(SEVEN_KINDS)
     survivals = random_survivals(rng, n)
     weights = random_weights(rng, n) if kind == 2 else unread_weights(rng)
     rule = random_rule(rng, kind, b - a + 1, sum(weights[a - 1:b])) or Rule(4, 1, 0)
@@ -151,7 +153,7 @@ def rule_cases(rng):
     """Rules just out of range, for a whole list and for a stretch of a longer one."""
     # document 01, 'Refusal numbers', row 6: "a stretch uses its own length"
     for n in (1, 2, 3, 5):
-        for kind in KINDS:
+        for kind in SEVEN_KINDS:
             weights = weights_of_total(rng, n, n + 1)
             for rule in wrong_rules(kind, n, n + 1):
                 yield whole(rng, rule, random_survivals(rng, n), weights)
@@ -168,7 +170,7 @@ def between_others(case):
 def room_cases(rng):
     """Working tables of no cells, one too few, just enough and more."""
     # document 01, 'Refusal numbers', row 7
-    for kind in KINDS:
+    for kind in SEVEN_KINDS:
         weights = weights_of_total(rng, 4, 6) if kind == 2 else []
         for room in (0, TABLE_CELLS - 1, TABLE_CELLS, 8000):
             case = whole(rng, random_rule(rng, kind, 4, 6), random_survivals(rng, 4), weights)
@@ -237,7 +239,7 @@ def refused_cases(rng):
         n = rng.choice((1, 2, 3, 5, 7, 10))
         inside = rng.random() < 0.6
         a, b = random_stretch(rng, n) if inside else (1, n)
-        kind = rng.choice(KINDS)
+        kind = rng.choice(SEVEN_KINDS)
         weights = random_weights(rng, n) if kind == 2 else unread_weights(rng)
         rule = random_rule(rng, kind, b - a + 1, sum(weights[a - 1:b])) or Rule(1, 1, 0)
         case = part(rng, rule, a, b, random_survivals(rng, n), weights)
@@ -256,9 +258,89 @@ def short_line_cases(rng):
     yield part(rng, Rule(6, 2, 4), 2, 4, [UNIT // 2] * 5, [])
 
 
+def single_pair_cases(rng):
+    """Every single pair for n up to 8; for n = 64 those of the longest window, and for n = 10 too, as long as the line."""
+    for n in range(1, 9):
+        for rule in rules_in_range(PAIRS_KIND, n, 0):
+            yield whole(rng, rule, random_survivals(rng, n), unread_weights(rng))
+    for n in (LONGEST_WINDOW, 64):
+        for k in range(1, LONGEST_WINDOW + 1):
+            yield whole(rng, Rule(PAIRS_KIND, k, LONGEST_WINDOW), [rng.randrange(UNIT + 1) for _ in range(n)], [])
+
+
+def many_pair_cases(rng):
+    """Two to four pairs, some given twice, over short lists and a few long ones; the decks' own rule."""
+    for count in range(2, MOST_PAIRS + 1):
+        for n in (*range(1, 13), rng.randint(13, 62), 63, 64):
+            yield whole(rng, random_pairs(rng, n, count), random_survivals(rng, n), [])
+    for n in (8, 9, 64):
+        yield whole(rng, two_windows(), [UNIT - rng.randrange(UNIT // 4) for _ in range(n)], [])
+
+
+def pair_edge_cases(rng):
+    """All survival numbers at one edge of their range, and above it; working tables too short, just enough and longer."""
+    for survival in EDGE_SURVIVALS + OVER_UNIT:
+        yield whole(rng, random_pairs(rng, 9, rng.randint(1, MOST_PAIRS)), [survival] * 9, [])
+    for room in (0, TABLE_CELLS - 1, TABLE_CELLS, 8000):
+        yield whole(rng, random_pairs(rng, 5, 2), random_survivals(rng, 5), [])._replace(room=room)
+
+
+def pair_stretch_cases(rng):
+    """Stretches, whose length the windows may not pass, in lists whose other fans are not read."""
+    for _ in range(40):
+        n = rng.randint(2, 12)
+        a, b = random_stretch(rng, n)
+        size = b - a + 1
+        rule = random_pairs(rng, size, rng.randint(1, MOST_PAIRS))
+        if rng.random() < 0.3:
+            rule = rule._replace(second=size + 1)
+        survivals = [survival if a <= fan <= b else rng.choice(OVER_UNIT) for fan, survival in enumerate(random_survivals(rng, n), 1)]
+        yield part(rng, rule, a, b, survivals, unread_weights(rng))
+
+
+def wrong_pair_cases(rng):
+    """Pairs out of range, first or further; too many pairs, and half a pair."""
+    for n in (1, 4, 11):
+        for rule in (*wrong_rules(PAIRS_KIND, n, 0), *wrong_further_pairs(rng, n), *wrong_numbers_of_pairs(rng, n)):
+            yield whole(rng, rule, random_survivals(rng, n), [])
+    yield whole(rng, far_too_many_pairs(), random_survivals(rng, 3), [])
+
+
+def refused_pair_case(rng, damages):
+    """A stretch under pairs, with so many things wrong as are listed."""
+    n = rng.choice((1, 2, 3, 5, 7, 10))
+    a, b = random_stretch(rng, n)
+    case = part(rng, random_pairs(rng, b - a + 1, rng.randint(1, MOST_PAIRS)), a, b, random_survivals(rng, n), unread_weights(rng))
+    for damage in damages:
+        case = spoil(rng, case, damage)
+    return case
+
+
+def refused_pair_cases(rng):
+    """One, two or three things wrong at once, under pairs."""
+    for _ in range(90):
+        yield refused_pair_case(rng, sorted(rng.sample((1, 2, 3, 4, 6, 7), rng.choice((1, 1, 2, 3))), reverse=True))
+
+
+def unread_more_case(rng, kind, n):
+    """Numbers beside a rule of another kind, which are not read."""
+    weights = weights_for(rng, kind, n)
+    rule = (random_rule(rng, kind, n, sum(weights)) or Rule(1, 1, 0))._replace(more=unread_more(rng))
+    return whole(rng, rule, random_survivals(rng, n), weights)
+
+
+def unread_more_cases(rng):
+    """The same for every kind; kind 9 is none, whatever stands beside it."""
+    for kind in SEVEN_KINDS:
+        yield from (unread_more_case(rng, kind, n) for n in (2, 5, 9))
+    for n in (0, 1, 3, 65):
+        yield from (whole(rng, Rule(9, 1, 1, more), [1] * n, []) for more in ((), unread_more(rng)))
+
+
 def make_cases():
     rng = random.Random(303)
     makers = (small_cases, alike_cases, every_length_cases, long_cases, sound_fan_cases, weight_cases,
               stretch_cases, rule_cases, room_cases, wrong_stretch_cases, survival_cases, length_cases,
-              refused_cases, short_line_cases)
+              refused_cases, short_line_cases, single_pair_cases, many_pair_cases, pair_edge_cases, pair_stretch_cases, wrong_pair_cases,
+              refused_pair_cases, unread_more_cases)
     return [*published_cases(), *(case for maker in makers for case in maker(rng))]

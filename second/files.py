@@ -23,12 +23,12 @@ def spoilt_system(rng, n, system):
     length = b - a + 1
     manner = rng.randrange(3)
     if manner == 0:
-        return System(rule._replace(kind=rng.choice((0, 8, 9, 65535))), a, b)
+        return System(rule._replace(kind=rng.choice((0, 9, 10, 65535))), a, b)
     if manner == 1:
         return System(rule, *rng.choice(((0, b), (b, b - 1), (a, n + 1), (65535, 65535), (0, 0))))
     wrong = rng.choice((
         rule._replace(first=rng.choice((0, length + 1, 121, 65535))),
-        rule._replace(second=rng.choice((1, length + 1, 65535))),
+        rule._replace(second=rng.choice((1, 11, length + 1, 65535))),
     ))
     return System(wrong, a, b)
 

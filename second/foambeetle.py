@@ -18,15 +18,32 @@ TABLE_CELLS = 7800  # document 01, 'Refusal numbers', row 7
 MOST_SYSTEMS = 32  # document 01, 'Refusal numbers', row 12
 HEADER_BYTES = 20  # document 01, 'Deck file and printing'
 SYSTEM_NUMBERS = 5  # document 01, 'Deck file and printing': "kind, first, second, a, b"
-KINDS = range(1, 8)  # document 01, 'Refusal numbers', row 1
+SEVEN_KINDS = range(1, 8)  # document 01, 'The seven verdicts'
+PAIRS_KIND = 8  # document 02, request 05: "Add kind 8"
+KINDS = (*SEVEN_KINDS, PAIRS_KIND)  # document 02, request 05: "1 for kinds not 1..8"
+LONGEST_WINDOW = 10  # document 02, request 05: "1 <= k <= r <= 10"
+MOST_PAIRS = 4  # document 02, request 05: "one to four pairs (k, r)"
 WORKS = "works"
 DEAD = "dead"
 
 
 class Rule(NamedTuple):
+    """The rule's three numbers, and those of kind 8's further pairs, which the calls take beside it and no deck file carries."""
+
     kind: int
     first: int
     second: int
+    more: tuple = ()
+
+    @property
+    def numbers(self):
+        return self.kind, self.first, self.second
+
+    @property
+    def pairs(self):
+        # document 02, request 05: "one to four pairs (k, r)"; the first is (first, second)
+        every = (self.first, self.second, *self.more)
+        return list(zip(every[::2], every[1::2]))
 
 
 class Refusal(NamedTuple):
@@ -93,6 +110,12 @@ def two_near(r, state):
     return any(later - earlier < r for earlier, later in combinations(failed, 2))
 
 
+def lacking_starts(pairs, n, state):
+    """The starts of windows that hold fewer working ones than their pair asks for."""
+    # document 02, request 05: "failing exactly if some r in a row hold fewer than k working"
+    return [start for k, r in pairs for start, window in enumerate(line_windows(n, r), 1) if r - (state & window).bit_count() < k]
+
+
 def fails(rule, n, state, weights):
     # document 01, 'The seven verdicts': "the system fails exactly if"
     if rule.kind == 1:
@@ -103,6 +126,8 @@ def fails(rule, n, state, weights):
         return rule.first <= state.bit_count() <= rule.second
     if rule.kind == 6:
         return two_near(rule.second, state)
+    if rule.kind == PAIRS_KIND:
+        return bool(lacking_starts(rule.pairs, n, state))
     windows, least = window_rule(rule, n)
     return any((state & window).bit_count() >= least for window in windows)
 
@@ -113,6 +138,9 @@ def place(rule, n, state):
         return 0
     if rule.kind == 6 and n <= rule.second:
         return 1  # "a kind 6 line no longer than r starts at 1"
+    if rule.kind == PAIRS_KIND:
+        # document 02, request 05: "A failing verdict names the lowest start of any failing window"
+        return min(lacking_starts(rule.pairs, n, state))
     windows, least = window_rule(rule, n)
     return next(component for component, window in enumerate(windows, 1) if (state & window).bit_count() >= least)
 
@@ -192,10 +220,28 @@ ROWS = {
 }
 
 
+def pairs_row(pairs):
+    """Kind 8's row; a state is 1 where the component has failed, the last one read last."""
+    # document 02, request 05: "The memory is the states of the last components, as many as the longest window less one, all working at the start;
+    # too few working in a window is dead, the end works"
+    kept = max(r for _, r in pairs) - 1
+
+    @lru_cache(maxsize=None)
+    def after(memory, state):
+        states = (*memory, state)
+        return DEAD if any(states[-r:].count(0) < k for k, r in pairs) else states[1:]
+
+    return Row((0,) * kept, lambda rule, m: after(m, 0), lambda rule, m, weight: after(m, 1), always)
+
+
+def row_of(rule):
+    return pairs_row(rule.pairs) if rule.kind == PAIRS_KIND else ROWS[rule.kind]
+
+
 def read(rule, n, weights, end_value, step):
     """Value at the start with all n left; step joins the values after working and failed."""
     # document 01, 'The memory of a reading': "reading the components from n down to 1"
-    row = ROWS[rule.kind]
+    row = row_of(rule)
 
     @lru_cache(maxsize=None)
     def value(left, memory):
@@ -335,7 +381,7 @@ def ring_apart_count(n, failed, r):
 def counts_by_choice(rule, n, weights):
     """The count table by counting choices of failed ones, for any n."""
     # document 01, 'The seven verdicts': one counting argument from each row of the table
-    kind, first, second = rule
+    kind, first, second = rule.numbers
     if kind == 2:
         return light_choices(n, weights, first)
     entry = {
@@ -360,8 +406,13 @@ def counts_by_reading(rule, n, weights):
 
 
 def bad_kind(rule):
-    # document 01, 'Refusal numbers', row 1
+    # document 01, 'Refusal numbers', row 1; document 02, request 05: "1 for kinds not 1..8"
     return rule.kind not in KINDS
+
+
+def not_counted(rule):
+    # document 02, request 05: "15 for a kind 8 count table, right after 1"
+    return rule.kind == PAIRS_KIND
 
 
 def bad_length(n):
@@ -384,9 +435,18 @@ def bad_weights(rule, n, weights, rated):
     return rule.kind == 2 and (len(weights) != n or sum(rated) > MOST_WEIGHT)
 
 
+def bad_pairs(rule, n):
+    # document 02, request 05: "6 for a bad pair or number of pairs"; a number left over is half a pair
+    if len(rule.more) % 2 or len(rule.pairs) > MOST_PAIRS:
+        return True
+    return not all(1 <= k <= r <= min(n, LONGEST_WINDOW) for k, r in rule.pairs)
+
+
 def bad_rule(rule, n, rated_weights):
     # document 01, 'Refusal numbers', row 6, with the ranges of 'The seven verdicts'; kind 6 as document 02, request 03, mends it
-    kind, first, second = rule
+    kind, first, second = rule.numbers
+    if kind == PAIRS_KIND:
+        return bad_pairs(rule, n)
     if kind == 3:
         return not 0 <= first <= second <= n
     if kind in (6, 7):
@@ -396,9 +456,7 @@ def bad_rule(rule, n, rated_weights):
 
 
 def rule_refusal(rule, n, weights):
-    # document 01, 'Refusal numbers': 1, 2, 5, 6, with which the verdict and the count table begin
-    if bad_kind(rule):
-        return 1
+    # document 01, 'Refusal numbers': 2, 5, 6, which the verdict and the count table share
     if bad_length(n):
         return 2
     if bad_weights(rule, n, weights, weights):
@@ -408,11 +466,17 @@ def rule_refusal(rule, n, weights):
 
 def verdict_refusal(rule, n, state, weights):
     # document 01, 'Refusal numbers': "The verdict checks 1, 2, 5, 6, 9"
+    if bad_kind(rule):
+        return 1
     return rule_refusal(rule, n, weights) or (9 if state >> n else None)
 
 
 def count_refusal(rule, n, weights, room, slots):
-    # document 01, 'Refusal numbers': "the count table 1, 2, 5, 6, 7, 8"
+    # document 01, 'Refusal numbers': "the count table 1, 2, 5, 6, 7, 8"; document 02, request 05: 15 "right after 1"
+    if bad_kind(rule):
+        return 1
+    if not_counted(rule):
+        return 15
     first = rule_refusal(rule, n, weights)
     if first:
         return first
@@ -570,7 +634,7 @@ def deck_bytes(deck):
 
 def system_numbers(systems):
     # document 01, 'Deck file and printing': "kind, first, second, a, b", one system after the other
-    return [number for system in systems for number in (*system.rule, system.a, system.b)]
+    return [number for system in systems for number in (*system.rule.numbers, system.a, system.b)]
 
 
 def listed_systems(numbers):

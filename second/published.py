@@ -1,15 +1,16 @@
-"""Every figure for kinds 1 to 7 that a document prints, with the place where it stands, and what agreeing with it means.
+"""Every figure for kinds 1 to 8 that a document prints, with the place where it stands, and what agreeing with it means.
 
 The case files begin with these, so that the proved programs run them; tests/published.py holds the stored answers to what is printed here.
-docs/SOURCES.md says what the documents are. Document 002's other tables are of wider windows (kind 8) or of running times, document 003's
-table and figures of wider windows; document 000 prints no number beside its equations 2 to 7, which are worked below.
+docs/SOURCES.md says what the documents are. Document 002's other tables are of windows wider than kind 8's, of bounds or of running times, and
+document 003's figures are drawings; document 000 prints no number beside its equations 2 to 7, which are worked below.
 """
 
 from fractions import Fraction
 from typing import Any, NamedTuple
 
-from foambeetle import MOST_FANS, UNIT, WORKS, Fails, Refusal, Rule
+from foambeetle import MOST_FANS, PAIRS_KIND, UNIT, WORKS, Fails, Refusal, Rule
 
+HALF = UNIT // 2
 ACCEPTED = "accepted"  # the document says no more than that it is no refusal
 FAILING = "failing"  # document 01 prints no place
 
@@ -25,7 +26,7 @@ class Count(NamedTuple):
 
 
 class Rated(NamedTuple):
-    """Printed: low and high, or an exact chance of working, or a Failing."""
+    """Printed: low and high, or an exact chance of working, or a Failing, a Misprint or a Percent."""
 
     where: str
     rule: Rule
@@ -51,6 +52,25 @@ class Failing(NamedTuple):
     text: str
 
 
+class Misprint(NamedTuple):
+    """A chance of failing that is printed wrong, and what it should read (docs/DECISIONS.md, 'Published figures')."""
+
+    text: str
+    right: str
+
+
+class Percent(NamedTuple):
+    """A chance of working in percent, as it is printed."""
+
+    text: str
+
+
+def rounds_to(number, text):
+    """Does the number, to as many digits after the point as the text has, read so?"""
+    scale = 10 ** len(text.partition(".")[2])
+    return round(number * scale) == Fraction(text) * scale
+
+
 def agrees(answer, printed):
     """Is the answer what is printed?"""
     if printed == ACCEPTED:
@@ -64,8 +84,11 @@ def agrees(answer, printed):
     if isinstance(printed, Fraction):
         return all(Fraction(end, UNIT) == printed for end in answer)
     if isinstance(printed, Failing):
-        digits = len(printed.text.partition(".")[2])
-        return all(round((1 - Fraction(end, UNIT)) * 10 ** digits) == Fraction(printed.text) * 10 ** digits for end in answer)
+        return all(rounds_to(1 - Fraction(end, UNIT), printed.text) for end in answer)
+    if isinstance(printed, Misprint):
+        return agrees(answer, Failing(printed.right)) and not agrees(answer, Failing(printed.text))
+    if isinstance(printed, Percent):
+        return all(rounds_to(100 * Fraction(end, UNIT), printed.text) for end in answer)
     return answer == printed
 
 
@@ -86,6 +109,49 @@ def table_1():
             survival = round(Fraction(10 - tenths, 10) * UNIT)
             yield Rated(f"document 002, table 1, l = {low}, h = {high}, n = {n}, p = 0.{tenths}",
                         Rule(3, low, high), [survival] * n, [], Failing(text))
+
+
+# Section 4.2, table 4: n, r, k, Q and what the BDD's row prints under F, the chance that some r in a row hold k failed ones or more, which is fewer
+# than r - k + 1 working. The rows of r = 12, 35 and 40 have windows wider than kind 8's; the other methods' rows print bounds and estimates.
+TABLE_4 = (
+    (15, 10, 4, Fraction(1, 4), Failing("0.394538")),
+    (15, 7, 5, Fraction(1, 4), Failing("0.0570453")),
+    (30, 6, 3, Fraction(1, 10), Misprint("0.1514353", "0.1514351")),
+    (40, 7, 4, Fraction(1, 10), Failing("0.0421106")),
+)
+
+# Of the misprinted row, the working states by number failed: all 2^30 states were gone through, and each was judged by its 25 windows.
+WORKING_STATES_OF_30 = (1, 30, 435, 3800, 21615, 81054, 196085, 285804, 221496, 69420, 5292)
+
+
+def in_window(r, failed):
+    """Kind 8's rule for so many failed ones in r in a row."""
+    return Rule(PAIRS_KIND, r - failed + 1, r)
+
+
+def table_4():
+    for n, r, k, failure, printed in TABLE_4:
+        yield Rated(f"document 002, table 4, n = {n}, r = {r}, k = {k}, Q = {float(failure)}",
+                    in_window(r, k), [round((1 - failure) * UNIT)] * n, [], printed)
+
+
+# ---- document 003 ------------------------------------------------------------
+
+# Section 5, table 1: of the (1, 2, 3)-out-of-(5, 7, 8)-from-n system with p = 0.8, n, the rows of U_p, each of which is a working state, and the
+# system's reliability in percent.
+WINDOWS = Rule(PAIRS_KIND, 1, 5, (2, 7, 3, 8))
+WINDOWS_TABLE = (
+    (9, 410, "99.736"), (10, 784, "99.663"), (11, 1501, "99.591"), (12, 2875, "99.519"), (13, 5506, "99.448"), (14, 10537, "99.376"),
+    (15, 20148, "99.305"), (16, 38491, "99.234"), (17, 73556, "99.162"),
+)
+
+
+def windows_table():
+    for n, states, reliability in WINDOWS_TABLE:
+        where = f"document 003, table 1, n = {n}"
+        yield Rated(where, WINDOWS, [round(Fraction(8, 10) * UNIT)] * n, [], Percent(reliability))
+        # with every fan as likely to last as not, each working state counts alike
+        yield Rated(f"{where}, rows of U_p", WINDOWS, [HALF] * n, [], Fraction(states, 2 ** n))
 
 
 # ---- document 000 ------------------------------------------------------------
@@ -114,7 +180,6 @@ def equations_2_to_7():
 EXAMPLES = "document 01, 'Proved examples', "
 RUN_ONLY = EXAMPLES + "run only"
 TRAPS = "document 01, 'Traps on this deck', "
-HALF = UNIT // 2
 MANY = (2, 3, 8, 64)  # lengths for "r = n"; kinds 6 and 7 have no rule for a single component
 
 COUNTED_EXAMPLES = [
@@ -179,6 +244,8 @@ FIGURES = [
     *RATED_TRAPS,
     *RATED_EXAMPLES,
     *refused_or_accepted(lambda what, rule, n, weights, printed: Rated(f"{RUN_ONLY}: {what}", rule, [HALF] * n, weights, printed)),
+    *table_4(),
+    *windows_table(),
 ]
 
 VERDICTS = [

@@ -2,7 +2,7 @@
 
 from collections.abc import Sequence
 
-from foambeetle import KINDS, MOST_FANS, MOST_WEIGHT, UNIT, Rule
+from foambeetle import KINDS, LONGEST_WINDOW, MOST_FANS, MOST_PAIRS, MOST_WEIGHT, PAIRS_KIND, UNIT, Rule
 
 HUGE = (2 ** 16, 2 ** 32, 2 ** 63, 2 ** 64 - 1)
 OVER_UNIT = (UNIT + 1, 2 ** 31, 2 ** 32 - 1)
@@ -27,8 +27,11 @@ class Rules(Sequence):
 
 
 def rules_in_range(kind, n, total):
-    """Every rule of the kind that n components of this total weight accept, of kind 6 with a window no longer than the line."""
+    """Every rule of the kind that n components of this total weight accept, of kind 6 with a window no longer than the line, of kind 8 with one
+    pair."""
     # document 01, 'The seven verdicts', column "range"
+    if kind == PAIRS_KIND:
+        return [Rule(kind, k, r) for r in range(1, min(n, LONGEST_WINDOW) + 1) for k in range(1, r + 1)]
     if kind == 3:
         return [Rule(3, low, high) for high in range(n + 1) for low in range(high + 1)]
     if kind in (6, 7):
@@ -43,13 +46,16 @@ def longer_windows(n):
     return [Rule(6, 2, r) for r in range(max(n + 1, 2), MOST_FANS + 1)]
 
 
-def all_rules(n, total):
-    return [rule for kind in KINDS for rule in rules_in_range(kind, n, total)]
+def all_rules(n, total, kinds=KINDS):
+    return [rule for kind in kinds for rule in rules_in_range(kind, n, total)]
 
 
 def edge_rules(kind, n, total):
     """Rules at the ends of the range, and where a ring's windows begin to overlap."""
-    if kind == 3:
+    if kind == PAIRS_KIND:
+        longest = min(n, LONGEST_WINDOW)
+        pairs = ((1, 1), (1, 2), (2, 2), (1, longest), (longest // 2, longest), (longest - 1, longest), (longest, longest))
+    elif kind == 3:
         pairs = ((0, n), (0, 0), (n, n), (1, n), (0, n - 1), (n // 2, n // 2))
     elif kind in (6, 7):
         pairs = ((2, 2), (2, 3), (2, n // 2), (2, n // 2 + 1), (2, n - 1), (2, n))
@@ -63,7 +69,9 @@ def edge_rules(kind, n, total):
 def wrong_rules(kind, n, total):
     """Rules just out of range for the kind, n and total weight; of kind 6 one that request 03 let in."""
     # document 01, 'Refusal numbers', row 6
-    if kind == 3:
+    if kind == PAIRS_KIND:
+        pairs = wrong_pairs(n)
+    elif kind == 3:
         pairs = ((0, n + 1), (n + 1, n + 1), (n, n - 1), (1, 0), (n + 1, 0))
     elif kind in (6, 7):
         pairs = ((2, n + 1), (2, 1), (2, 0), (1, n), (3, n), (0, 2))
@@ -71,6 +79,14 @@ def wrong_rules(kind, n, total):
         most = total if kind == 2 else n
         pairs = ((0, 0), (most + 1, 0), (1, 1), (most, 2 ** 32), (0, 1))
     return [Rule(kind, *pair) for pair in pairs]
+
+
+def wrong_pairs(n):
+    """Pairs just out of range, and far out of it."""
+    # document 02, request 05: "1 <= k <= r <= 10 and r at most n"
+    longest = min(n, LONGEST_WINDOW)
+    return ((0, 0), (0, 1), (0, longest), (2, 1), (longest + 1, longest), (1, n + 1), (n + 1, n + 1), (1, LONGEST_WINDOW + 1),
+            (LONGEST_WINDOW + 1, LONGEST_WINDOW + 1), (1, 2 ** 64 - 1), (2 ** 64 - 1, 1), (2 ** 32 + 1, 2 ** 32 + 1), (1, 2 ** 63))
 
 
 def short_lines():
@@ -88,6 +104,51 @@ def random_rule(rng, kind, n, total):
     """A rule in range, at an end of it one time in three; None where the range is empty."""
     rules = edge_rules(kind, n, total) if rng.random() < 0.34 else rules_in_range(kind, n, total)
     return rng.choice(rules) if rules else None
+
+
+def random_pairs(rng, n, count):
+    """Kind 8 with so many pairs in range; now and then one of them is given twice."""
+    rules = [random_rule(rng, PAIRS_KIND, n, 0) for _ in range(count)]
+    if count > 1 and rng.random() < 0.2:
+        rules[-1] = rng.choice(rules[:-1])
+    more = tuple(number for rule in rules[1:] for number in (rule.first, rule.second))
+    return rules[0]._replace(more=more)
+
+
+def two_windows():
+    """The decks' own rule."""
+    # document 02, request 05: "any 5 fans, at least 2 running, and any 8, at least 4 running"
+    return Rule(PAIRS_KIND, 2, 5, (4, 8))
+
+
+def wrong_numbers_of_pairs(rng, n):
+    """Pairs in range, and too many of them or a number left over."""
+    # document 02, request 05: "6 for a bad pair or number of pairs"
+    for count in range(1, MOST_PAIRS + 3):
+        rule = random_pairs(rng, n, count)
+        if count > MOST_PAIRS:
+            yield rule
+        yield rule._replace(more=(*rule.more, rng.choice((0, 1))))
+
+
+def far_too_many_pairs():
+    """As many further numbers as a case can have, which would be none if their number were cut to 8 bits."""
+    return Rule(PAIRS_KIND, 1, 1, (1, 1) * 128)
+
+
+def wrong_further_pairs(rng, n):
+    """Pairs in range but for one further pair, in each of its places."""
+    for pair in wrong_pairs(n):
+        count = rng.randint(2, MOST_PAIRS)
+        more = list(random_pairs(rng, n, count).more)
+        at = 2 * rng.randrange(count - 1)
+        more[at:at + 2] = pair
+        yield random_rule(rng, PAIRS_KIND, n, 0)._replace(more=tuple(more))
+
+
+def unread_more(rng):
+    """What the kinds that have no pairs are given beside the rule: any length, any size."""
+    return tuple(rng.choice((0, 1, 2, 11, *HUGE)) for _ in range(rng.choice((1, 2, 3, 6, 7, 8, 9))))
 
 
 def random_stretch(rng, n):
@@ -139,7 +200,7 @@ def weights_for(rng, kind, n):
 
 
 def spoil_rule(rng, case, damage, sizes):
-    """The case with its kind (1), its n (2), its weights (5) or a number of its rule (6) made wrong."""
+    """The case with its kind (1), its n (2), its weights (5) or a number of its rule (6) made wrong; as kind 8 it has a rule of another kind."""
     rule, n = case.rule, case.n
     if damage == 1:
         return case._replace(rule=rule._replace(kind=rng.choice((0, 8, 9, 255) + HUGE)))

@@ -13,26 +13,30 @@ import sources
 import words
 from files import DAMAGES, random_deck, random_files
 from foambeetle import (
-    DEAD, KINDS, ROWS, TABLE_CELLS, UNIT, WORKS, Deck, Fails, Refusal, Rule, System, bad_rule,
+    DEAD, KINDS, LONGEST_WINDOW, MOST_PAIRS, PAIRS_KIND, SEVEN_KINDS, TABLE_CELLS, UNIT, WORKS, Deck, Fails, Refusal, Rule, System, bad_rule,
     count_slots_after, count_table, counts_by_choice, counts_by_reading, counts_by_words, deck_bytes,
     decklist_output, deckworth_output, exact_sum, exact_sum_by_words, fails, figures, file_refusal, line_windows, listed_systems, low_and_high,
-    low_and_high_by_words, pascal_row, rate, read_deck, system_numbers, verdict, working_table_after, worth, worth_of_file, write_deck,
+    low_and_high_by_words, pascal_row, rate, read_deck, row_of, system_numbers, verdict, working_table_after, worth, worth_of_file, write_deck,
 )
 from published import DECK_FILE, DECK_LINES
-from samples import all_rules, longer_windows, random_rule, random_survivals, random_weights, rules_in_range, short_lines
+from samples import (
+    all_rules, longer_windows, random_pairs, random_rule, random_survivals, random_weights, rules_in_range, short_lines, two_windows, unread_more,
+    wrong_further_pairs, wrong_numbers_of_pairs, wrong_rules,
+)
 
 SMALL_WEIGHTS = ([], [3], [2, 1], [2, 1, 1], [0, 3, 1, 2], [1, 0, 4, 0, 2], [1, 2, 0, 1, 3, 1],
                  [1, 1, 1, 1, 1, 1, 1], [2, 0, 1, 3, 0, 1, 1, 2], [1, 3, 0, 0, 2, 1, 1, 0, 2])
 
 
 def random_systems(seed, count, most):
-    """Systems of every kind by turns: rule, survival numbers, weights."""
+    """Systems of every kind by turns, kind 8 with one to four pairs: rule, survival numbers, weights."""
     rng = random.Random(seed)
     for place in range(count):
         kind = KINDS[place % len(KINDS)]
         n = rng.randint(2, most)
         weights = random_weights(rng, n)
-        yield random_rule(rng, kind, n, sum(weights)), random_survivals(rng, n), weights
+        rule = random_pairs(rng, n, rng.randint(1, MOST_PAIRS)) if kind == PAIRS_KIND else random_rule(rng, kind, n, sum(weights))
+        yield rule, random_survivals(rng, n), weights
 
 
 def small_systems(most):
@@ -62,6 +66,28 @@ def table_1_exactly():
         for tenths, figure in zip(published.TABLE_1_TENTHS, printed):
             works = Fraction(exact_sum(Rule(3, low, high), [10 - tenths] * n, [], 10), 10 ** n)
             yield f"{float(1 - works):.6f}", figure
+
+
+def table_4_exactly():
+    """Table 4 of document 002 with the printed chances; the misprinted figure from its count of working states too."""
+    for n, r, k, failure, printed in published.TABLE_4:
+        unit = failure.denominator
+        works = Fraction(exact_sum(published.in_window(r, k), [unit - failure.numerator] * n, [], unit), unit ** n)
+        text = printed.right if isinstance(printed, published.Misprint) else printed.text
+        yield published.rounds_to(1 - works, text), True
+        if isinstance(printed, published.Misprint):
+            counted = published.WORKING_STATES_OF_30
+            yield counts_by_reading(published.in_window(r, k), n, []), [*counted, *[0] * (n + 1 - len(counted))]
+            yield sum(states * failure ** j * (1 - failure) ** (n - j) for j, states in enumerate(counted)), works
+            yield published.rounds_to(1 - works, printed.text), False
+
+
+def windows_table_exactly():
+    """Table 1 of document 003 with the printed chance, and its states counted one by one where they are few."""
+    for n, states, reliability in published.WINDOWS_TABLE:
+        yield published.rounds_to(Fraction(100 * exact_sum(published.WINDOWS, [8] * n, [], 10), 10 ** n), reliability), True
+        if n < 13:
+            yield sum(counts_by_words(published.WINDOWS, n, [])), states
 
 
 def example_file():
@@ -100,8 +126,8 @@ def rounded_down_failure(rule, survivals, weights):
 
 
 def source_equations():
-    """Equations 1 to 3 of document 002 and 1 and 8 of document 000 against the sum over words."""
-    for rule, survivals, weights in random_systems(2, 140, 8):
+    """Equations 1 to 3 of document 002, 1 and 8 of document 000 and the algorithm of document 003 against the sum over words."""
+    for rule, survivals, weights in random_systems(2, 160, 8):
         chances = [Fraction(p, UNIT) for p in survivals]
         works = Fraction(exact_sum_by_words(rule, survivals, weights), UNIT ** len(survivals))
         if rule.kind == 1:
@@ -114,6 +140,8 @@ def source_equations():
             yield sources.line_window_works(rule.second, chances), works
         elif rule.kind == 7 and len(survivals) >= 2 * rule.second - 1:
             yield sources.ring_window_as_printed(rule.second, chances), works
+        elif rule.kind == PAIRS_KIND:
+            yield sources.windows_work(rule.pairs, chances), works
 
 
 def pascal():
@@ -129,10 +157,19 @@ def pascal():
         yield pascal_row(n), found
 
 
+def lacking_by_text(rule, text):
+    """Where windows with too few '0' begin in the text, by all pairs."""
+    every = [rule.first, rule.second, *rule.more]
+    return [start for at in range(0, len(every), 2) for start in range(len(text) - every[at + 1] + 1)
+            if text[start:start + every[at + 1]].count("0") < every[at]]
+
+
 def told_by_text(rule, text, weights):
     """The verdict read off the state written as text, component 1 first, '1' for failed."""
-    kind, first, second = rule
+    kind, first, second = rule.numbers
     places = [place for place, mark in enumerate(text) if mark == "1"]
+    if kind == PAIRS_KIND:
+        return bool(lacking_by_text(rule, text))
     if kind == 1:
         return len(places) >= first
     if kind == 2:
@@ -149,7 +186,8 @@ def told_by_text(rule, text, weights):
 
 def told_by_memory(rule, n, state, weights):
     """The verdict by reading the components from n down to 1 through the memory table."""
-    row, memory = ROWS[rule.kind], ROWS[rule.kind].start
+    row = row_of(rule)
+    memory = row.start
     for place in reversed(range(n)):
         if memory == DEAD:
             return True
@@ -162,8 +200,10 @@ def told_by_memory(rule, n, state, weights):
 
 def place_by_text(rule, text):
     """The place of a failing verdict by looking at the state as text, component 1 first."""
-    kind, first, second = rule
+    kind, first, second = rule.numbers
     places = [place for place, mark in enumerate(text) if mark == "1"]
+    if kind == PAIRS_KIND:
+        return 1 + min(lacking_by_text(rule, text))
     if kind <= 3:
         return 0
     if kind in (4, 5):
@@ -212,10 +252,11 @@ def long_verdicts_three_ways():
 def counts_three_ways():
     for rule, n, weights in small_systems(8):
         counts = counts_by_words(rule, n, weights)
-        yield counts_by_choice(rule, n, weights), counts
+        if rule.kind in SEVEN_KINDS:
+            yield counts_by_choice(rule, n, weights), counts
         yield counts_by_reading(rule, n, weights), counts
     rng = random.Random(3)
-    for kind in KINDS:
+    for kind in SEVEN_KINDS:
         for n in (11, 29, 47, 64):
             weights = random_weights(rng, n)
             rule = random_rule(rng, kind, n, sum(weights))
@@ -264,11 +305,75 @@ def lines_no_longer_than_the_window():
             yield works, exact_sum_by_words(Rule(1, 2, 0), survivals, [])
 
 
+def pairs_by_states():
+    """Every single pair for n up to 8, and two to four pairs: the memory of the last states, in which nothing is merged, against all states."""
+    # document 02, request 05
+    rng = random.Random(33)
+    systems = [(rule, n) for n in range(1, 9) for rule in rules_in_range(PAIRS_KIND, n, 0)]
+    systems += [(random_pairs(rng, n, count), n) for n in range(1, 12) for count in range(2, MOST_PAIRS + 1) for _ in range(4)]
+    systems += [(two_windows(), n) for n in range(8, 12)]
+    for rule, n in systems:
+        survivals = random_survivals(rng, n)
+        yield low_and_high(rule, survivals, []), low_and_high_by_words(rule, survivals, [])
+        yield exact_sum(rule, survivals, []), exact_sum_by_words(rule, survivals, [])
+        for state in range(2 ** n) if n < 8 else (rng.getrandbits(n) for _ in range(40)):
+            failed = fails(rule, n, state, [])
+            yield told_by_memory(rule, n, state, [0] * n), failed
+            yield verdict(rule, n, state, []), Fails(place_by_text(rule, f"{state:0{n}b}"[::-1])) if failed else WORKS
+
+
+def pairs_alike():
+    """One pair is several pairs that say the same, and where another kind says it too, that kind."""
+    rng = random.Random(35)
+    for n in range(1, 9):
+        for rule in rules_in_range(PAIRS_KIND, n, 0):
+            k, r = rule.first, rule.second
+            survivals = random_survivals(rng, n)
+            here = low_and_high(rule, survivals, [])
+            # given twice, four times, and beside a pair that asks for less in the same window
+            yield [low_and_high(rule._replace(more=more), survivals, []) for more in ((k, r), (k, r) * 3, (1, r))], [here] * 3
+            others = [Rule(4, r, 0)] if k == 1 else []
+            others += [Rule(6, 2, r)] if k == r - 1 > 0 else []
+            others += [Rule(1, n - k + 1, 0)] if r == n else []
+            # document 003: "if there exists an I for which k_i = r_i, the system becomes a series system"
+            others += [Rule(1, 1, 0)] if k == r else []
+            yield from ((low_and_high(other, survivals, []), here) for other in others)
+
+
+def pairs_refused():
+    # document 02, request 05: "6 for a bad pair or number of pairs"
+    rng = random.Random(37)
+    for n in (1, 2, 5, 9, 10, 11, 64):
+        wrong = [*wrong_rules(PAIRS_KIND, n, 0), *wrong_further_pairs(rng, n), *wrong_numbers_of_pairs(rng, n)]
+        sound = [random_pairs(rng, n, count) for count in range(1, MOST_PAIRS + 1) for _ in range(3)]
+        for rule in wrong + sound:
+            answers = verdict(rule, n, 0, []), figures(rule, 1, n, [UNIT] * n, []), worth(rule, 1, n, 1, [UNIT] * n, [])
+            yield [isinstance(answer, Refusal) and answer.number == 6 for answer in answers], [rule in wrong] * 3
+    for k in range(1, LONGEST_WINDOW + 1):
+        # r = 10 and 11 on a line of 64; r = n and n + 1
+        for r, n in ((LONGEST_WINDOW, 64), (k, k)):
+            yield isinstance(verdict(Rule(PAIRS_KIND, k, r), n, 0, []), Refusal), False
+            yield verdict(Rule(PAIRS_KIND, k, r + 1), n, 0, []), Refusal(6)
+
+
+def further_numbers_unread():
+    """What stands beside a rule of another kind changes no answer, and kind 9 is refused whatever does."""
+    rng = random.Random(39)
+    for rule, survivals, weights in random_systems(40, 80, 8):
+        n, state = len(survivals), rng.getrandbits(len(survivals))
+        beside = rule._replace(more=unread_more(rng))
+        if rule.kind in SEVEN_KINDS:
+            yield verdict(beside, n, state, weights), verdict(rule, n, state, weights)
+            yield figures(beside, 1, n, survivals, weights), figures(rule, 1, n, survivals, weights)
+            yield worth(beside, 1, n, 1, survivals, weights), worth(rule, 1, n, 1, survivals, weights)
+        yield verdict(beside._replace(kind=9), n, state, weights), Refusal(1)
+
+
 def rules_accepted():
     # document 01, 'The seven verdicts', column "range", listed against the test of refusal 6
     for n in (1, 2, 3, 5, 64):
         weights = [2] + [1] * (n - 1)
-        numbers = (*range(8), 63, 64, 65, 66, 2 ** 32, 2 ** 64 - 1)
+        numbers = (*range(LONGEST_WINDOW + 3), 63, 64, 65, 66, 2 ** 32, 2 ** 64 - 1)
         for kind in KINDS:
             listed = {*rules_in_range(kind, n, sum(weights)), *(longer_windows(n) if kind == 6 else ())}
             for first in numbers:
@@ -282,7 +387,9 @@ def refusals_of_calls():
     over = [UNIT, UNIT + 1, UNIT]
     three = [1, 1, 1]
     whole = (
-        (Rule(0, 9, 9), [UNIT + 1] * 65, [], 0, 1), (Rule(8, 1, 0), three, [], 7800, 1),
+        (Rule(0, 9, 9), [UNIT + 1] * 65, [], 0, 1), (Rule(9, 1, 1), three, [], 7800, 1), (Rule(8, 1, 0), three, [], 7800, 6),
+        (Rule(8, 1, 1, (1,)), [], [], 0, 2), (Rule(8, 1, 1, (1,)), over, [], 0, 4), (Rule(8, 1, 1, (1,)), three, [], 0, 6),
+        (Rule(8, 1, 1, (1, 1)), three, [], 7799, 7),
         (Rule(1, 0, 0), [], [], 0, 2), (Rule(2, 0, 0), [UNIT + 1] * 65, [], 0, 2),
         (Rule(2, 0, 0), over, [], 0, 4), (Rule(2, 0, 0), three, [121, 0], 0, 5),
         (Rule(2, 1, 0), three, three + [1], 7800, 5), (Rule(2, 1, 0), three, [60, 60, 1], 7800, 5),
@@ -319,7 +426,9 @@ def refusals_of_states_and_counts():
     yield verdict(Rule(1, 4, 0), 64, 2 ** 63, []), WORKS
     yield verdict(Rule(1, 1, 0), 3, 4, [121, 65535]), Fails(0)
     tables = (
-        (Rule(0, 0, 0), 0, [], 0, 0, 1), (Rule(2, 0, 0), 65, [], 0, 0, 2),
+        (Rule(0, 0, 0), 0, [], 0, 0, 1), (Rule(9, 0, 0), 0, [], 0, 0, 1), (Rule(2, 0, 0), 65, [], 0, 0, 2),
+        # document 02, request 05: "15 for a kind 8 count table, right after 1"
+        (Rule(8, 0, 0), 0, [], 0, 0, 15), (Rule(8, 1, 1), 65, [], 0, 0, 15), (Rule(8, 1, 11), 3, [], 0, 0, 15), (Rule(8, 1, 1), 3, [], 7800, 4, 15),
         (Rule(2, 0, 0), 3, [], 0, 0, 5), (Rule(2, 0, 0), 3, [1] * 4, 7800, 4, 5),
         (Rule(4, 0, 0), 3, [], 0, 0, 6), (Rule(4, 1, 0), 3, [], 7799, 0, 7),
         (Rule(4, 1, 0), 3, [], 7800, 3, 8),
@@ -401,7 +510,7 @@ def refusals_of_worths():
     # document 02, request 06: "as for the figures, the chosen fan's own survival number included under 4 where the fan is in the stretch, then 17"
     three, over = [1, 1, 1], [1, UNIT + 1, 1]
     cases = (
-        (Rule(8, 0, 9), 0, 9, 0, [], [], 0, 1), (Rule(2, 0, 0), 0, 9, 0, [], [], 0, 2), (Rule(2, 0, 0), 2, 1, 9, over, [], 0, 3),
+        (Rule(9, 0, 9), 0, 9, 0, [], [], 0, 1), (Rule(2, 0, 0), 0, 9, 0, [], [], 0, 2), (Rule(2, 0, 0), 2, 1, 9, over, [], 0, 3),
         (Rule(2, 0, 0), 1, 3, 9, over, [], 0, 4), (Rule(2, 0, 0), 1, 3, 0, three, [], 0, 5), (Rule(1, 4, 0), 1, 3, 0, three, [], 0, 6),
         (Rule(1, 1, 0), 1, 3, 0, three, [], 7799, 7), (Rule(1, 1, 0), 1, 3, 0, three, [], 7800, 17),
         (Rule(1, 1, 0), 1, 3, 4, three, [], 7800, 17), (Rule(1, 1, 0), 2, 2, 1, three, [], 7800, 17),
@@ -424,7 +533,7 @@ def worths_of_files():
     for system, fan, number in ((0, 1, 14), (4, 0, 14), (2 ** 64 - 1, 1, 14), (3, 0, 6), (1, 0, 17), (1, 4, 17), (1, 2 ** 64 - 1, 17)):
         yield worth_of_file(DECK_FILE, system, fan), Refusal(number)
     seen = set()
-    for data in (data for data in random_files(18, 120) if len(data) < 300):
+    for data in (data for data in random_files(18, 200) if len(data) < 300):
         if file_refusal(data):
             yield deckworth_output(data), decklist_output(data)
             yield worth_of_file(data, 0, 0), Refusal(file_refusal(data))
@@ -468,7 +577,7 @@ def deck_files():
 def printed_and_packed():
     """What decklist prints is what the loading computer's call packs."""
     seen = set()
-    for data in list(random_files(11, 60))[::2]:
+    for data in list(random_files(11, 120))[::2]:
         for place, line in enumerate(decklist_output(data).splitlines()[1:], 1):
             head, tail = divmod(rate(data, place), 2 ** 32)
             refused = head == 2 ** 32 - 1
@@ -544,8 +653,10 @@ def lent_tables():
 
 
 GROUPS = (
-    published_figures, table_1_exactly, example_file, traps, source_equations, pascal, verdicts_three_ways, places_two_ways, long_verdicts_three_ways,
-    counts_three_ways, enclosure, figures_two_ways, lines_no_longer_than_the_window, rules_accepted, refusals_of_calls,
+    published_figures, table_1_exactly, table_4_exactly, windows_table_exactly, example_file, traps, source_equations, pascal, verdicts_three_ways,
+    places_two_ways, long_verdicts_three_ways,
+    counts_three_ways, enclosure, figures_two_ways, lines_no_longer_than_the_window, pairs_by_states, pairs_alike, pairs_refused,
+    further_numbers_unread, rules_accepted, refusals_of_calls,
     refusals_of_states_and_counts, stretches_read_inside_only, deck_files, printed_and_packed,
     decks_written, refusals_of_writing, header_damage, lent_tables, worths_by_words, worths_of_parts, plain_worths, refusals_of_worths, worths_of_files,
 )

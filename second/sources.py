@@ -1,4 +1,4 @@
-"""Equations of documents 002 and 000, to hold the verdicts against; published.py has what they print."""
+"""Equations of documents 002 and 000 and the algorithm of document 003, to hold the verdicts against; published.py has what they print."""
 
 from fractions import Fraction
 from math import prod
@@ -64,3 +64,20 @@ def ring_window_as_printed(r, chances):
         rest = chances[i:max(n - 2 * r + i + 1, i)]
         total += middle * failed * product(n - r + i + 2, n) * line_window_works(r, rest)
     return total
+
+
+def windows_work(pairs, chances):
+    """Chance of working, in every r in a row at least k working ones, for several pairs."""
+    # document 003, section 2: the vector of the last states, 1 for working, zeros at first; terms of groups that fail are removed
+    longest = max(r for _, r in pairs)
+    terms, failing = {(0,) * longest: Fraction(1)}, Fraction(0)
+    for j, p in enumerate(chances, 1):
+        shifted = {}
+        for y, q in terms.items():
+            for x, chance in ((1, p), (0, 1 - p)):
+                shifted[*y[1:], x] = shifted.get((*y[1:], x), 0) + q * chance
+        for k, r in pairs:
+            removed = [y for y in shifted if j >= r and sum(y[longest - r:]) < k]
+            failing += sum(shifted.pop(y) for y in removed)
+        terms = shifted
+    return 1 - failing

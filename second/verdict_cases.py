@@ -1,12 +1,13 @@
-"""Cases for the verdict on one state: kind, first, second, n, state, W, then the weights."""
+"""Cases for the verdict on one state: kind, first, second, n, state, W, the weights, M, the numbers of further pairs."""
 
 import random
 from typing import NamedTuple
 
 import published
-from foambeetle import KINDS, WORKS, Fails, Refusal, Rule, fails, verdict
+from foambeetle import MOST_PAIRS, PAIRS_KIND, SEVEN_KINDS, WORKS, Fails, Refusal, Rule, fails, verdict
 from samples import (
-    random_rule, random_weights, rules_in_range, short_lines, spoil_rule, unread_weights, weights_of_total, wrong_rules,
+    far_too_many_pairs, random_pairs, random_rule, random_weights, rules_in_range, short_lines, spoil_rule, two_windows, unread_more,
+    unread_weights, weights_for, weights_of_total, wrong_further_pairs, wrong_numbers_of_pairs, wrong_rules,
 )
 
 ANSWERS_WANTED = {WORKS} | {f"fails {place}" for place in range(65)} | {f"refused {number}" for number in (1, 2, 5, 6, 9)}
@@ -26,7 +27,7 @@ class Case(NamedTuple):
     weights: list
 
     def words(self):
-        return [*self.rule, self.n, self.state, len(self.weights), *self.weights]
+        return [*self.rule.numbers, self.n, self.state, len(self.weights), *self.weights, len(self.rule.more), *self.rule.more]
 
     def line(self):
         answer = verdict(self.rule, self.n, self.state, self.weights)
@@ -42,7 +43,7 @@ def published_cases():
 def small_cases(rng):
     """Every word under every rule in range, and rules just out of it, for n up to 4."""
     for n, weight_lists in SMALL_WEIGHTS.items():
-        for kind in KINDS:
+        for kind in SEVEN_KINDS:
             for weights in weight_lists if kind == 2 else ([],):
                 for rule in rules_in_range(kind, n, sum(weights)):
                     yield from (Case(rule, n, state, weights) for state in range(2 ** n))
@@ -89,7 +90,7 @@ def words_of_both_answers(rng, rule, n, weights):
 def long_cases(rng):
     """Rules of every kind on lists of every length, at the ends of the range and inside it."""
     for n in LENGTHS:
-        for kind in KINDS:
+        for kind in SEVEN_KINDS:
             for _ in range(6):
                 weights = random_weights(rng, n) if kind == 2 else unread_weights(rng)
                 rule = random_rule(rng, kind, n, sum(weights))
@@ -110,7 +111,7 @@ def full_window_cases():
             yield Case(Rule(kind, 2, 64), 64, 1 << bit | 1 << (bit + 40) % 64, [])
         yield Case(Rule(2, 1, 0), 64, 1 << bit, [int(place == bit) for place in range(64)])
         yield Case(Rule(2, 1, 0), 64, full - (1 << bit), [int(place == bit) for place in range(64)])
-    for kind in KINDS:
+    for kind in SEVEN_KINDS:
         for rule in (Rule(kind, 64, 0), Rule(kind, 1, 0), Rule(kind, 2, 64), Rule(kind, 0, 64)):
             yield from (Case(rule, 64, state, [1] * 64) for state in (0, full))
 
@@ -119,7 +120,7 @@ def stray_bit_cases(rng):
     """Ones above bit n - 1, beside words that end exactly there."""
     # document 01, 'Refusal numbers', row 9
     for n in (1, 2, 7, 31, 32, 33, 62, 63):
-        for kind in KINDS:
+        for kind in SEVEN_KINDS:
             weights = weights_of_total(rng, n, 2 * n if n < 60 else 120) if kind == 2 else []
             rule = random_rule(rng, kind, n, sum(weights))
             if rule is not None:
@@ -154,7 +155,7 @@ def refused_cases(rng):
     """One, two or three things wrong at once, so that the lowest number must win."""
     for _ in range(420):
         n = rng.choice((1, 2, 3, 5, 7, 20))
-        kind = rng.choice(KINDS)
+        kind = rng.choice(SEVEN_KINDS)
         weights = random_weights(rng, n) if kind == 2 else unread_weights(rng)
         rule = random_rule(rng, kind, n, sum(weights)) or Rule(1, 1, 0)
         case = Case(rule, n, rng.getrandbits(n), weights)
@@ -182,7 +183,71 @@ def place_cases(rng):
                 yield from (Case(Rule(kind, 2, k), n, two | more, []) for more in (0, beside))
 
 
+def pair_words(rng, rule, n, start=None):
+    """For each pair a window with just as many working ones as it asks for, and one with one fewer, at a start or at any."""
+    for k, r in rule.pairs:
+        at = rng.choice((0, n - r, rng.randint(0, n - r))) if start is None else start
+        yield from (sum(1 << at + step for step in rng.sample(range(r), failed)) for failed in (r - k, r - k + 1))
+
+
+def single_pair_cases(rng):
+    """Every word under every single pair for n up to 5, and words at the edge for n up to 11."""
+    for n in range(1, 12):
+        for rule in rules_in_range(PAIRS_KIND, n, 0):
+            states = range(2 ** n) if n <= 5 else pair_words(rng, rule, n)
+            yield from (Case(rule, n, state, unread_weights(rng) if n > 5 else []) for state in states)
+
+
+def many_pair_cases(rng):
+    """Two to four pairs, some given twice: every word for n up to 5, and words at the edge of each pair for larger n."""
+    for n in (*range(1, 6), *LENGTHS):
+        for count in range(2, MOST_PAIRS + 1):
+            for _ in range(3):
+                rule = random_pairs(rng, n, count)
+                states = range(2 ** n) if n <= 5 else [*pair_words(rng, rule, n), sparse_word(rng, n)]
+                yield from (Case(rule, n, state, []) for state in states)
+
+
+def pair_place_cases(rng):
+    """Failing windows at every start, by themselves and beside another: the lowest start of any pair's is named."""
+    rules = Rule(PAIRS_KIND, 1, 1), Rule(PAIRS_KIND, 1, 10), two_windows(), two_windows()._replace(first=4, second=8, more=(2, 5))
+    for n, rule in ((n, rule) for n in (10, 64) for rule in rules):
+        for start in range(n - max(r for _, r in rule.pairs) + 1):
+            beside = rng.choice((0, *pair_words(rng, rule, n)))
+            yield from (Case(rule, n, state | beside, []) for state in pair_words(rng, rule, n, start))
+
+
+def wrong_pair_cases(rng):
+    """Pairs out of range, first or further; too many pairs, and half a pair; each also where 9 would come next."""
+    for n in (1, 2, 3, 5, 9, 10, 11, 64):
+        rules = [*wrong_rules(PAIRS_KIND, n, 0), *wrong_further_pairs(rng, n), *wrong_numbers_of_pairs(rng, n), far_too_many_pairs()]
+        yield from (Case(rule, n, rng.getrandbits(min(n + 1, 64)), unread_weights(rng)) for rule in rules)
+
+
+def refused_pair_cases(rng):
+    """One, two or three things wrong at once, under pairs."""
+    for _ in range(120):
+        n = rng.choice((1, 2, 3, 5, 7, 20))
+        case = Case(random_pairs(rng, n, rng.randint(1, MOST_PAIRS)), n, rng.getrandbits(n), unread_weights(rng))
+        for damage in sorted(rng.sample((1, 2, 6, 9), rng.choice((1, 1, 2, 3))), reverse=True):
+            case = spoil(rng, case, damage)
+        yield case
+
+
+def unread_more_cases(rng):
+    """Numbers beside a rule of another kind, which are not read; kind 9 is none, whatever stands beside it."""
+    for kind in SEVEN_KINDS:
+        for n in (2, 3, 8, 64):
+            weights = weights_for(rng, kind, n)
+            rule = (random_rule(rng, kind, n, sum(weights)) or Rule(1, 1, 0))._replace(more=unread_more(rng))
+            yield from (Case(rule, n, state, weights) for state in words_of_both_answers(rng, rule, n, weights))
+    for n in (0, 1, 3, 64, 65):
+        yield Case(Rule(9, 1, 1, unread_more(rng)), n, 0, [])
+        yield Case(Rule(9, 1, 1), n, 0, [])
+
+
 def make_cases():
     rng = random.Random(101)
     return [*published_cases(), *small_cases(rng), *long_cases(rng), *full_window_cases(), *stray_bit_cases(rng),
-            *weight_cases(rng), *refused_cases(rng), *short_line_cases(rng), *place_cases(rng)]
+            *weight_cases(rng), *refused_cases(rng), *short_line_cases(rng), *place_cases(rng), *single_pair_cases(rng),
+            *many_pair_cases(rng), *pair_place_cases(rng), *wrong_pair_cases(rng), *refused_pair_cases(rng), *unread_more_cases(rng)]

@@ -4,11 +4,11 @@ import random
 from typing import NamedTuple
 
 from figures_cases import Case as Asked
-from figures_cases import part, spoil, stretch_case, whole
-from foambeetle import KINDS, MOST_WEIGHT, TABLE_CELLS, UNIT, Rule, worth
+from figures_cases import part, refused_pair_case, spoil, stretch_case, unread_more_case, whole
+from foambeetle import LONGEST_WINDOW, MOST_PAIRS, MOST_WEIGHT, PAIRS_KIND, SEVEN_KINDS, TABLE_CELLS, UNIT, Rule, worth
 from samples import (
-    EDGE_SURVIVALS, HUGE, OVER_UNIT, all_rules, edge_rules, random_rule, random_stretch, random_survivals, random_weights, rules_in_range,
-    short_lines, unread_weights, weights_for, weights_of_total, wrong_rules,
+    EDGE_SURVIVALS, HUGE, OVER_UNIT, all_rules, edge_rules, random_pairs, random_rule, random_stretch, random_survivals, random_weights,
+    rules_in_range, short_lines, two_windows, unread_weights, weights_for, weights_of_total, wrong_numbers_of_pairs, wrong_rules,
 )
 
 WORTH = 1  # the word `call`
@@ -39,7 +39,7 @@ def small_cases(rng):
     """Every rule in range for n up to 4, and every fan; for n = 5 the fans at the ends and one between."""
     for n in range(1, 6):
         weights = weights_of_total(rng, n, n + 1)
-        for rule in all_rules(n, sum(weights)):
+        for rule in all_rules(n, sum(weights), SEVEN_KINDS):
             read = weights if rule.kind == 2 else unread_weights(rng)
             asked = whole(rng, rule, random_survivals(rng, n), read)
             yield from (Case(asked, fan) for fan in (range(1, n + 1) if n < 5 else (1, rng.randint(2, 4), 5)))
@@ -47,7 +47,7 @@ def small_cases(rng):
 
 def own_number_cases(rng):
     """The chosen fan's number at every edge of its range, and above it: the edges change no answer, what is above is refused 4."""
-    for kind in KINDS:
+    for kind in SEVEN_KINDS:
         for n in (2, 5):
             weights = weights_of_total(rng, n, n + 1) if kind == 2 else []
             asked = whole(rng, random_rule(rng, kind, n, n + 1), random_survivals(rng, n), weights)
@@ -57,7 +57,7 @@ def own_number_cases(rng):
 
 def long_cases(rng):
     """Random rules for larger n, and the ends of the range for n = 64."""
-    for kind in KINDS:
+    for kind in SEVEN_KINDS:
         for place in range(14):
             n = rng.randint(6, 40) if place % 5 == 0 else rng.randint(6, 16)
             weights = weights_for(rng, kind, n)
@@ -70,7 +70,7 @@ def long_cases(rng):
 
 def sound_fan_cases(rng):
     """Lists of 64 sound fans, where both figures stand well inside the range."""
-    for kind in KINDS:
+    for kind in SEVEN_KINDS:
         weights = weights_of_total(rng, 64, MOST_WEIGHT) if kind == 2 else []
         rules = rules_in_range(kind, 64, MOST_WEIGHT)
         survivals = [UNIT - rng.randrange(UNIT // 64) for _ in range(64)]
@@ -112,7 +112,7 @@ def stretch_cases(rng):
 def outside_cases(rng):
     """Fans on no list: 0, one past the last, huge, and those that would be fan 1 if they were cut to fewer bits."""
     for n in (1, 2, 5):
-        for kind in KINDS:
+        for kind in SEVEN_KINDS:
             weights = weights_of_total(rng, n, n + 1) if kind == 2 else []
             asked = whole(rng, random_rule(rng, kind, n, n + 1) or Rule(1, 1, 0), random_survivals(rng, n), weights)
             yield from (Case(asked, fan) for fan in (0, n + 1, 65, *HUGE, 2 ** 8 + 1, 2 ** 16 + 1, 2 ** 32 + 1, 2 ** 63 + 1))
@@ -120,7 +120,7 @@ def outside_cases(rng):
 
 def room_cases(rng):
     """Working tables of no cells, one too few, just enough and more; a table too short comes before a fan outside."""
-    for kind in KINDS:
+    for kind in SEVEN_KINDS:
         weights = weights_of_total(rng, 4, 6) if kind == 2 else []
         for room in (0, TABLE_CELLS - 1, TABLE_CELLS, 8000):
             asked = whole(rng, random_rule(rng, kind, 4, 6), random_survivals(rng, 4), weights)._replace(room=room)
@@ -130,7 +130,7 @@ def room_cases(rng):
 def rule_cases(rng):
     """Rules just out of range, which come before a fan outside."""
     for n in (1, 3):
-        for kind in KINDS:
+        for kind in SEVEN_KINDS:
             weights = weights_of_total(rng, n, n + 1)
             for rule in wrong_rules(kind, n, n + 1):
                 asked = part(rng, rule, 2, n + 1, random_survivals(rng, n + 2), [1] + weights + [1])
@@ -150,7 +150,7 @@ def refused_cases(rng):
     for _ in range(300):
         n = rng.choice((1, 2, 3, 5, 7))
         a, b = random_stretch(rng, n)
-        kind = rng.choice(KINDS)
+        kind = rng.choice(SEVEN_KINDS)
         weights = random_weights(rng, n) if kind == 2 else unread_weights(rng)
         rule = random_rule(rng, kind, b - a + 1, sum(weights[a - 1:b])) or Rule(1, 1, 0)
         asked, fan = part(rng, rule, a, b, random_survivals(rng, n), weights), rng.randint(a, b)
@@ -168,8 +168,50 @@ def short_line_cases(rng):
         yield Case(whole(rng, rule, random_survivals(rng, n), unread_weights(rng)), rng.choice((1, n, rng.randint(1, n))))
 
 
+def pair_cases(rng):
+    """Every single pair for n up to 4, and every fan; two to four pairs, and a fan."""
+    for n in range(1, 5):
+        for rule in rules_in_range(PAIRS_KIND, n, 0):
+            asked = whole(rng, rule, random_survivals(rng, n), unread_weights(rng))
+            yield from (Case(asked, fan) for fan in range(1, n + 1))
+    for count in range(2, MOST_PAIRS + 1):
+        for n in (2, 5, 8, 11, 12, 20):
+            yield Case(whole(rng, random_pairs(rng, n, count), random_survivals(rng, n), []), rng.choice((1, n, rng.randint(1, n))))
+
+
+def long_pair_cases(rng):
+    """64 sound fans under the longest window and under the decks' own rule."""
+    survivals = [UNIT - rng.randrange(UNIT // 4) for _ in range(64)]
+    for rule in (Rule(PAIRS_KIND, 1, LONGEST_WINDOW), Rule(PAIRS_KIND, 5, LONGEST_WINDOW), two_windows()):
+        yield from (Case(whole(rng, rule, survivals, []), fan) for fan in (1, 33, 64))
+
+
+def pair_stretch_cases(rng):
+    """Stretches under pairs: the fans at both ends, and those just outside."""
+    for _ in range(14):
+        n = rng.randint(1, 9)
+        a, b = random_stretch(rng, n)
+        rule = random_pairs(rng, b - a + 1, rng.randint(1, MOST_PAIRS))
+        asked = part(rng, rule, a, b, random_survivals(rng, n), unread_weights(rng))
+        yield from (Case(asked, fan) for fan in sorted({a, b, a - 1, b + 1}))
+
+
+def wrong_pair_cases(rng):
+    """Pairs out of range, and too many or half a pair, which come before a fan outside; others wrong things beside pairs; numbers that are not read."""
+    for n in (1, 4):
+        for rule in (*wrong_rules(PAIRS_KIND, n, 0)[:8], *wrong_numbers_of_pairs(rng, n)):
+            yield Case(whole(rng, rule, random_survivals(rng, n), []), rng.randint(0, n + 1))
+    for _ in range(40):
+        asked = refused_pair_case(rng, sorted(rng.sample((1, 2, 3, 4, 6, 7), rng.choice((0, 1, 2))), reverse=True))
+        yield Case(asked, rng.choice((0, asked.a, asked.b, asked.b + 1, *HUGE)))
+    for kind in SEVEN_KINDS:
+        yield from (Case(unread_more_case(rng, kind, n), rng.randint(1, n)) for n in (3, 7))
+    yield Case(whole(rng, Rule(9, 1, 1, (1, 1)), [1] * 3, []), 0)
+
+
 def make_cases():
     rng = random.Random(606)
     makers = (small_cases, own_number_cases, long_cases, sound_fan_cases, no_weight_cases, harmful_fan_cases, stretch_cases, outside_cases,
-              room_cases, rule_cases, length_cases, refused_cases, short_line_cases)
+              room_cases, rule_cases, length_cases, refused_cases, short_line_cases, pair_cases, long_pair_cases, pair_stretch_cases,
+              wrong_pair_cases)
     return [case for maker in makers for case in maker(rng)]

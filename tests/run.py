@@ -1,8 +1,9 @@
 """The library's calls, decklist and deckworth against the second program, byte for byte.
 
-5,200 random deck files, sound and damaged by turns, and one of lines shorter than their window, go through a C program linked with libfoambeetle.a, which rates their systems and asks for
-the worth of a fan under each, with guard pages on either side of what it lends and a stack that shows how deep a call goes; some of them, and
-inputs of odd lengths, through the programs; the samples through the programs and through the C samples.
+5,200 random deck files, sound and damaged by turns, one of lines shorter than their window and one of pairs go through a C program linked with
+libfoambeetle.a, which rates their systems and asks for the worth of a fan under each, with guard pages on either side of what it lends and a stack
+that shows how deep a call goes; some of them, and inputs of odd lengths, through the programs; the samples through the programs and through the C
+samples.
 """
 
 import random
@@ -57,6 +58,15 @@ def short_lines():
     return deck_bytes(Deck([2 ** 29] * 5, [0] * 5, systems))
 
 
+def pairs():
+    """A file of single pairs, over twelve fans and over three: in range, at the longest window, just out of range, exchanged; and of no kind."""
+    # document 02, request 05: "a deck file carries a single pair in first and second"
+    numbers = ((1, 1), (2, 3), (3, 2), (3, 3), (1, 4), (2, 5), (5, 2), (5, 10), (10, 10), (0, 5), (1, 11), (11, 11), (1, 13), (1, 65535), (65535, 1))
+    systems = [System(Rule(8, *pair), *stretch) for pair in numbers for stretch in ((1, 12), (5, 7))]
+    fans = [2 ** 30 - 2 ** 24 * fan for fan in range(1, 13)]
+    return deck_bytes(Deck(fans, [65535] * 12, [*systems, System(Rule(9, 1, 1), 1, 12), System(Rule(8, 1, 1), 0, 12)]))
+
+
 def odd_inputs():
     """Empty input, input that stops early, and files, sound or not, with more behind them than any file has."""
     sound = next(random_files(11, 1))
@@ -93,7 +103,7 @@ def compare_stored():
 def main():
     make("lib")
     prove()
-    files = [short_lines(), *random_files(2026, FILES)]
+    files = [short_lines(), pairs(), *random_files(2026, FILES)]
     good = compare_stored() & compare_calls(files)
     inputs = files[:PRINTED] + list(odd_inputs())
     for program, output in PROGRAMS.items():

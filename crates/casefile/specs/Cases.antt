@@ -11,7 +11,13 @@ use Rattle.casefile.specs.Words.{wordAt, shortLimit}
 abbrev pub ruleAt : (bytes : List ℕ) (at : ℕ) → Rule
 ruleAt bytes at = record { kind = wordAt bytes at; first = wordAt bytes (at + 1); second = wordAt bytes (at + 2) }
 
--- no words, or those of a case: its head, whose last word is the number of the weights, and the weights
+-- no words, or those of a list: how many numbers it has, and the numbers
+pub record Listed (bytes : List ℕ) (at size : ℕ) : Type 0 where
+  pub most : size ≤ 1 + mostNumbers
+  pub ends : 0 < size → at + size ≤ length bytes
+  pub counted : 0 < size → size ≡ 1 + wordAt bytes at
+
+-- no words, or those of a case up to its weights: its head, whose last word is the number of the weights, and the weights
 pub record Sized (bytes : List ℕ) (at head size : ℕ) : Type 0 where
   pub most : size ≤ head + mostNumbers
   pub ends : at + size ≤ length bytes

@@ -2,7 +2,7 @@
 use Prim.Native.Nat.{ℕ}
 
 abbrev pub mostBytes : ℕ
-mostBytes = 1048576
+mostBytes = 1310720
 
 abbrev pub mostNumbers : ℕ
 mostNumbers = 256

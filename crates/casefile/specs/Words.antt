@@ -14,9 +14,12 @@ wordBytes = 8
 unfoldable pub wordAt : (bytes : List ℕ) (at : ℕ) → ℕ
 wordAt bytes at = cond (ltb at (length bytes / wordBytes)) (numberAt wordBytes bytes (at * wordBytes)) 0
 
--- the k-th word from a place on, in a list whose numbers are below the limit
+-- the k-th word from a place on, and in a list whose numbers are below the limit
+abbrev pub wordsFrom : (bytes : List ℕ) (at k : ℕ) → ℕ
+wordsFrom bytes at k = wordAt bytes (at + k)
+
 abbrev pub lowWords : (limit : ℕ) (bytes : List ℕ) (at k : ℕ) → ℕ
-lowWords limit bytes at k = wordAt bytes (at + k) % limit
+lowWords limit bytes at k = wordsFrom bytes at k % limit
 
 abbrev pub shortLimit : ℕ
 shortLimit = 2 ^ 16

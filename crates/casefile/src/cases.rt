@@ -1,9 +1,9 @@
-// What the cases of several programs share: a rule in three words, and weights at the end.
+// What the cases of several programs share: a rule in three words, lists that begin with how many numbers they have, and weights.
 ghost use mathlib.Core.Path.{_≡_};
-ghost use Prim.Native.Nat.{_≤_};
+ghost use Prim.Native.Nat.{_+_, _≤_};
 ghost use lib.ListN.{length};
 ghost use Rattle.casefile.specs.Rooms.{mostNumbers};
-ghost use Rattle.casefile.specs.Cases.{ruleAt, Sized};
+ghost use Rattle.casefile.specs.Cases.{ruleAt, Listed, Sized};
 use crate::MOST_NUMBERS;
 use crate::words;
 use rules::Rule;
@@ -23,7 +23,23 @@ pub fn rule_at(bytes: &[u8], at: usize) -> Rule
     }
 }
 
-// The words of the case at `at`, whose `head` first words end in the number of its weights; 0 where the case is cut short, or has too many
+// The words of the list at `at`: how many numbers it has, then the numbers; 0 where it is cut short or has too many.
+pub fn list_size(bytes: &[u8], at: usize) -> usize
+    requires { ⌜ at ≤ length (now bytes) + mostNumbers ⌝ }
+    ensures { λ r. ⌜ Listed (now (bytes .entry)) at r ⌝ }
+{
+    let numbers = words::word(bytes, at);
+    if numbers > MOST_NUMBERS as u64 {
+        return 0;
+    }
+    let count = numbers as usize;
+    if words::whole(bytes) < at + 1 + count {
+        return 0;
+    }
+    1 + count
+}
+
+// The words of the case at `at` up to its weights, whose `head` first words end in the number of them; 0 where it is cut short, or has too many
 // weights or one above 16 bits.
 pub fn case_size(bytes: &[u8], at: usize, head: usize) -> usize
     requires begins { ⌜ at ≤ length (now bytes) ⌝ }
@@ -31,16 +47,12 @@ pub fn case_size(bytes: &[u8], at: usize, head: usize) -> usize
     requires short { ⌜ head ≤ mostNumbers ⌝ }
     ensures { λ r. ⌜ Sized (now (bytes .entry)) at head r ⌝ }
 {
-    let weights = words::word(bytes, at + (head - 1));
-    if weights > MOST_NUMBERS as u64 {
+    let list = list_size(bytes, at + (head - 1));
+    if list == 0 {
         return 0;
     }
-    let count = weights as usize;
-    if words::whole(bytes) < at + head + count {
-        return 0;
-    }
-    if words::fit(bytes, at + head, count, words::SHORT_LIMIT) {
-        return head + count;
+    if words::fit(bytes, at + head, list - 1, words::SHORT_LIMIT) {
+        return head + (list - 1);
     }
     0
 }

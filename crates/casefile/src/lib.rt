@@ -8,7 +8,7 @@ ghost use lib.ListN.{replicate};
 ghost use Rattle.casefile.specs.Rooms.{mostBytes, mostNumbers};
 
 // The bytes of a case file, or of the lines that answer it, and the numbers of one of a case's lists, at most.
-pub const MOST_BYTES: usize = 1048576;
+pub const MOST_BYTES: usize = 1310720;
 
 pub const MOST_NUMBERS: usize = 256;
 
@@ -19,8 +19,14 @@ pub fn room() -> [u8; MOST_BYTES]
     [0; MOST_BYTES]
 }
 
-// Room for the weights of a case.
+// Room for the weights of a case, and for the numbers of its further pairs.
 pub fn weights_room() -> [u16; MOST_NUMBERS]
+    ensures { λ r. ⌜ r ≡ replicate mostNumbers 0 ⌝ }
+{
+    [0; MOST_NUMBERS]
+}
+
+pub fn more_room() -> [u64; MOST_NUMBERS]
     ensures { λ r. ⌜ r ≡ replicate mostNumbers 0 ⌝ }
 {
     [0; MOST_NUMBERS]

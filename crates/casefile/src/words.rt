@@ -4,7 +4,7 @@ ghost use mathlib.Core.Logic.{_↔_};
 ghost use mathlib.Core.Path.{_≡_};
 ghost use Prim.Native.Nat.{ℕ, _+_, _/_, _≤_, _<_};
 ghost use lib.ListN.{length};
-ghost use Rattle.casefile.specs.Words.{wordBytes, wordAt, lowWords, shortLimit, longLimit};
+ghost use Rattle.casefile.specs.Words.{wordBytes, wordAt, wordsFrom, lowWords, shortLimit, longLimit};
 ghost use Rattle.casefile.specs.Begins.{Begins};
 
 // The bytes of a word.
@@ -75,6 +75,18 @@ pub fn longs(bytes: &[u8], at: usize, into: &mut [u32])
     let mut k: usize = 0;
     while k < into.len() {
         into[k] = (word(bytes, at + k) % LONG_LIMIT) as u32;
+        k += 1;
+    }
+}
+
+// Fills a list of 64-bit numbers with the words from `at` on.
+pub fn fulls(bytes: &[u8], at: usize, into: &mut [u64])
+    requires { ⌜ at ≤ length (now bytes) ⌝ }
+    ensures { λ _. ⌜ Begins (wordsFrom (now (bytes .entry)) at) (now (into .entry)) (now (into .exit)) (length (now (into .entry))) ⌝ }
+{
+    let mut k: usize = 0;
+    while k < into.len() {
+        into[k] = word(bytes, at + k);
         k += 1;
     }
 }

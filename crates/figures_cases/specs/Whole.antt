@@ -10,7 +10,7 @@ abbrev pub headWords : ℕ
 headWords = 10
 
 abbrev pub otherWords : ℕ
-otherWords = 11
+otherWords = 12
 
 abbrev pub mostCells : ℕ
 mostCells = 8000
@@ -18,5 +18,6 @@ mostCells = 8000
 pub record Whole (bytes : List ℕ) (at : ℕ) (s : Sizes) : Type 0 where
   pub fans : s .fans ≤ mostNumbers
   pub weights : s .weights ≤ mostNumbers
+  pub more : s .more ≤ mostNumbers
   pub room : s .room ≤ mostCells
-  pub ends : at + otherWords + s .fans + s .weights ≤ length bytes
+  pub ends : at + otherWords + s .fans + s .weights + s .more ≤ length bytes

@@ -1,6 +1,7 @@
 // Runs the cases of standard input and writes an answer and the checksum of the lent table a line. All of the input is words of 64 bits, lowest
 // byte first: the number of cases, then each case: the call (1 the worth of a fan, else the figures), kind, first, second, a, b, the fan, room, seed,
-// the number of survival numbers, the survival numbers, the number of weights, the weights. A case that is cut short ends the run.
+// the number of survival numbers, the survival numbers, the number of weights, the weights, how many numbers the further pairs have, these. A case
+// that is cut short ends the run.
 mod size; // size.rt: how long a case is
 
 ghost use Prim.Native.Nat.{_+_, _≤_};
@@ -34,10 +35,12 @@ const SEED: usize = 8;
 
 const FANS: usize = 9;
 
-// The words before the survival numbers, and those of a case beside its lists.
+// The words before the survival numbers; with the number of weights; and with the number of the further pairs' numbers, all of a case beside its lists.
 const HEAD: usize = 10;
 
-const OTHERS: usize = 11;
+const WEIGHED: usize = 11;
+
+const OTHERS: usize = 12;
 
 // The call for the worth of a fan.
 const WORTH: u64 = 1;
@@ -48,10 +51,11 @@ const MOST_CELLS: usize = 8000;
 // The bytes that the two ends of a worth take with their names, at most.
 const ENDS: usize = 55;
 
-// How many survival numbers, weights and cells a case has, and whether it is whole.
+// How many survival numbers, weights, numbers of further pairs and cells a case has, and whether it is whole.
 pub struct Sizes {
     pub fans: usize,
     pub weights: usize,
+    pub more: usize,
     pub room: usize,
     pub whole: bool,
 }
@@ -63,7 +67,14 @@ enum Answer {
 }
 
 // The answer that the case at `at` asks of its lists.
-fn asked(bytes: &[u8], at: usize, survival: &[u32], weights: &[u16], table: &mut [u64]) -> Answer
+fn asked(
+    bytes: &[u8],
+    at: usize,
+    survival: &[u32],
+    weights: &[u16],
+    more: &[u64],
+    table: &mut [u64],
+) -> Answer
     requires { ⌜ at + headWords ≤ length (now bytes) ⌝ }
 {
     let rule = cases::rule_at(bytes, at + RULE);
@@ -71,9 +82,9 @@ fn asked(bytes: &[u8], at: usize, survival: &[u32], weights: &[u16], table: &mut
     let b = words::word(bytes, at + B);
     if words::word(bytes, at + CALL) == WORTH {
         let fan = words::word(bytes, at + FAN);
-        return Answer::Weighed(worth::worth(rule, a, b, fan, survival, weights, table));
+        return Answer::Weighed(worth::worth(rule, a, b, fan, survival, weights, more, table));
     }
-    Answer::Rated(figures::figures(rule, a, b, survival, weights, table))
+    Answer::Rated(figures::figures(rule, a, b, survival, weights, more, table))
 }
 
 // The same, with the lists read from the case.
@@ -82,11 +93,14 @@ fn answered(bytes: &[u8], at: usize, s: Sizes, table: &mut [u64]) -> Answer
 {
     let n = s.fans;
     let w = s.weights;
+    let m = s.more;
     let mut survival = [0u32; MOST_NUMBERS];
     words::longs(bytes, at + HEAD, &mut survival[..n]);
     let mut weights = casefile::weights_room();
-    words::shorts(bytes, at + OTHERS + n, &mut weights[..w]);
-    asked(bytes, at, &survival[..n], &weights[..w], table)
+    words::shorts(bytes, at + WEIGHED + n, &mut weights[..w]);
+    let mut more = casefile::more_room();
+    words::fulls(bytes, at + OTHERS + n + w, &mut more[..m]);
+    asked(bytes, at, &survival[..n], &weights[..w], &more[..m], table)
 }
 
 // Puts a rating into the buffer and answers where it ends.
@@ -192,7 +206,7 @@ fn run(bytes: &[u8], out: &mut [u8]) -> usize
             return end;
         }
         end = run_case(bytes, at, s, out, end);
-        at += OTHERS + s.fans + s.weights;
+        at += OTHERS + s.fans + s.weights + s.more;
         done += 1;
     }
     end

@@ -11,6 +11,7 @@ use crate::HEAD;
 use crate::MOST_CELLS;
 use crate::OTHERS;
 use crate::Sizes;
+use crate::WEIGHED;
 use casefile::MOST_NUMBERS;
 use casefile::words;
 
@@ -21,23 +22,25 @@ fn cut_short() -> Sizes
     Sizes {
         fans: 0,
         weights: 0,
+        more: 0,
         room: 0,
         whole: false,
     }
 }
 
-// Does the case at `at`, of n survival numbers and w weights, end within the file, and does each number fit its list?
-fn fits(bytes: &[u8], at: usize, n: usize, w: usize) -> bool
+// Does the case at `at`, of n survival numbers, w weights and m numbers of further pairs, end within the file, and does each number fit its list?
+fn fits(bytes: &[u8], at: usize, n: usize, w: usize, m: usize) -> bool
     requires begins { ⌜ at ≤ length (now bytes) ⌝ }
     requires few { ⌜ n ≤ mostNumbers ⌝ }
     requires light { ⌜ w ≤ mostNumbers ⌝ }
-    ensures { λ r. ⌜ (r ≡ true → at + otherWords + n + w ≤ length (now (bytes .entry))) ⌝ }
+    requires paired { ⌜ m ≤ mostNumbers ⌝ }
+    ensures { λ r. ⌜ (r ≡ true → at + otherWords + n + w + m ≤ length (now (bytes .entry))) ⌝ }
 {
-    if words::whole(bytes) < at + OTHERS + n + w {
+    if words::whole(bytes) < at + OTHERS + n + w + m {
         return false;
     }
     if words::fit(bytes, at + HEAD, n, words::LONG_LIMIT) {
-        return words::fit(bytes, at + OTHERS + n, w, words::SHORT_LIMIT);
+        return words::fit(bytes, at + WEIGHED + n, w, words::SHORT_LIMIT);
     }
     false
 }
@@ -60,10 +63,16 @@ pub fn sizes_at(bytes: &[u8], at: usize) -> Sizes
     if w > MOST_NUMBERS as u64 {
         return cut_short();
     }
-    let whole = fits(bytes, at, fans, w as usize);
+    let weights = w as usize;
+    let m = words::word(bytes, at + WEIGHED + fans + weights);
+    if m > MOST_NUMBERS as u64 {
+        return cut_short();
+    }
+    let whole = fits(bytes, at, fans, weights, m as usize);
     Sizes {
         fans,
-        weights: w as usize,
+        weights,
+        more: m as usize,
         room: room as usize,
         whole,
     }

@@ -1,16 +1,15 @@
 // Runs the cases of standard input and writes a verdict a line. All of the input is words of 64 bits, lowest byte first: the number of
-// cases, then each case: kind, first, second, n, state, the number of weights, the weights. A case that is cut short ends the run.
-ghost use Prim.Native.Nat.{_≤_};
+// cases, then each case: kind, first, second, n, state, the number of weights, the weights, how many numbers the further pairs have, these. A case
+// that is cut short ends the run.
+ghost use Prim.Native.Nat.{_+_, _≤_};
 ghost use lib.ListN.{length};
 ghost use Rattle.io.specs.Counts.{Counts};
-ghost use Rattle.casefile.specs.Rooms.{mostNumbers};
 ghost use Rattle.casefile.specs.Cases.{Within};
 ghost use Rattle.verdict_cases.specs.Case.{headWords};
 use casefile::cases;
 use casefile::words;
 use libc::STDIN_FILENO;
 use libc::STDOUT_FILENO;
-use rules::Rule;
 use rules::Verdict;
 
 // Where a case has n and the state, and how many words come before the weights.
@@ -20,24 +19,28 @@ const STATE: usize = 4;
 
 const HEAD: usize = 6;
 
-// The verdict under a rule whose weights are the `count` words from `at` on.
-fn verdict_with(rule: Rule, n: u64, state: u64, bytes: &[u8], at: usize, count: usize) -> Verdict
-    requires begins { ⌜ at ≤ length (now bytes) ⌝ }
-    requires few { ⌜ count ≤ mostNumbers ⌝ }
-{
-    let mut weights = casefile::weights_room();
-    words::shorts(bytes, at, &mut weights[..count]);
-    verdict::verdict_on(rule, n, &weights[..count], state)
-}
-
-// The verdict on the case of so many words at `at`.
-fn judged(bytes: &[u8], at: usize, size: usize) -> Verdict
-    requires { ⌜ Within (now bytes) at headWords size ⌝ }
+// The verdict that the case at `at` asks for, with its lists.
+fn asked(bytes: &[u8], at: usize, weights: &[u16], more: &[u64]) -> Verdict
+    requires { ⌜ at + headWords ≤ length (now bytes) ⌝ }
 {
     let rule = cases::rule_at(bytes, at);
     let n = words::word(bytes, at + FANS);
     let state = words::word(bytes, at + STATE);
-    verdict_with(rule, n, state, bytes, at + HEAD, size - HEAD)
+    verdict::verdict_on(rule, n, weights, more, state)
+}
+
+// The same, with the lists read from the case: it has so many words up to its weights, then so many of the further pairs' list.
+fn judged(bytes: &[u8], at: usize, size: usize, list: usize) -> Verdict
+    requires case { ⌜ Within (now bytes) at headWords size ⌝ }
+    requires further { ⌜ Within (now bytes) (at + size) 1 list ⌝ }
+{
+    let w = size - HEAD;
+    let m = list - 1;
+    let mut weights = casefile::weights_room();
+    words::shorts(bytes, at + HEAD, &mut weights[..w]);
+    let mut more = casefile::more_room();
+    words::fulls(bytes, at + size + 1, &mut more[..m]);
+    asked(bytes, at, &weights[..w], &more[..m])
 }
 
 // Puts a line of a name and a number into the buffer and answers where it ends.
@@ -77,8 +80,12 @@ fn run(bytes: &[u8], out: &mut [u8]) -> usize
         if size < HEAD {
             return end;
         }
-        end = put_verdict(judged(bytes, at, size), out, end);
-        at += size;
+        let list = cases::list_size(bytes, at + size);
+        if list < 1 {
+            return end;
+        }
+        end = put_verdict(judged(bytes, at, size, list), out, end);
+        at += size + list;
         done += 1;
     }
     end

@@ -48,7 +48,10 @@ add-at-2 : tie.Need-add-at-2 Inv-loop μ-loop
 add-at-2 c = omega (arith, c .before .before .before .before .before .before .before .before .sizes-at .ensures (not-false _ (c .before .before .before .before .before .before .if2 .left)))
 
 add-at-3 : tie.Need-add-at-3 Inv-loop μ-loop
-add-at-3 c = omega (arith, c .before .before .before .before .before .before .before .before .sizes-at .ensures (not-false _ (c .before .before .before .before .before .before .if2 .left)))
+add-at-3 c = omega (arith, c .before .before .before .before .before .before .before .before .before .sizes-at .ensures (not-false _ (c .before .before .before .before .before .before .before .if2 .left)))
+
+add-at-4 : tie.Need-add-at-4 Inv-loop μ-loop
+add-at-4 c = omega (arith, c .before .before .before .before .before .before .before .before .before .sizes-at .ensures (not-false _ (c .before .before .before .before .before .before .before .if2 .left)))
 
 add-done : tie.Need-add-done Inv-loop μ-loop
 add-done c = omega arith
@@ -58,9 +61,9 @@ loop-less c = omega arith
 
 loop-again : tie.Need-loop-again Inv-loop μ-loop
 loop-again c =
-    let l = c .before .before .before .before .before .before .before .before .before .before .loop in
-    let case = c .before .before .before .before .run-case in
-    let whole = c .before .before .before .before .before .before .before .before .sizes-at .ensures (not-false _ (c .before .before .before .before .before .before .if2 .left)) in
+    let l = c .before .before .before .before .before .before .before .before .before .before .before .loop in
+    let case = c .before .before .before .before .before .run-case in
+    let whole = c .before .before .before .before .before .before .before .before .before .sizes-at .ensures (not-false _ (c .before .before .before .before .before .before .before .if2 .left)) in
     case-passed (l .inv) (omega (arith, whole .ends)) (omega (arith, case .kept)) (case .ensures)
 
 same-length-2 : tie.Need-same-length-2 Inv-loop μ-loop
@@ -86,6 +89,7 @@ run-spec =
     add-at
     add-at-2
     add-at-3
+    add-at-4
     add-done
     loop-less
     loop-again

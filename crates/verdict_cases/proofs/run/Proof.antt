@@ -37,14 +37,29 @@ same-length c = c .before .before .before .loop .inv .kept
 returns-2 : tie.Need-returns-2 Inv-loop μ-loop
 returns-2 c = run-written (c .before .before .before .loop .inv)
 
+add-list-size : tie.Need-add-list-size Inv-loop μ-loop
+add-list-size c = omega arith
+
+list-size-requires : tie.Need-list-size-requires Inv-loop μ-loop
+list-size-requires c κs = omega arith
+
+same-length-2 : tie.Need-same-length-2 Inv-loop μ-loop
+same-length-2 c = c .before .before .before .before .before .loop .inv .kept
+
+returns-3 : tie.Need-returns-3 Inv-loop μ-loop
+returns-3 c = run-written (c .before .before .before .before .before .loop .inv)
+
 judged-requires : tie.Need-judged-requires Inv-loop μ-loop
-judged-requires c κs = omega arith
+judged-requires c κs = omega (arith, c .before .list-size .ensures .ends (omega arith))
 
 put-verdict-requires : tie.Need-put-verdict-requires Inv-loop μ-loop
 put-verdict-requires c κs = omega arith
 
 add-at : tie.Need-add-at Inv-loop μ-loop
 add-at c = omega arith
+
+add-at-2 : tie.Need-add-at-2 Inv-loop μ-loop
+add-at-2 c = omega (arith, c .before .before .before .before .before .before .list-size .ensures .ends (omega arith))
 
 add-done : tie.Need-add-done Inv-loop μ-loop
 add-done c = omega arith
@@ -54,14 +69,15 @@ loop-less c = omega arith
 
 loop-again : tie.Need-loop-again Inv-loop μ-loop
 loop-again c =
-    let l = c .before .before .before .before .before .before .before .before .loop in
-    case-passed (l .inv) (omega arith) (omega arith) (omega arith)
+    let l = c .before .before .before .before .before .before .before .before .before .before .loop in
+    let ends = c .before .before .before .before .before .before .list-size .ensures .ends (omega arith) in
+    case-passed (l .inv) (omega (arith, ends)) (omega arith) (omega arith)
 
-same-length-2 : tie.Need-same-length-2 Inv-loop μ-loop
-same-length-2 c = c .before .loop .inv .kept
+same-length-3 : tie.Need-same-length-3 Inv-loop μ-loop
+same-length-3 c = c .before .loop .inv .kept
 
-returns-3 : tie.Need-returns-3 Inv-loop μ-loop
-returns-3 c = run-written (c .before .loop .inv)
+returns-4 : tie.Need-returns-4 Inv-loop μ-loop
+returns-4 c = run-written (c .before .loop .inv)
 
 pub run-spec : {M : Type 1} → statement M
 run-spec =
@@ -76,11 +92,16 @@ run-spec =
     case-size-requires
     same-length
     returns-2
+    add-list-size
+    list-size-requires
+    same-length-2
+    returns-3
     judged-requires
     put-verdict-requires
     add-at
+    add-at-2
     add-done
     loop-less
     loop-again
-    same-length-2
-    returns-3)
+    same-length-3
+    returns-4)

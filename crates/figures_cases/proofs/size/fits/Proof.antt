@@ -17,6 +17,9 @@ add-if1-2 c = search needs
 add-if1-3 : tie.Need-add-if1-3
 add-if1-3 c = search needs
 
+add-if1-4 : tie.Need-add-if1-4
+add-if1-4 c = search needs
+
 returns : tie.Need-returns
 returns c = λ e. absurd (true≢false (sym e))
 
@@ -49,6 +52,7 @@ fits-spec =
     add-if1
     add-if1-2
     add-if1-3
+    add-if1-4
     returns
     add-fit
     fit-requires

@@ -44,14 +44,33 @@ cut-short-requires-3 c κs = search needs
 returns-3 : tie.Need-returns-3
 returns-3 c = λ e. absurd (true≢false (sym e ∙ c .cut-short3 .ensures))
 
+add-word-5 : tie.Need-add-word-5
+add-word-5 c = search needs
+
+add-word-6 : tie.Need-add-word-6
+add-word-6 c = search needs
+
+add-word-7 : tie.Need-add-word-7
+add-word-7 c = search needs
+
+word-requires-4 : tie.Need-word-requires-4
+word-requires-4 c κs = search needs
+
+cut-short-requires-4 : tie.Need-cut-short-requires-4
+cut-short-requires-4 c κs = search needs
+
+returns-4 : tie.Need-returns-4
+returns-4 c = λ e. absurd (true≢false (sym e ∙ c .cut-short4 .ensures))
+
 fits-requires : tie.Need-fits-requires
 fits-requires c κs = search needs
 
-returns-4 : tie.Need-returns-4
-returns-4 c = λ e. record {
-  fans = c .before .before .before .if2 .left;
-  weights = c .before .if3 .left;
-  room = c .before .before .before .before .if1 .left;
+returns-5 : tie.Need-returns-5
+returns-5 c = λ e. record {
+  fans = c .before .before .before .before .before .if2 .left;
+  weights = c .before .before .before .if3 .left;
+  more = c .before .if4 .left;
+  room = c .before .before .before .before .before .before .if1 .left;
   ends = c .fits2 .ensures e;
 }
 
@@ -72,5 +91,11 @@ sizes-at-spec =
     word-requires-3
     cut-short-requires-3
     returns-3
+    add-word-5
+    add-word-6
+    add-word-7
+    word-requires-4
+    cut-short-requires-4
+    returns-4
     fits-requires
-    returns-4)
+    returns-5)
