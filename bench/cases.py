@@ -1,14 +1,16 @@
-"""The cases that are rated: the worst rule of each kind and size, and every rule of small sizes for the peers to agree on."""
+"""The cases that are rated: the worst rule of each kind and size, kind 8's longest windows, and every rule of small sizes for the peers to agree on."""
 
 import os
+import random
 import sys
 from typing import NamedTuple
 
 sys.path.insert(0, os.path.join(os.path.dirname(os.path.abspath(__file__)), "..", "second"))
-from foambeetle import DEAD, ROWS, UNIT, Rule  # noqa: E402
+from foambeetle import DEAD, LONGEST_WINDOW, MOST_PAIRS, PAIRS_KIND, SEVEN_KINDS, UNIT, Rule, row_of  # noqa: E402
+from samples import random_pairs, rules_in_range, two_windows  # noqa: E402
 
 SIZES = (8, 16, 32, 64)
-KINDS = range(1, 8)
+KINDS = SEVEN_KINDS  # kind 8 has peers of its own
 # Read from the last component on, these give as many memories as a total of 120 can: 1, 2, 4, .. 64, then 120.
 WEIGHTS = (1, 2, 4, 8, 16, 32, 57)
 HEAVIEST = 120
@@ -20,7 +22,8 @@ class Case(NamedTuple):
     weights: tuple
 
     def line(self):
-        return " ".join(map(str, (*self.rule, len(self.survivals), *self.survivals, *self.weights)))
+        more = self.rule.more
+        return " ".join(map(str, (*self.rule.numbers, len(self.survivals), *self.survivals, *self.weights, len(more), *more)))
 
     def with_middle(self, survival):
         """The same with another survival number of the middle fan, whose worth is asked for (bench/peers/worth.c)."""
@@ -67,15 +70,24 @@ def rules(kind, n):
     return [Rule(kind, k, 0) for k in range(1, n + 1)]
 
 
-def steps(rule, heavy):
-    """How many pairs of a component and a living memory a reading can come to."""
-    row = ROWS[rule.kind]
-    here, pairs = {row.start}, 0
+def reached(rule, heavy):
+    """How many living memories a reading can come to, before each component."""
+    row = row_of(rule)
+    here = {row.start}
     for weight in reversed(heavy):
-        pairs += len(here)
+        yield len(here)
         after = {row.working(rule, m) for m in here} | {row.failed(rule, m, weight) for m in here}
         here = after - {DEAD}
-    return pairs
+
+
+def steps(rule, heavy):
+    """How many pairs of a component and a living memory a reading can come to."""
+    return sum(reached(rule, heavy))
+
+
+def living(rule, n):
+    """How many memories of kind 8 live."""
+    return max(reached(rule, (0,) * n))
 
 
 def worst(kind, n):
@@ -117,3 +129,16 @@ def count_cases(n):
     heavy = [case(rule, n, drawn, weights_of) for rule in rules(2, n) for weights_of in (weights, laden, even) if rule.first <= sum(weights_of(n))]
     others = [case(rule, n) for kind in KINDS if kind not in (2, 3) for rule in rules(kind, n)]
     return heavy + others + [case(rule, n) for rule in (Rule(3, 0, 0), Rule(3, n, n), worst(3, n))]
+
+
+def window_cases():
+    """Kind 8 over the longest list: every k of the longest window, and the decks' own rule."""
+    rules_asked = [Rule(PAIRS_KIND, k, LONGEST_WINDOW) for k in range(1, LONGEST_WINDOW + 1)] + [two_windows()]
+    return [case(rule, SIZES[-1]) for rule in rules_asked]
+
+
+def agreed_windows():
+    """Every single pair over small lists, survival numbers 0 among them; two to four pairs."""
+    rng = random.Random(8)
+    single = [case(rule, n, list_of) for n in (1, 2, 10, 16) for rule in rules_in_range(PAIRS_KIND, n, 0) for list_of in (drawn, edges)]
+    return single + [case(random_pairs(rng, n, count), n) for n in (1, 9, 16, 32) for count in range(2, MOST_PAIRS + 1) for _ in range(4)]

@@ -7,7 +7,9 @@ import sys
 from datetime import date
 from typing import NamedTuple
 
-from cases import KINDS, SIZES, UNIT, agreed_cases, count_cases, longest_cases, steps, weights, worst_cases
+from cases import (
+    KINDS, PAIRS_KIND, SIZES, UNIT, agreed_cases, agreed_windows, count_cases, living, longest_cases, steps, weights, window_cases, worst_cases,
+)
 
 # A double that has gone through n rounded steps is this near, in units of 2^-30.
 NEAR = 0.001
@@ -18,6 +20,7 @@ CLEARING = 6829
 START, END = "<!-- results -->\n", "<!-- end of results -->\n"
 WAYS = ("library", "plain", "directed", "fractions", "integers", "whole")
 NAMES = {"plain": "(a)", "directed": "(b)", "fractions": "(c)", "integers": "(c')"}
+WINDOW_NAMES = {"listed": "(e)", "tested": "(f)"}
 LINES, RINGS = (1, 2, 3, 4, 6), (5, 7)
 
 
@@ -87,6 +90,8 @@ def ratio(a, b):
 
 
 def asked(rule):
+    if rule.kind == PAIRS_KIND:
+        return ", ".join(f"{k} of {r}" for k, r in rule.pairs)
     if rule.kind == 3:
         return f"l {rule.first}, h {rule.second}"
     return f"r {rule.second}" if rule.kind > 5 else f"k {rule.first}"
@@ -113,6 +118,7 @@ class Results:
         self.measure()
         self.measure_figure1()
         self.measure_dearest()
+        self.measure_windows()
         self.measure_worths()
         self.measure_counts()
 
@@ -141,15 +147,30 @@ class Results:
         self.dearest = [cases[place] for place in places]
         self.dearest_costs = {way: counted(self.room, way, self.dearest).costs for way in ("library", "plain", "directed")}
 
+    def measure_windows(self):
+        """Kind 8 beside its own peers, which must agree with the library on these rules and on those of small lists."""
+        self.windows = window_cases()
+        every = self.windows + agreed_windows()
+        self.agreed += len(every)
+        self.window_costs = {}
+        for way in ("library", *WINDOW_NAMES):
+            measured = counted(self.room, way, every)
+            library = measured if way == "library" else library
+            see_agreement(every, library, way, measured)
+            self.window_costs[way] = measured.costs[: len(self.windows)]
+        single = [place for place, case in enumerate(self.windows) if not case.rule.more]  # as a deck file has them
+        self.dearest_window = max(single, key=self.window_costs["library"].__getitem__)
+        self.whole_window = counted(self.room, "whole", [self.windows[self.dearest_window]]).costs[0] if "whole" in self.ways else None
+
     def measure_worths(self):
         """Each worth beside the two ratings whose difference it is, with the fan sure to work and with it sure to fail."""
-        cases = [self.cases[self.at[kind, SIZES[-1]]] for kind in KINDS]
+        cases = [self.cases[self.at[kind, SIZES[-1]]] for kind in KINDS] + [self.windows[self.dearest_window]]
         worths = counted(self.room, "worth", cases)
         works, fails = (counted(self.room, "library", [case.with_middle(p) for case in cases]) for p in (UNIT, 0))
         for case, ends, first, second in zip(cases, worths.answers, works.answers, fails.answers):
             if ends != (first[0] - second[1], first[1] - second[0]):
                 fail("the worth is", ends, "and the ratings are", first, second, "of", case.line())
-        self.worths = {case.rule.kind: costs for case, *costs in zip(cases, worths.costs, works.costs, fails.costs)}
+        self.worths = {case.rule: costs for case, *costs in zip(cases, worths.costs, works.costs, fails.costs)}
 
     def measure_counts(self):
         """Count tables under every rule: of each kind and size the dearest, and at the longest the one that is nearest to its goal."""
@@ -194,14 +215,29 @@ class Results:
             rows.append([str(case.rule.kind), asked(case.rule) + laid(case), comma(work), comma(ours), comma(plain), comma(directed), f"{ours / work:.1f}"])
         return table(["kind", "rule", "steps", "library", "(a)", "(b)", "library a step"], rows)
 
+    def windows_table(self):
+        rows = []
+        for place, case in enumerate(self.windows):
+            ours, *peers = (self.window_costs[way][place] for way in ("library", *WINDOW_NAMES))
+            work = steps(case.rule, case.weights)
+            rows.append([asked(case.rule), str(living(case.rule, SIZES[-1])), comma(work), comma(ours), *map(comma, peers),
+                         ratio(ours, peers[0]), f"{ours / work:.1f}"])
+        return table(["at least", "living", "steps", "library", *WINDOW_NAMES.values(), "library / (e)", "library a step"], rows)
+
+    def wholes(self):
+        """Of each kind, the whole call and the rating in it."""
+        for kind in KINDS:
+            yield kind, self.cost("whole", kind), self.cost("library", kind)
+        yield PAIRS_KIND, self.whole_window, self.window_costs["library"][self.dearest_window]
+
     def whole_table(self):
         if "whole" not in self.ways:
             return "Skipped: the crate `loading` is not here.\n"
-        rows = [[str(kind), comma(self.cost("whole", kind)), comma(self.cost("library", kind)), comma(self.over(kind))] for kind in KINDS]
+        rows = [[str(kind), comma(whole), comma(library), comma(whole - library)] for kind, whole, library in self.wholes()]
         return table(["kind", "whole call", "library", "over it"], rows)
 
     def worths_table(self):
-        rows = [[str(kind), asked(self.rule(kind)), *map(comma, costs), comma(costs[0] - costs[1] - costs[2])] for kind, costs in self.worths.items()]
+        rows = [[str(rule.kind), asked(rule), *map(comma, costs), comma(costs[0] - costs[1] - costs[2])] for rule, costs in self.worths.items()]
         return table(["kind", "rule", "worth", "rating, fan works", "rating, fan fails", "over both"], rows)
 
     def counts_table(self):
@@ -210,9 +246,6 @@ class Results:
             grown = ratio(ours - CLEARING, self.counts[kind, n // 2][0] - CLEARING) if n > SIZES[0] else ""
             rows.append([str(kind), str(n), asked(case.rule) + laid(case), comma(ours), comma(ours - CLEARING), comma(plain), grown])
         return table(["kind", "n", "rule", "library", "less clearing", "(d)", "growth"], sorted(rows, key=lambda row: (row[0], int(row[1]))))
-
-    def over(self, kind):
-        return self.cost("whole", kind) - self.cost("library", kind)
 
     def a_step(self):
         """The library's cost of a step of kind 1, which the rings are held against."""
@@ -232,10 +265,12 @@ class Results:
         for kind in RINGS:
             case, ours = self.dearest[kind - 1], self.dearest_costs["library"][kind - 1]
             yield f"the same at its dearest rule, {asked(case.rule)}", ours, 2 * steps(case.rule, case.weights) * self.a_step()
-        for kind in KINDS if "whole" in self.ways else ():
-            yield f"kind {kind}: whole call 20,000 over the rating", self.over(kind), 20000
-        for kind, (worth, works, fails) in self.worths.items():
-            yield f"kind {kind}: a worth 1,000 over its two ratings", worth, works + fails + 1000
+        for case, ours, listed in zip(self.windows, self.window_costs["library"], self.window_costs["listed"]):
+            yield f"kind 8, at least {asked(case.rule)}: no more than (e)", ours, listed
+        for kind, whole, library in self.wholes() if "whole" in self.ways else ():
+            yield f"kind {kind}: whole call 20,000 over the rating", whole - library, 20000
+        for rule, (worth, works, fails) in self.worths.items():
+            yield f"kind {rule.kind}: a worth 1,000 over its two ratings", worth, works + fails + 1000
         for kind, (ours, plain, case) in self.nearest.items():
             yield f"kind {kind}: a count table twice (d) and clearing, nearest at {asked(case.rule)}{laid(case)}", ours, 2 * plain + CLEARING
 
@@ -262,6 +297,8 @@ class Results:
             "Kind 6 by figure 1 of document 000 (a'), at n = 8, 16, 32, 64: " + ", ".join(map(comma, self.figure1)) + ".\n",
             "The rules that cost the library most at n = 64, of every k or r:\n",
             self.dearest_table(),
+            "Kind 8 at n = 64, by how many of how many in a row must work:\n",
+            self.windows_table(),
             "The whole call from a file's bytes, at n = 64:\n",
             self.whole_table(),
             "The worth of fan 32, at n = 64:\n",

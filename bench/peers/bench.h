@@ -2,13 +2,14 @@
 #include <stddef.h>
 #include <stdint.h>
 
-enum { MOST = 64, HEAVIEST = 120, UNIT = 1 << 30 };
+enum { MOST = 64, HEAVIEST = 120, UNIT = 1 << 30, MOST_MORE = 6 };
 
-// One case: a rule over n components, numbered from 1.
+// One case: a rule over n components, numbered from 1; of kind 8 the numbers of its further pairs, two each.
 struct asked {
-    int kind, first, second, n;
+    int kind, first, second, n, further;
     uint32_t survival[MOST];
     uint16_t weights[MOST];
+    uint64_t more[MOST_MORE];
 };
 
 // Both ends in units of 2^-30; a way that has one figure gives it twice.

@@ -1,5 +1,5 @@
 // Reads cases on standard input and rates each: between marks for the counter, or with `time`, many times for a median.
-// A case is a line: kind first second n, the n survival numbers, the n weights.
+// A case is a line: kind first second n, the n survival numbers, the n weights, how many numbers of further pairs there are, these.
 #include "bench.h"
 #include <stdio.h>
 #include <stdlib.h>
@@ -24,6 +24,9 @@ static int read_case(struct asked *a) {
         if (scanf("%u", &a->survival[i]) != 1) exit(1);
     for (int i = 0; i < a->n; i++)
         if (scanf("%hu", &a->weights[i]) != 1) exit(1);
+    if (scanf("%d", &a->further) != 1 || a->further > MOST_MORE) exit(1);
+    for (int i = 0; i < a->further; i++)
+        if (scanf("%lu", &a->more[i]) != 1) exit(1);
     return 1;
 }
 

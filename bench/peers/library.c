@@ -4,7 +4,7 @@
 enum { CELLS = 7800 };
 
 uint64_t foambeetle_figures(uint64_t kind, uint64_t first, uint64_t second, uint64_t a, uint64_t b, const uint32_t *survival, size_t n,
-                            const uint16_t *weights, size_t weighed, uint64_t *table, size_t cells);
+                            const uint16_t *weights, size_t weighed, const uint64_t *more, size_t further, uint64_t *table, size_t cells);
 
 static struct asked asked;
 static uint64_t table[CELLS], packed;
@@ -14,8 +14,8 @@ void prepare(const struct asked *a) {
 }
 
 struct ends rate(void) {
-    packed = foambeetle_figures(asked.kind, asked.first, asked.second, 1, asked.n, asked.survival, asked.n, asked.weights, asked.n, table,
-                                CELLS);
+    packed = foambeetle_figures(asked.kind, asked.first, asked.second, 1, asked.n, asked.survival, asked.n, asked.weights, asked.n, asked.more,
+                                asked.further, table, CELLS);
     return (struct ends){0, 0};
 }
 

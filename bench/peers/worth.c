@@ -4,7 +4,8 @@
 enum { CELLS = 7800 };
 
 uint64_t foambeetle_worth_of(uint64_t kind, uint64_t first, uint64_t second, uint64_t a, uint64_t b, uint64_t fan, const uint32_t *survival,
-                             size_t n, const uint16_t *weights, size_t weighed, uint64_t *table, size_t cells, int64_t *ends);
+                             size_t n, const uint16_t *weights, size_t weighed, const uint64_t *more, size_t further, uint64_t *table,
+                             size_t cells, int64_t *ends);
 
 static struct asked asked;
 static uint64_t table[CELLS], refused;
@@ -16,7 +17,7 @@ void prepare(const struct asked *a) {
 
 struct ends rate(void) {
     refused = foambeetle_worth_of(asked.kind, asked.first, asked.second, 1, asked.n, asked.n / 2, asked.survival, asked.n, asked.weights, asked.n,
-                                  table, CELLS, ends);
+                                  asked.more, asked.further, table, CELLS, ends);
     return (struct ends){0, 0};
 }
 
