@@ -12,12 +12,13 @@
  * A refusal is a number of this table. 2 and 10 to 13 refuse the whole file, 14 the system number, 17 the fan's, and the
  * others the system alone:
  *
- *    1  kind not 1..7
+ *    1  kind not 1..8
  *    2  number of fans 0 or above 64
  *    3  stretch: a = 0, b < a, or b above the number of fans
  *    4  a survival number above 2^30 in the stretch
  *    5  kind 2: the stretch's weights add up to more than 120
- *    6  first or second out of range; kind 6 takes a window of 2 to 64 over a stretch of any length
+ *    6  first or second out of range; kind 6 takes a window of 2 to 64 over a stretch of any length, kind 8 a window of
+ *       1 to 10 and no longer than the stretch
  *   10  file under 20 bytes
  *   11  version not 1, or the zero field not 0
  *   12  number of systems not 1..32
