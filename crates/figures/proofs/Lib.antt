@@ -1,6 +1,7 @@
--- What the call's proofs share, its outcome, that kinds 1 to 7 are answered as they were, and that the call for a whole list, which it took the place of,
--- answered as it does.
+-- What the call's proofs share, its outcome, that a better list is rated no lower, that kinds 1 to 7 are answered as they were, and that the call for a
+-- whole list, which it took the place of, answered as it does.
 pub mod Refused
 pub mod Outcome
+pub mod Better
 pub mod Earlier
 pub mod Whole

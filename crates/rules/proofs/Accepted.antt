@@ -1,14 +1,14 @@
 -- What an answer that is no refusal tells: every condition of the call's list failed, so the rule is accepted, and the figures are those of the
 -- definitions, so the third condition holds of them. Assumes nothing.
-use mathlib.Core.Path.{_≡_, refl}
-use mathlib.Core.Bool.{Bool, true, false, not}
+use mathlib.Core.Path.{_≡_, refl, _∙_}
+use mathlib.Core.Bool.{Bool, true, false, cond, not}
 use mathlib.Core.List.{List, [], _∷_}
-use Prim.Native.Nat.{ℕ, zero, suc, _-_, _≤_}
+use Prim.Native.Nat.{ℕ, zero, suc, _+_, _-_, _≤_}
 use native.Mathlib.Omega.{arith}
 use lib.Dec.{eqb, ltb}
-use lib.ListN.{length, length-take, length-drop}
-use lib.Seq.{take-all}
-use borrow.Author.Tests.{eqb-true, eqb-false, eq-eqb, ne-eqb, ltb-false, not-false, le-ltb, le-leb}
+use lib.ListN.{length, getD, take, drop, length-take, length-drop, List·getD-eq-default}
+use lib.Seq.{take-all, getD-take, getD-drop}
+use borrow.Author.Tests.{eqb-true, eqb-false, eq-eqb, ne-eqb, ltb-true, ltb-false, not-false, le-ltb, le-leb}
 use Rattle.rules.specs.declared.Rule.{Rule}
 use Rattle.rules.specs.declared.Rating.{Rating}
 use Rattle.rules.specs.declared.Rating.the-variants.{Range, Refused}
@@ -19,7 +19,7 @@ use Rattle.rules.specs.Asked.{Asked, lengthOf, sizeOf, partOf, weightsOf
 use Rattle.rules.specs.Refusal.{most, badKind, badSize, badStretch, heaviest, weightsOut, badWeights, rangeOne, rangeTwo, rangePairs, ranged, inRange, firstOf, figuresRefusal}
 use Rattle.rules.specs.Accepted.{Accepted, One, Two, Ratable}
 use Rattle.rules.specs.Answer.{unless, figuresOf}
-use Rattle.rules.proofs.Tests.{both, neither}
+use Rattle.rules.proofs.Tests.{by-test, both, neither}
 use Rattle.rules.proofs.EachKind.{within-true}
 use Rattle.rules.proofs.Conditions.{units-in, third}
 
@@ -154,6 +154,16 @@ unfolding stretch
 stretch-length a b xs e =
     let h = in-stretch a b (length xs) e in
     simp (length-take, length-drop) (omega arith)
+
+-- what stands in a stretch
+pub stretch-get : (a b : ℕ) (xs : List ℕ) (i : ℕ) → getD (stretch a b xs) i 0 ≡ cond (ltb i (suc b - a)) (getD xs (a - 1 + i) 0) 0
+unfolding stretch
+stretch-get a b xs i =
+    let m = suc b - a in
+    let rest = drop (a - 1) xs in
+    by-test (λ x. getD (take m rest) i 0 ≡ x) (ltb i m) _ _
+    (λ l. getD-take m rest i 0 (ltb-true i m l) ∙ getD-drop (a - 1) xs i 0)
+    (λ l. List·getD-eq-default (take m rest) 0 {n = i} (omega (arith, ltb-false i m l, length-take m rest)))
 
 -- no refusal, so the stretch can be rated
 module _ (q : Asked) (table : List ℕ) where

@@ -69,7 +69,7 @@ units-in survival e i = go (decLt i (length survival))
     go (yes l) = not-lt _ _ (λ g. some-none (λ i. ltb S (getD survival i 0)) (length survival) .0 e i l (lt-ltb _ _ g))
     go (no l) = rw (List·getD-eq-default survival 0 (not-lt _ _ l)) (omega arith)
 
-pub below-unit : (survival : List ℕ) → ((i : ℕ) → getD survival i 0 ≤ S) → (i : ℕ) → numberOf survival i ≤ S
+pub below-unit : {u : ℕ} (survival : List ℕ) → ((i : ℕ) → getD survival i 0 ≤ u) → (i : ℕ) → numberOf survival i ≤ u
 unfolding numberOf
 below-unit survival units zero = omega arith
 below-unit survival units (suc i) = units i

@@ -48,7 +48,7 @@ no-more-low s x = record { bit = λ d e. go d e (decLt d s) }
     go d e (no l) = absurd (false≢true (sym (bit-high s d x (omega arith)) ∙ e))
 
 module _ {y x : ℕ} (h : NoMore y x) where
-  cut : (s : ℕ) → NoMore (y % 2 ^ s) (x % 2 ^ s)
+  pub cut : (s : ℕ) → NoMore (y % 2 ^ s) (x % 2 ^ s)
   cut s = record { bit = λ d e. go d e (decLt d s) }
     where
       go : (d : ℕ) → down d (y % 2 ^ s) ≡ true → Dec (d < s) → down d (x % 2 ^ s) ≡ true

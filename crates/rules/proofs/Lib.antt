@@ -22,6 +22,7 @@ pub mod Further
 pub mod Shifted
 pub mod Lacking
 pub mod Fewer
+pub mod Orders
 pub mod PairExamples
 pub mod Adding
 pub mod EachKind
@@ -32,3 +33,4 @@ pub mod Unread
 pub mod Differences
 pub mod Sure
 pub mod Lowest
+pub mod Better

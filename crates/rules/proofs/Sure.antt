@@ -5,13 +5,11 @@ use mathlib.Core.Path.{_≡_, refl, sym, ap, ap₂, _∙_}
 use mathlib.Core.Logic.{_↔_}
 use mathlib.Core.Bool.{Bool, true, false, true≢false}
 use mathlib.Core.List.{List, [], _∷_}
-use Prim.Native.Nat.{ℕ, zero, suc, _+_, _*_, _-_, _^_, _≤_, _<_}
+use Prim.Native.Nat.{ℕ, zero, suc, _+_, _*_, _-_, _^_, _≤_, _<_, zero-le}
 use native.Mathlib.Omega.{arith}
-use native.Mathlib.Decide.{decLt}
 use lib.Dec.{ltb}
 use lib.IntN.{ℤ, subℕ}
-use lib.ListN.{length, getD, take, drop, set, length-set, length-take, List·getD-eq-default}
-use lib.Seq.{getD-take, getD-drop}
+use lib.ListN.{length, getD, set, length-set}
 use borrow.Author.Tests.{le-ltb}
 use Rattle.rules.specs.declared.Worth.{Worth}
 use Rattle.rules.specs.declared.Worth.the-variants.{Ends, Refused}
@@ -23,11 +21,12 @@ use Rattle.rules.specs.Asked.{Asked, lengthOf, sizeOf, partOf, weightsOf
 use Rattle.rules.specs.Refusal.{after, aboveUnit, badWeights, badSize, badStretch, figuresRefusal}
 use Rattle.rules.specs.Answer.{unless, figuresOf}
 use Rattle.rules.specs.Worth.{sure, lowerOf, upperOf, Weighs, worthOf, Signed, Between, BetweenOf}
+use Rattle.rules.proofs.Tests.{by-test}
 use Rattle.rules.proofs.Unless.{unless-none}
 use Rattle.rules.proofs.Answer.{given-is, none-is}
 use Rattle.rules.proofs.Windows.{some-none}
 use Rattle.rules.proofs.Conditions.{figure-within}
-use Rattle.rules.proofs.Accepted.{first-same, in-stretch, figures-ratable, figures-third}
+use Rattle.rules.proofs.Accepted.{first-same, in-stretch, stretch-get, figures-ratable, figures-third}
 use Rattle.rules.proofs.Differences.{less-le, less-none, none-less, less-less, less-times}
 
 -- ---- a number replaced
@@ -41,16 +40,9 @@ set-within u p h (x ∷ xs) (suc j) zero s = s
 set-within u p h (x ∷ xs) (suc j) (suc i) s = set-within u p h xs j i s
 
 part-within : (p a b j : ℕ) (xs : List ℕ) → p ≤ S → ((i : ℕ) → getD (stretch a b xs) i 0 ≤ S) → (i : ℕ) → getD (stretch a b (set xs j p)) i 0 ≤ S
-unfolding stretch
-part-within p a b j xs h s i = go (decLt i (suc b - a))
-  where
-    go : Dec (i < suc b - a) → getD (take (suc b - a) (drop (a - 1) (set xs j p))) i 0 ≤ S
-    go (yes l) =
-        rw (getD-take (suc b - a) (drop (a - 1) (set xs j p)) i 0 l, getD-drop (a - 1) (set xs j p) i 0)
-        (set-within S p h xs j (a - 1 + i) (rw (getD-take (suc b - a) (drop (a - 1) xs) i 0 l, getD-drop (a - 1) xs i 0) at (s i)))
-    go (no g) =
-        let short = length-take (suc b - a) (drop (a - 1) (set xs j p)) in
-        rw (List·getD-eq-default (take (suc b - a) (drop (a - 1) (set xs j p))) 0 {n = i} (omega (arith, short))) (omega arith)
+part-within p a b j xs h s i =
+    rw (stretch-get a b (set xs j p) i)
+    (by-test (λ x. x ≤ S) (ltb i (suc b - a)) _ _ (λ l. set-within S p h xs j (a - 1 + i) (rw (stretch-get a b xs i, l) at (s i))) (λ l. zero-le))
 
 none-above : (xs : List ℕ) → ((i : ℕ) → getD xs i 0 ≤ S) → aboveUnit xs ≡ false
 unfolding aboveUnit

@@ -13,5 +13,6 @@ pub mod Refusal
 pub mod Accepted
 pub mod Answer
 pub mod Worth
+pub mod Better
 pub mod File
 pub mod Writing

@@ -1,0 +1,136 @@
+-- Request 09: a better fan never spoils the figure. A kind's row respects an order of its memories (`Orders`), so a list in which no survival number is
+-- lower has no lower figure, rounded down or up; the same of what is asked and of what is answered. A fan sure to work is better than one sure to
+-- fail, so the upper end of its worth is not below 0. Assumes nothing.
+use mathlib.Core.Path.{_≡_, refl, sym, ap, _∙_}
+use mathlib.Core.Bool.{Bool, true, false, false≢true}
+use mathlib.Core.List.{List, [], _∷_}
+use Prim.Native.Nat.{ℕ, zero, suc, _+_, _-_, _^_, _≤_, _<_, zero-le}
+use native.Mathlib.Omega.{arith}
+use native.Mathlib.Nat.{le-refl, le-trans, le-of-mul-le-mul-right, one-le-pow}
+use lib.Dec.{ltb}
+use lib.IntN.{ℤ, pos, subℕ}
+use lib.ListN.{length, getD, set, length-set, length-take, length-drop}
+use lib.Signed.{_≤ℤ_}
+use Rattle.rules.specs.declared.Rule.{Rule}
+use Rattle.rules.specs.declared.Rating.the-variants.{Range}
+use Rattle.rules.specs.declared.Worth.the-variants.{Ends}
+use Rattle.rules.specs.Below.{within}
+use Rattle.rules.specs.State.{S, ruleOf, numberOf}
+use Rattle.rules.specs.Pairs.{pairsOf}
+use Rattle.rules.specs.Memory.{live, Row, machineOf, readingOf, row1, row4, row5, row6, row7, row8}
+use Rattle.rules.specs.Figure.{figureOf, figure}
+use Rattle.rules.specs.Stretch.{stretch}
+use Rattle.rules.specs.Asked.{Asked, sizeOf, partOf, readOf, lowOf, highOf}
+use Rattle.rules.specs.Refusal.{figuresRefusal}
+use Rattle.rules.specs.Answer.{figuresOf}
+use Rattle.rules.specs.Worth.{sure, working, failing, upperOf, worthOf}
+use Rattle.rules.specs.Better.{NoLower, rising, Better}
+use Rattle.rules.proofs.Tests.{both, by-both}
+use Rattle.rules.proofs.Monotone.{value-raise}
+use Rattle.rules.proofs.Orders.{Worse, Respects, row-ordered, More, Longer, Owing, row1-respects, row4-respects, row5-respects, row6-respects, row7-respects, MoreDown, row8-respects}
+use Rattle.rules.proofs.EachKind.{each-kind, within-true}
+use Rattle.rules.proofs.Conditions.{below-unit}
+use Rattle.rules.proofs.Answer.{rates}
+use Rattle.rules.proofs.Accepted.{stretch-get, figures-ratable}
+use Rattle.rules.proofs.Differences.{less-le, less-none}
+use Rattle.rules.proofs.Sure.{after-first, weighs, sure-accepted, sure-third}
+
+-- ---- better lists
+
+numbers : {xs ys : List ℕ} → NoLower xs ys → (i : ℕ) → numberOf xs i ≤ numberOf ys i
+unfolding numberOf
+numbers better zero = le-refl 0
+numbers better (suc i) = better .no-lower i
+
+pub stretch-better : (a b : ℕ) {xs ys : List ℕ} → NoLower xs ys → NoLower (stretch a b xs) (stretch a b ys)
+unfolding stretch
+stretch-better a b {xs} {ys} better = record {
+  same-length = simp (length-take, length-drop, better .same-length);
+  no-lower =
+      λ i. rw (stretch-get a b xs i, stretch-get a b ys i)
+      (by-both _≤_ (ltb i (suc b - a)) _ _ _ _ (λ l. better .no-lower (a - 1 + i)) (λ l. le-refl 0));
+}
+
+pub set-better : (xs : List ℕ) (j p p' : ℕ) → p ≤ p' → NoLower (set xs j p) (set xs j p')
+set-better xs j p p' h = record { same-length = length-set xs j p ∙ sym (length-set xs j p'); no-lower = go xs j }
+  where
+    go : (xs : List ℕ) (j i : ℕ) → getD (set xs j p) i 0 ≤ getD (set xs j p') i 0
+    go [] j i = le-refl _
+    go (x ∷ xs) zero zero = h
+    go (x ∷ xs) zero (suc i) = le-refl _
+    go (x ∷ xs) (suc j) zero = le-refl _
+    go (x ∷ xs) (suc j) (suc i) = go xs j i
+
+-- ---- their figures, of any unit
+
+module _ (up : Bool) (u : ℕ) (some : 0 < u) (xs ys beside : List ℕ) (better : NoLower xs ys) (units : (i : ℕ) → getD ys i 0 ≤ u) where
+  row-better : {A : Type 0} (R : Row A) (W : A → A → Type 0) → Respects R W → figureOf R up u xs ≤ figureOf R up u ys
+  row-better R W r =
+      rw (better .same-length)
+      (value-raise (machineOf R) (Worse W) (row-ordered R W r) up u some (length ys) (numberOf xs) (numberOf ys)
+      (λ i l. below-unit ys units i) (λ i l. numbers better i) (live (R .start)))
+
+  by-kind : (first second kind : ℕ) → 1 ≤ kind → kind ≤ 8 → rising kind ≡ true
+      → figure up u (ruleOf kind first second) xs beside ≤ figure up u (ruleOf kind first second) ys beside
+  unfolding readingOf
+  by-kind first second =
+      each-kind (λ kind. rising kind ≡ true → figure up u (ruleOf kind first second) xs beside ≤ figure up u (ruleOf kind first second) ys beside)
+      (λ e. row-better (row1 first (λ i. 1)) More (row1-respects first (λ i. 1)))
+      (λ e. row-better (row1 first (numberOf beside)) More (row1-respects first (numberOf beside)))
+      (λ e. absurd (false≢true e))
+      (λ e. row-better (row4 first) More (row4-respects first))
+      (λ e. row-better (row5 first) Longer (row5-respects first))
+      (λ e. row-better (row6 second) More (row6-respects second))
+      (λ e. row-better (row7 second) (Owing second) (row7-respects second))
+      (λ e. row-better (row8 (pairsOf first second beside)) MoreDown (row8-respects (pairsOf first second beside)))
+
+  pub better-figure : (rule : Rule) → rising (rule .kind) ≡ true → figure up u rule xs beside ≤ figure up u rule ys beside
+  better-figure rule e =
+      let k = within-true 1 (rule .kind) 8 (both (within 1 (rule .kind) 8) _ e .0) in
+      by-kind (rule .first) (rule .second) (rule .kind) (k .0) (k .1) e
+
+-- ---- of what is asked and answered. That the second is accepted is enough: its numbers are within the unit.
+
+module _ (q q' : Asked) (better : Better q q') (kind : rising (q .rule .kind) ≡ true) where
+  pub better-asked : (table : List ℕ) → figuresRefusal q' table ≡ 0 → (lowOf q ≤ lowOf q') × (highOf q ≤ highOf q')
+  better-asked table none = (go false, go true)
+    where
+      go : (up : Bool) → figure up S (q .rule) (partOf q) (readOf q) ≤ figure up S (q' .rule) (partOf q') (readOf q')
+      go up =
+          let read : readOf q ≡ readOf q' = rw (better .rule, better .weights, better .more, better .from, better .to) in
+          rw (← read, ← (better .rule))
+          (better-figure up S (omega arith) (partOf q) (partOf q') (readOf q) (better .survival) (figures-ratable q' table none .2 .units) (q .rule) kind)
+
+  pub better-answers : (table table' : List ℕ) (l h l' h' : ℕ) → figuresOf q table ≡ Range l h → figuresOf q' table' ≡ Range l' h' → (l ≤ l') × (h ≤ h')
+  unfolding figuresOf
+  better-answers table table' l h l' h' e e' =
+      let v = rates (Range l h) _ _ _ .1 (sym e) in
+      let v' = rates (Range l' h') _ _ _ .1 (sym e') in
+      rw (v .1, v .2, v' .1, v' .2) (better-asked table' (v' .0))
+
+-- ---- the worth
+
+pub sure-better : (q : Asked) (fan p p' : ℕ) → p ≤ p' → Better (sure fan p q) (sure fan p' q)
+sure-better q fan p p' h = record {
+  rule = refl;
+  from = refl;
+  to = refl;
+  weights = refl;
+  more = refl;
+  survival = stretch-better (q .a) (q .b) (set-better (q .survival) (fan - 1) p p' h);
+}
+
+module _ (q : Asked) (table : List ℕ) (fan : ℕ) (kind : rising (q .rule .kind) ≡ true) where
+  -- low with the fan sure to fail, low with it sure to work, high with it sure to work
+  fails-works : figuresRefusal q table ≡ 0 → lowOf (failing fan q) ≤ highOf (working fan q)
+  fails-works none =
+      let works = sure-accepted q table fan S none (omega arith) in
+      let third = sure-third q table fan S none (omega arith) in
+      le-trans (better-asked (failing fan q) (working fan q) (sure-better q fan 0 S (omega arith)) kind table works .0)
+      (le-of-mul-le-mul-right (le-trans (third .above-low) (third .below-high)) (one-le-pow (sizeOf q - 1) S (omega arith)))
+
+  pub worth-rising : (l h : ℤ) → worthOf q fan table ≡ Ends l h → pos 0 ≤ℤ h
+  unfolding worthOf
+  worth-rising l h e =
+      let v = weighs (Ends l h) _ _ _ .1 (sym e) in
+      rw (v .2, ← (less-none 0)) (less-le 0 0 (highOf (working fan q)) (lowOf (failing fan q)) (omega (arith, fails-works (after-first _ _ (v .0)))))
