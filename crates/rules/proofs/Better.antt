@@ -1,14 +1,14 @@
 -- Request 09: a better fan never spoils the figure. A kind's row respects an order of its memories (`Orders`), so a list in which no survival number is
 -- lower has no lower figure, rounded down or up; the same of what is asked and of what is answered. A fan sure to work is better than one sure to
 -- fail, so the upper end of its worth is not below 0. Assumes nothing.
-use mathlib.Core.Path.{_≡_, refl, sym, ap, _∙_}
+use mathlib.Core.Path.{_≡_, refl, sym, _∙_}
 use mathlib.Core.Bool.{Bool, true, false, false≢true}
 use mathlib.Core.List.{List, [], _∷_}
-use Prim.Native.Nat.{ℕ, zero, suc, _+_, _-_, _^_, _≤_, _<_, zero-le}
+use Prim.Native.Nat.{ℕ, zero, suc, _+_, _-_, _≤_, _<_}
 use native.Mathlib.Omega.{arith}
 use native.Mathlib.Nat.{le-refl, le-trans, le-of-mul-le-mul-right, one-le-pow}
 use lib.Dec.{ltb}
-use lib.IntN.{ℤ, pos, subℕ}
+use lib.IntN.{ℤ, pos}
 use lib.ListN.{length, getD, set, length-set, length-take, length-drop}
 use lib.Signed.{_≤ℤ_}
 use Rattle.rules.specs.declared.Rule.{Rule}
@@ -20,10 +20,10 @@ use Rattle.rules.specs.Pairs.{pairsOf}
 use Rattle.rules.specs.Memory.{live, Row, machineOf, readingOf, row1, row4, row5, row6, row7, row8}
 use Rattle.rules.specs.Figure.{figureOf, figure}
 use Rattle.rules.specs.Stretch.{stretch}
-use Rattle.rules.specs.Asked.{Asked, sizeOf, partOf, readOf, lowOf, highOf}
+use Rattle.rules.specs.Asked.{Asked, askedOf, sizeOf, partOf, readOf, lowOf, highOf}
 use Rattle.rules.specs.Refusal.{figuresRefusal}
 use Rattle.rules.specs.Answer.{figuresOf}
-use Rattle.rules.specs.Worth.{sure, working, failing, upperOf, worthOf}
+use Rattle.rules.specs.Worth.{working, failing, worthOf}
 use Rattle.rules.specs.Better.{NoLower, rising, Better}
 use Rattle.rules.proofs.Tests.{both, by-both}
 use Rattle.rules.proofs.Monotone.{value-raise}
@@ -61,6 +61,11 @@ set-better xs j p p' h = record { same-length = length-set xs j p ∙ sym (lengt
     go (x ∷ xs) (suc j) zero = le-refl _
     go (x ∷ xs) (suc j) (suc i) = go xs j i
 
+-- a better list asked the same
+pub asked-better : (rule : Rule) (a b : ℕ) {xs ys : List ℕ} (weights more : List ℕ) → NoLower xs ys
+    → Better (askedOf rule a b xs weights more) (askedOf rule a b ys weights more)
+asked-better rule a b weights more better = record { rule = refl; from = refl; to = refl; weights = refl; more = refl; survival = stretch-better a b better }
+
 -- ---- their figures, of any unit
 
 module _ (up : Bool) (u : ℕ) (some : 0 < u) (xs ys beside : List ℕ) (better : NoLower xs ys) (units : (i : ℕ) → getD ys i 0 ≤ u) where
@@ -70,11 +75,13 @@ module _ (up : Bool) (u : ℕ) (some : 0 < u) (xs ys beside : List ℕ) (better 
       (value-raise (machineOf R) (Worse W) (row-ordered R W r) up u some (length ys) (numberOf xs) (numberOf ys)
       (λ i l. below-unit ys units i) (λ i l. numbers better i) (live (R .start)))
 
-  by-kind : (first second kind : ℕ) → 1 ≤ kind → kind ≤ 8 → rising kind ≡ true
-      → figure up u (ruleOf kind first second) xs beside ≤ figure up u (ruleOf kind first second) ys beside
+  abbrev NotBelow : (first second kind : ℕ) → Type 0
+  NotBelow first second kind = rising kind ≡ true → figure up u (ruleOf kind first second) xs beside ≤ figure up u (ruleOf kind first second) ys beside
+
+  by-kind : (first second kind : ℕ) → 1 ≤ kind → kind ≤ 8 → NotBelow first second kind
   unfolding readingOf
   by-kind first second =
-      each-kind (λ kind. rising kind ≡ true → figure up u (ruleOf kind first second) xs beside ≤ figure up u (ruleOf kind first second) ys beside)
+      each-kind (NotBelow first second)
       (λ e. row-better (row1 first (λ i. 1)) More (row1-respects first (λ i. 1)))
       (λ e. row-better (row1 first (numberOf beside)) More (row1-respects first (numberOf beside)))
       (λ e. absurd (false≢true e))
@@ -101,7 +108,8 @@ module _ (q q' : Asked) (better : Better q q') (kind : rising (q .rule .kind) �
           rw (← read, ← (better .rule))
           (better-figure up S (omega arith) (partOf q) (partOf q') (readOf q) (better .survival) (figures-ratable q' table none .2 .units) (q .rule) kind)
 
-  pub better-answers : (table table' : List ℕ) (l h l' h' : ℕ) → figuresOf q table ≡ Range l h → figuresOf q' table' ≡ Range l' h' → (l ≤ l') × (h ≤ h')
+  pub better-answers : (table table' : List ℕ) (l h l' h' : ℕ) → figuresOf q table ≡ Range l h → figuresOf q' table' ≡ Range l' h'
+      → (l ≤ l') × (h ≤ h')
   unfolding figuresOf
   better-answers table table' l h l' h' e e' =
       let v = rates (Range l h) _ _ _ .1 (sym e) in
@@ -110,23 +118,13 @@ module _ (q q' : Asked) (better : Better q q') (kind : rising (q .rule .kind) �
 
 -- ---- the worth
 
-pub sure-better : (q : Asked) (fan p p' : ℕ) → p ≤ p' → Better (sure fan p q) (sure fan p' q)
-sure-better q fan p p' h = record {
-  rule = refl;
-  from = refl;
-  to = refl;
-  weights = refl;
-  more = refl;
-  survival = stretch-better (q .a) (q .b) (set-better (q .survival) (fan - 1) p p' h);
-}
-
 module _ (q : Asked) (table : List ℕ) (fan : ℕ) (kind : rising (q .rule .kind) ≡ true) where
   -- low with the fan sure to fail, low with it sure to work, high with it sure to work
   fails-works : figuresRefusal q table ≡ 0 → lowOf (failing fan q) ≤ highOf (working fan q)
   fails-works none =
-      let works = sure-accepted q table fan S none (omega arith) in
+      let better = asked-better (q .rule) (q .a) (q .b) (q .weights) (q .more) (set-better (q .survival) (fan - 1) 0 S (omega arith)) in
       let third = sure-third q table fan S none (omega arith) in
-      le-trans (better-asked (failing fan q) (working fan q) (sure-better q fan 0 S (omega arith)) kind table works .0)
+      le-trans (better-asked (failing fan q) (working fan q) better kind table (sure-accepted q table fan S none (omega arith)) .0)
       (le-of-mul-le-mul-right (le-trans (third .above-low) (third .below-high)) (one-le-pow (sizeOf q - 1) S (omega arith)))
 
   pub worth-rising : (l h : ℤ) → worthOf q fan table ≡ Ends l h → pos 0 ≤ℤ h

@@ -1,6 +1,7 @@
 -- Document 01, "Proved examples": A to K as one table, and one theorem that every row of it holds, computed by the checker; and three
 -- more, of worths, of the writer and of a better fan that spoils a figure of kind 3, which document 01 does not know. Assumes nothing.
 use mathlib.Core.Path.{_≡_, refl}
+use mathlib.Core.Bool.{false}
 use mathlib.Core.List.{List, [], _∷_, _++_}
 use Prim.Native.Nat.{ℕ, suc, _*_, _^_}
 use native.Mathlib.Omega.{arith}
@@ -28,7 +29,7 @@ use Rattle.rules.specs.Answer.{unless, judgment, judgedOf, verdictOf, fi
 use Rattle.rules.specs.Worth.{worthOf}
 use Rattle.rules.specs.File.{bytesOf, allBytes, headerOf, systemNumbers, systemsOf, fileOf}
 use Rattle.rules.specs.Writing.{Typed, typedOf, bytesFor, writeRefusal, writingOf, roomWritten}
-use Rattle.rules.specs.Better.{NoLower}
+use Rattle.rules.specs.Better.{NoLower, rising}
 use Rattle.rules.proofs.Better.{set-better}
 use lib.IntN.{pos, negℤ}
 use lib.ListN.{length, replicate}
@@ -112,8 +113,8 @@ pub examples : All table
 unfolding All Holds table sumBelow held some first firstWindow firstNear placeOf judgment judgedOf listBelow total numberOf someWindow twoNear fails weightDown ones countIf countsOf moved ended readingOf rounded value stretch aboveUnit weightsOut ranged firstOf verdictRefusal figuresRefusal unless verdictOf figuresOf
 examples = (refl, (refl, (refl, (refl, (refl, (refl, (refl, (refl, (refl, (refl, (refl, (refl, (refl, tt)))))))))))))
 
--- request 09: "Kind 3 is excepted". Two fans at 1/4, and a system that fails if exactly one of them does, lasting with chance 5/8; with the second at 1/2
--- it is 1/2.
+-- request 09: "Kind 3 is excepted". Two fans at 1/4, and a system that fails if exactly one of them has: its chance is 5/8. With the second at 1/2 it is
+-- 1/2.
 abbrev worn : List ℕ
 worn = 2 ^ 28 ∷ 2 ^ 28 ∷ []
 
@@ -126,6 +127,6 @@ fallen =
     ∷ figures (ruleOf 3 1 1) mended (Range (4 * 2 ^ 27) (4 * 2 ^ 27))
     ∷ []
 
-pub kind3-falls : NoLower worn mended × All fallen
+pub kind3-falls : (rising 3 ≡ false) × NoLower worn mended × All fallen
 unfolding All Holds fallen some total numberOf moved ended readingOf rounded value stretch aboveUnit weightsOut ranged firstOf figuresRefusal unless figuresOf
-kind3-falls = (set-better worn 1 (2 ^ 28) (2 ^ 29) (omega arith), (refl, (refl, tt)))
+kind3-falls = (refl, set-better worn 1 (2 ^ 28) (2 ^ 29) (omega arith), (refl, (refl, tt)))
