@@ -37,10 +37,10 @@ use Rattle.rules.proofs.Sure.{after-first, weighs, sure-accepted, sure-
 
 -- ---- better lists
 
-numbers : {xs ys : List ℕ} → NoLower xs ys → (i : ℕ) → numberOf xs i ≤ numberOf ys i
+numbers : (xs ys : List ℕ) → NoLower xs ys → (i : ℕ) → numberOf xs i ≤ numberOf ys i
 unfolding numberOf
-numbers better zero = le-refl 0
-numbers better (suc i) = better .no-lower i
+numbers xs ys better zero = le-refl 0
+numbers xs ys better (suc i) = better .no-lower i
 
 pub stretch-better : (a b : ℕ) {xs ys : List ℕ} → NoLower xs ys → NoLower (stretch a b xs) (stretch a b ys)
 unfolding stretch
@@ -73,7 +73,7 @@ module _ (up : Bool) (u : ℕ) (some : 0 < u) (xs ys beside : List ℕ) (better 
   row-better R W r =
       rw (better .same-length)
       (value-raise (machineOf R) (Worse W) (row-ordered R W r) up u some (length ys) (numberOf xs) (numberOf ys)
-      (λ i l. below-unit ys units i) (λ i l. numbers better i) (live (R .start)))
+      (λ i l. below-unit ys units i) (λ i l. numbers xs ys better i) (live (R .start)))
 
   abbrev NotBelow : (first second kind : ℕ) → Type 0
   NotBelow first second kind = rising kind ≡ true → figure up u (ruleOf kind first second) xs beside ≤ figure up u (ruleOf kind first second) ys beside
