@@ -337,10 +337,22 @@ def unread_more_cases(rng):
         yield from (whole(rng, Rule(9, 1, 1, more), [1] * n, []) for more in ((), unread_more(rng)))
 
 
+def refit_cases(rng):
+    """Lists before a refit and after it, with some fans better: under kind 3, docs/DECISIONS.md's that falls."""
+    for second in (UNIT // 4, UNIT // 2):
+        yield whole(rng, Rule(3, 1, 1), [UNIT // 4, second], [])
+    for kind in (1, 2, 4, 5, 6, 7, PAIRS_KIND):
+        weights = weights_for(rng, kind, 9)
+        rule = random_rule(rng, kind, 9, sum(weights)) or Rule(1, 1, 0)
+        worn = random_survivals(rng, 9)
+        for survivals in (worn, [rng.randint(survival, UNIT) if rng.random() < 0.5 else survival for survival in worn]):
+            yield whole(rng, rule, survivals, weights)
+
+
 def make_cases():
     rng = random.Random(303)
     makers = (small_cases, alike_cases, every_length_cases, long_cases, sound_fan_cases, weight_cases,
               stretch_cases, rule_cases, room_cases, wrong_stretch_cases, survival_cases, length_cases,
               refused_cases, short_line_cases, single_pair_cases, many_pair_cases, pair_edge_cases, pair_stretch_cases, wrong_pair_cases,
-              refused_pair_cases, unread_more_cases)
+              refused_pair_cases, unread_more_cases, refit_cases)
     return [*published_cases(), *(case for maker in makers for case in maker(rng))]

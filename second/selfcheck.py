@@ -276,6 +276,21 @@ def enclosure():
             yield 0 <= low and high <= unit, True
 
 
+def better_lists():
+    # document 02, request 09: "neither low nor high is lower .. for kinds 1, 2 and 4 to 8"
+    rng = random.Random(9)
+    for unit in (UNIT, 10 ** 9, 7):
+        for rule, survivals, weights in random_systems(17, 160, 10):
+            survivals = [survival * unit // UNIT for survival in survivals]
+            better = [rng.randint(survival, unit) if rng.random() < 0.5 else survival for survival in survivals]
+            if rule.kind != 3:
+                worn, refitted = (low_and_high(rule, numbers, weights, unit) for numbers in (survivals, better))
+                yield worn[0] <= refitted[0] and worn[1] <= refitted[1], True
+    # "Kind 3 is excepted, with an example in docs/"
+    yield low_and_high(Rule(3, 1, 1), [UNIT // 4, UNIT // 4], []), (671088640, 671088640)
+    yield low_and_high(Rule(3, 1, 1), [UNIT // 4, UNIT // 2], []), (536870912, 536870912)
+
+
 def figures_two_ways():
     rng = random.Random(5)
     for rule, n, weights in small_systems(6):
@@ -655,7 +670,7 @@ def lent_tables():
 GROUPS = (
     published_figures, table_1_exactly, table_4_exactly, windows_table_exactly, example_file, traps, source_equations, pascal, verdicts_three_ways,
     places_two_ways, long_verdicts_three_ways,
-    counts_three_ways, enclosure, figures_two_ways, lines_no_longer_than_the_window, pairs_by_states, pairs_alike, pairs_refused,
+    counts_three_ways, enclosure, better_lists, figures_two_ways, lines_no_longer_than_the_window, pairs_by_states, pairs_alike, pairs_refused,
     further_numbers_unread, rules_accepted, refusals_of_calls,
     refusals_of_states_and_counts, stretches_read_inside_only, deck_files, printed_and_packed,
     decks_written, refusals_of_writing, header_damage, lent_tables, worths_by_words, worths_of_parts, plain_worths, refusals_of_worths, worths_of_files,
