@@ -1,4 +1,4 @@
-// The refusals that several calls share: 1, 2, 5 and 6 of document 01's table; and how a refusal stands in the one number that C gets.
+// The refusals that several calls share: 11, 1, 2, 5 and 6 of document 01's table; and how a refusal stands in the one number that C gets.
 mod pairs; // pairs.rt: kind 8's pairs
 
 ghost use mathlib.Core.Bool.{not};
@@ -6,10 +6,13 @@ ghost use mathlib.Core.Path.{_≡_};
 ghost use Prim.Native.Nat.{_≤_, _<_};
 ghost use lib.ListN.{length};
 ghost use Rattle.rules.specs.Below.{total, within};
-ghost use Rattle.rules.specs.Refusal.{most, badKind, badSize, rangeOne, rangeTwo, ranged};
+ghost use Rattle.rules.specs.Refusal.{most, badVersion, badKind, badSize, rangeOne, rangeTwo, ranged};
 ghost use Rattle.rules.specs.File.{halfWord, packedRefusal};
 ghost use Rattle.refusals.specs.Shared.{ratedRefusal, ruleRefusal};
 use rules::Rule;
+
+// The last version of the deck file.
+const LAST_VERSION: u64 = 2;
 
 // The most components of a list, and the heaviest total of those rated.
 const MOST: u64 = 64;
@@ -29,6 +32,13 @@ pub fn outside(low: u64, x: u64, high: u64) -> bool
         return true;
     }
     high < x
+}
+
+// Refusal 11.
+pub fn version_out(version: u64) -> bool
+    ensures { λ r. ⌜ r ≡ badVersion version ⌝ }
+{
+    outside(1, version, LAST_VERSION)
 }
 
 // Refusal 1.

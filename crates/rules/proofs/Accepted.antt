@@ -15,12 +15,13 @@ use Rattle.rules.specs.declared.Rating.the-variants.{Range, Refused}
 use Rattle.rules.specs.Below.{total, within}
 use Rattle.rules.specs.State.{besideOf}
 use Rattle.rules.specs.Stretch.{stretch}
-use Rattle.rules.specs.Asked.{Asked, lengthOf, sizeOf, partOf, weightsOf, readOf, lowOf, highOf, ThirdOf}
+use Rattle.rules.specs.Asked.{Asked, unitIn, lengthOf, sizeOf, partOf, weightsOf, readOf, lowOf, highOf, ThirdOf}
 use Rattle.rules.specs.Refusal.{most, badKind, badSize, badStretch, heaviest, weightsOut, badWeights, rangeOne, rangeTwo, rangePairs, ranged, inRange, firstOf, figuresRefusal}
 use Rattle.rules.specs.Accepted.{Accepted, One, Two, Ratable}
 use Rattle.rules.specs.Answer.{unless, figuresOf}
 use Rattle.rules.proofs.Tests.{by-test, both, neither}
 use Rattle.rules.proofs.EachKind.{within-true}
+use Rattle.rules.proofs.Units.{unit-some}
 use Rattle.rules.proofs.Conditions.{units-in, third}
 
 -- no refusal: the first condition fails, and so do those after it
@@ -168,10 +169,11 @@ stretch-get a b xs i =
 -- no refusal, so the stretch can be rated
 module _ (q : Asked) (table : List ℕ) where
   pub figures-ratable : figuresRefusal q table ≡ 0
-      → (badStretch (q .a) (q .b) (lengthOf q) ≡ false) × (q .rule .kind ≡ 2 → length (q .weights) ≡ lengthOf q) × Ratable (q .rule) (partOf q) (readOf q) table
+      → (badStretch (q .a) (q .b) (lengthOf q) ≡ false) × (q .rule .kind ≡ 2 → length (q .weights) ≡ lengthOf q) × Ratable (unitIn q) (q .rule) (partOf q) (readOf q) table
   unfolding figuresRefusal
   figures-ratable e =
-      let v = none-first 0 _ _ e in
+      let i = none-first 10 _ _ e in
+      let v = none-first 0 _ _ (i .1) in
       let w = none-first 1 _ _ (v .1) in
       let t = none-first 2 _ _ (w .1) in
       let c = none-first 3 _ _ (t .1) in
@@ -187,7 +189,7 @@ module _ (q : Asked) (table : List ℕ) where
         λ two. weights-accepted (q .rule) n (length (q .weights)) _ (d .0) two .0,
         record {
           accepted = rw size (rule-accepted (q .rule) (sizeOf q) n (q .weights) _ (q .more) (v .0) in-size (d .0) as-many (f .0));
-          units = units-in (partOf q) (c .0);
+          units = units-in (unitIn q) (partOf q) (c .0);
           room = ltb-false _ _ (none-first 6 _ _ (f .1) .0);
         },
       )
@@ -201,7 +203,7 @@ module _ (q : Asked) (table : List ℕ) where
       let size = stretch-length (q .a) (q .b) (q .survival) (s .0) in
       let low-is : lowOf q ≡ l = cc (v .1) in
       let high-is : highOf q ≡ h = cc (v .1) in
-      rw (← low-is, ← high-is, ← size) (third (q .rule) (partOf q) (readOf q) (s .2 .accepted .size-low) (s .2 .units) (s .2 .accepted .in-range))
+      rw (← low-is, ← high-is, ← size) (third (unit-some (q .version)) (q .rule) (partOf q) (readOf q) (s .2 .accepted .size-low) (s .2 .units) (s .2 .accepted .in-range))
 
 -- a stretch from 1 to the end is the list
 pub stretch-all : (xs : List ℕ) (n : ℕ) → length xs ≡ n → stretch 1 n xs ≡ xs

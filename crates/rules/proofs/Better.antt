@@ -4,7 +4,7 @@
 use mathlib.Core.Path.{_≡_, refl, sym, _∙_}
 use mathlib.Core.Bool.{Bool, true, false, false≢true}
 use mathlib.Core.List.{List, [], _∷_}
-use Prim.Native.Nat.{ℕ, zero, suc, _+_, _-_, _≤_, _<_}
+use Prim.Native.Nat.{ℕ, zero, suc, _+_, _-_, _≤_, _<_, zero-le}
 use native.Mathlib.Omega.{arith}
 use native.Mathlib.Nat.{le-refl, le-trans, le-of-mul-le-mul-right, one-le-pow}
 use lib.Dec.{ltb}
@@ -15,12 +15,12 @@ use Rattle.rules.specs.declared.Rule.{Rule}
 use Rattle.rules.specs.declared.Rating.the-variants.{Range}
 use Rattle.rules.specs.declared.Worth.the-variants.{Ends}
 use Rattle.rules.specs.Below.{within}
-use Rattle.rules.specs.State.{S, ruleOf, numberOf}
+use Rattle.rules.specs.State.{ruleOf, numberOf}
 use Rattle.rules.specs.Pairs.{pairsOf}
 use Rattle.rules.specs.Memory.{live, Row, machineOf, readingOf, row1, row4, row5, row6, row7, row8}
 use Rattle.rules.specs.Figure.{figureOf, figure}
 use Rattle.rules.specs.Stretch.{stretch}
-use Rattle.rules.specs.Asked.{Asked, askedOf, sizeOf, partOf, readOf, lowOf, highOf}
+use Rattle.rules.specs.Asked.{Asked, askedOf, unitIn, sizeOf, partOf, readOf, lowOf, highOf}
 use Rattle.rules.specs.Refusal.{figuresRefusal}
 use Rattle.rules.specs.Answer.{figuresOf}
 use Rattle.rules.specs.Worth.{working, failing, worthOf}
@@ -29,6 +29,7 @@ use Rattle.rules.proofs.Tests.{both, by-both}
 use Rattle.rules.proofs.Monotone.{value-raise}
 use Rattle.rules.proofs.Orders.{Worse, Respects, row-ordered, More, Longer, Owing, row1-respects, row4-respects, row5-respects, row6-respects, row7-respects, MoreDown, row8-respects}
 use Rattle.rules.proofs.EachKind.{each-kind, within-true}
+use Rattle.rules.proofs.Units.{unit-some}
 use Rattle.rules.proofs.Conditions.{below-unit}
 use Rattle.rules.proofs.Answer.{rates}
 use Rattle.rules.proofs.Accepted.{stretch-get, figures-ratable}
@@ -62,9 +63,9 @@ set-better xs j p p' h = record { same-length = length-set xs j p ∙ sym (lengt
     go (x ∷ xs) (suc j) (suc i) = go xs j i
 
 -- a better list asked the same
-pub asked-better : (rule : Rule) (a b : ℕ) {xs ys : List ℕ} (weights more : List ℕ) → NoLower xs ys
-    → Better (askedOf rule a b xs weights more) (askedOf rule a b ys weights more)
-asked-better rule a b weights more better = record { rule = refl; from = refl; to = refl; weights = refl; more = refl; survival = stretch-better a b better }
+pub asked-better : (version : ℕ) (rule : Rule) (a b : ℕ) {xs ys : List ℕ} (weights more : List ℕ) → NoLower xs ys
+    → Better (askedOf version rule a b xs weights more) (askedOf version rule a b ys weights more)
+asked-better version rule a b weights more better = record { version = refl; rule = refl; from = refl; to = refl; weights = refl; more = refl; survival = stretch-better a b better }
 
 -- ---- their figures, of any unit
 
@@ -102,11 +103,12 @@ module _ (q q' : Asked) (better : Better q q') (kind : rising (q .rule .kind) �
   pub better-asked : (table : List ℕ) → figuresRefusal q' table ≡ 0 → (lowOf q ≤ lowOf q') × (highOf q ≤ highOf q')
   better-asked table none = (go false, go true)
     where
-      go : (up : Bool) → figure up S (q .rule) (partOf q) (readOf q) ≤ figure up S (q' .rule) (partOf q') (readOf q')
+      go : (up : Bool) → figure up (unitIn q) (q .rule) (partOf q) (readOf q) ≤ figure up (unitIn q') (q' .rule) (partOf q') (readOf q')
       go up =
           let read : readOf q ≡ readOf q' = rw (better .rule, better .weights, better .more, better .from, better .to) in
-          rw (← read, ← (better .rule))
-          (better-figure up S (omega arith) (partOf q) (partOf q') (readOf q) (better .survival) (figures-ratable q' table none .2 .units) (q .rule) kind)
+          rw (← read, ← (better .rule), ← (better .version))
+          (better-figure up (unitIn q) (unit-some (q .version)) (partOf q) (partOf q') (readOf q) (better .survival)
+          (rw (← (better .version)) at (figures-ratable q' table none .2 .units)) (q .rule) kind)
 
   pub better-answers : (table table' : List ℕ) (l h l' h' : ℕ) → figuresOf q table ≡ Range l h → figuresOf q' table' ≡ Range l' h'
       → (l ≤ l') × (h ≤ h')
@@ -122,10 +124,10 @@ module _ (q : Asked) (table : List ℕ) (fan : ℕ) (kind : rising (q .rule .kin
   -- low with the fan sure to fail, low with it sure to work, high with it sure to work
   fails-works : figuresRefusal q table ≡ 0 → lowOf (failing fan q) ≤ highOf (working fan q)
   fails-works none =
-      let better = asked-better (q .rule) (q .a) (q .b) (q .weights) (q .more) (set-better (q .survival) (fan - 1) 0 S (omega arith)) in
-      let third = sure-third q table fan S none (omega arith) in
-      le-trans (better-asked (failing fan q) (working fan q) better kind table (sure-accepted q table fan S none (omega arith)) .0)
-      (le-of-mul-le-mul-right (le-trans (third .above-low) (third .below-high)) (one-le-pow (sizeOf q - 1) S (omega arith)))
+      let better = asked-better (q .version) (q .rule) (q .a) (q .b) (q .weights) (q .more) (set-better (q .survival) (fan - 1) 0 (unitIn q) zero-le) in
+      let third = sure-third q table fan (unitIn q) none (le-refl _) in
+      le-trans (better-asked (failing fan q) (working fan q) better kind table (sure-accepted q table fan (unitIn q) none (le-refl _)) .0)
+      (le-of-mul-le-mul-right (le-trans (third .above-low) (third .below-high)) (one-le-pow (sizeOf q - 1) (unitIn q) (unit-some (q .version))))
 
   pub worth-rising : (l h : ℤ) → worthOf q fan table ≡ Ends l h → pos 0 ≤ℤ h
   unfolding worthOf

@@ -60,13 +60,13 @@ pub count-by-reading : (rule : Rule) (n : ℕ) (weights : List ℕ) (j : ℕ) �
     → countOf rule n weights j ≡ countIf (run (machine rule weights) n (machine rule weights .start)) n j
 count-by-reading rule n weights j e = count-same _ _ n j (λ w l. sym (reading-is-verdict rule n weights w e l))
 
--- no P read is above S
-pub units-in : (survival : List ℕ) → aboveUnit survival ≡ false → (i : ℕ) → getD survival i 0 ≤ S
+-- no P read is above the unit
+pub units-in : (u : ℕ) (survival : List ℕ) → aboveUnit u survival ≡ false → (i : ℕ) → getD survival i 0 ≤ u
 unfolding aboveUnit
-units-in survival e i = go (decLt i (length survival))
+units-in u survival e i = go (decLt i (length survival))
   where
-    go : Dec (i < length survival) → getD survival i 0 ≤ S
-    go (yes l) = not-lt _ _ (λ g. some-none (λ i. ltb S (getD survival i 0)) (length survival) .0 e i l (lt-ltb _ _ g))
+    go : Dec (i < length survival) → getD survival i 0 ≤ u
+    go (yes l) = not-lt _ _ (λ g. some-none (λ i. ltb u (getD survival i 0)) (length survival) .0 e i l (lt-ltb _ _ g))
     go (no l) = rw (List·getD-eq-default survival 0 (not-lt _ _ l)) (omega arith)
 
 pub below-unit : {u : ℕ} (survival : List ℕ) → ((i : ℕ) → getD survival i 0 ≤ u) → (i : ℕ) → numberOf survival i ≤ u
@@ -75,14 +75,15 @@ below-unit survival units zero = omega arith
 below-unit survival units (suc i) = units i
 
 -- a figure is a value of a memory, and stays within the unit
-pub figure-within : (up : Bool) (rule : Rule) (survival weights : List ℕ) → ((i : ℕ) → getD survival i 0 ≤ S) → figure up S rule survival weights ≤ S
-figure-within up rule survival weights units =
-    value-le (machine rule weights) S (numberOf survival) (omega arith) up (length survival) (λ i l. below-unit survival units i) _
+pub figure-within : (up : Bool) {u : ℕ} → 0 < u → (rule : Rule) (survival weights : List ℕ) → ((i : ℕ) → getD survival i 0 ≤ u)
+    → figure up u rule survival weights ≤ u
+figure-within up {u} whole rule survival weights units =
+    value-le (machine rule weights) u (numberOf survival) whole up (length survival) (λ i l. below-unit survival units i) _
 
 -- the third condition, of document 01's low, high and E. Of a stretch it is this, said of the stretch's own lists.
-pub third : (rule : Rule) (survival weights : List ℕ) → 1 ≤ length survival → ((i : ℕ) → getD survival i 0 ≤ S) → inRange rule (length survival) weights ≡ true
-    → Third S (length survival) (low S rule survival weights) (high S rule survival weights) (exact S rule survival weights)
-third rule survival weights some units range =
+pub third : {u : ℕ} → 0 < u → (rule : Rule) (survival weights : List ℕ) → 1 ≤ length survival → ((i : ℕ) → getD survival i 0 ≤ u)
+    → inRange rule (length survival) weights ≡ true → Third u (length survival) (low u rule survival weights) (high u rule survival weights) (exact u rule survival weights)
+third {u} whole rule survival weights some units range =
     let n = length survival in
-    let same = exact-same _ _ S (numberOf survival) n (λ w l. reading-is-verdict rule n weights w range l) in
-    rw (← same) (enclosed (machine rule weights) S (numberOf survival) (omega arith) n some (λ i l. below-unit survival units i) _)
+    let same = exact-same _ _ u (numberOf survival) n (λ w l. reading-is-verdict rule n weights w range l) in
+    rw (← same) (enclosed (machine rule weights) u (numberOf survival) whole n some (λ i l. below-unit survival units i) _)

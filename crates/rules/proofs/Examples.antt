@@ -1,5 +1,5 @@
--- Document 01, "Proved examples": A to K as one table, and one theorem that every row of it holds, computed by the checker; and three
--- more, of worths, of the writer and of a better fan that spoils a figure of kind 3, which document 01 does not know. Assumes nothing.
+-- Document 01, "Proved examples": A to K as one table, and one theorem that every row of it holds, computed by the checker; and four
+-- more, of worths, of the writer, of versions and of a better fan that spoils a figure of kind 3, which document 01 does not know. Assumes nothing.
 use mathlib.Core.Path.{_≡_, refl}
 use mathlib.Core.Bool.{false}
 use mathlib.Core.List.{List, [], _∷_, _++_}
@@ -10,14 +10,14 @@ use Rattle.rules.specs.declared.Rule.{Rule}
 use Rattle.rules.specs.declared.Verdict.{Verdict}
 use Rattle.rules.specs.declared.Verdict.the-variants.{Works, Fails}
 use Rattle.rules.specs.declared.Rating.{Rating}
-use Rattle.rules.specs.declared.Rating.the-variants.{Range}
+use Rattle.rules.specs.declared.Rating.the-variants.{Range, Refused}
 use Rattle.rules.specs.declared.Worth.{Worth}
 use Rattle.rules.specs.declared.Worth.the-variants as worth
 use Rattle.rules.specs.declared.Worth.the-variants.{Ends}
 use Rattle.rules.specs.declared.Writing.the-variants as writing
 use Rattle.rules.specs.declared.Writing.the-variants.{Written}
 use Rattle.rules.specs.Below.{sumBelow, held, some, first, listBelow, total}
-use Rattle.rules.specs.State.{S, ruleOf, numberOf}
+use Rattle.rules.specs.State.{S, decimal, unitOf, ruleOf, numberOf}
 use Rattle.rules.specs.Verdict.{weightDown, someWindow, twoNear, fails, firstWindow, firstNear, placeOf}
 use Rattle.rules.specs.Count.{countIf, countsOf}
 use Rattle.rules.specs.Memory.{moved, ended, readingOf}
@@ -43,7 +43,7 @@ pub data Example : Type 0 where
 unfoldable pub Holds : Example → Type 0
 Holds (counts rule n weights printed) = countsOf rule n weights ≡ printed
 Holds (verdict rule n w printed) = verdictOf rule n [] [] w ≡ printed
-Holds (figures rule survival printed) = figuresOf (askedOf rule 1 (length survival) survival [] []) (replicate cells 0) ≡ printed
+Holds (figures rule survival printed) = figuresOf (askedOf 1 rule 1 (length survival) survival [] []) (replicate cells 0) ≡ printed
 
 unfoldable pub All : List Example → Type 0
 unfolding Holds
@@ -73,7 +73,7 @@ abbrev four : List ℕ
 four = 2 ^ 29 ∷ 2 ^ 28 ∷ 2 ^ 29 ∷ suc S ∷ []
 
 abbrev pub weighed : (rule : Rule) (a b : ℕ) (survival : List ℕ) (fan : ℕ) → Worth
-weighed rule a b survival fan = worthOf (askedOf rule a b survival [] []) fan (replicate cells 0)
+weighed rule a b survival fan = worthOf (askedOf 1 rule a b survival [] []) fan (replicate cells 0)
 
 pub worths : (weighed (ruleOf 1 1 0) 2 3 four 2 ≡ Ends (pos (2 ^ 29)) (pos (2 ^ 29)))
     × (weighed (ruleOf 1 1 0) 2 3 four 3 ≡ Ends (pos (2 ^ 28)) (pos (2 ^ 28)))
@@ -82,12 +82,12 @@ pub worths : (weighed (ruleOf 1 1 0) 2 3 four 2 ≡ Ends (pos (2 ^ 29)) (pos (2 
     × (weighed (ruleOf 1 1 0) 2 4 four 4 ≡ worth.Refused 4)
     × (weighed (ruleOf 1 3 0) 2 3 four 4 ≡ worth.Refused 6)
     × (weighed (ruleOf 3 0 0) 1 1 four 1 ≡ Ends (negℤ (pos S)) (negℤ (pos S)))
-unfolding sumBelow held some listBelow total numberOf someWindow twoNear fails weightDown ones moved ended readingOf rounded value stretch aboveUnit weightsOut ranged firstOf after figuresRefusal unless worthOf
+unfolding unitOf sumBelow held some listBelow total numberOf someWindow twoNear fails weightDown ones moved ended readingOf rounded value stretch aboveUnit weightsOut ranged firstOf after figuresRefusal unless worthOf
 worths = (refl, refl, refl, refl, refl, refl, refl)
 
 -- request 01: document 01's file in hex as the office types it, its room full, one byte short and one long, and the order of refusals
 abbrev three : Typed
-three = typedOf (2 ^ 29 ∷ 2 ^ 29 ∷ 2 ^ 29 ∷ []) (0 ∷ 0 ∷ 0 ∷ []) (1 ∷ 2 ∷ 0 ∷ 1 ∷ 3 ∷ 4 ∷ 2 ∷ 0 ∷ 1 ∷ 3 ∷ 4 ∷ 4 ∷ 0 ∷ 1 ∷ 3 ∷ [])
+three = typedOf 1 (2 ^ 29 ∷ 2 ^ 29 ∷ 2 ^ 29 ∷ []) (0 ∷ 0 ∷ 0 ∷ []) (1 ∷ 2 ∷ 0 ∷ 1 ∷ 3 ∷ 4 ∷ 2 ∷ 0 ∷ 1 ∷ 3 ∷ 4 ∷ 4 ∷ 0 ∷ 1 ∷ 3 ∷ [])
 
 abbrev printed : List ℕ
 printed =
@@ -103,14 +103,32 @@ pub writings : (bytesFor three ≡ printed)
     × (roomWritten three (replicate 69 7) ≡ printed ++ (7 ∷ []))
     × (writingOf three (replicate 67 7) ≡ writing.Refused 16)
     × (roomWritten three (replicate 67 7) ≡ replicate 67 7)
-    × (writingOf (typedOf [] (1 ∷ []) []) [] ≡ writing.Refused 2)
-    × (writingOf (typedOf (S ∷ []) [] []) [] ≡ writing.Refused 5)
-    × (writingOf (typedOf (S ∷ []) (1 ∷ []) (1 ∷ 1 ∷ 0 ∷ 1 ∷ [])) [] ≡ writing.Refused 12)
+    × (writingOf (typedOf 1 [] (1 ∷ []) []) [] ≡ writing.Refused 2)
+    × (writingOf (typedOf 1 (S ∷ []) [] []) [] ≡ writing.Refused 5)
+    × (writingOf (typedOf 1 (S ∷ []) (1 ∷ []) (1 ∷ 1 ∷ 0 ∷ 1 ∷ [])) [] ≡ writing.Refused 12)
 unfolding listBelow bytesOf allBytes headerOf systemNumbers systemsOf fileOf firstOf writeRefusal unless writingOf roomWritten
 writings = (refl, refl, refl, refl, refl, refl, refl, refl)
 
+-- request 08: a fan at 1/2 and two of 1 part in version 2, whose mix is rounded up by that unit; the unit itself and one part more; the versions that there are
+-- not, before a kind that there is not
+abbrev versionTwo : Rule → (survival : List ℕ) → Rating
+versionTwo rule survival = figuresOf (askedOf 2 rule 1 (length survival) survival [] []) (replicate cells 0)
+
+pub versions : (versionTwo (ruleOf 1 1 0) (500000000 ∷ []) ≡ Range 500000000 500000000)
+    × (versionTwo (ruleOf 1 2 0) (1 ∷ 1 ∷ []) ≡ Range 1 2)
+    × (versionTwo (ruleOf 1 1 0) (decimal ∷ []) ≡ Range decimal decimal)
+    × (versionTwo (ruleOf 1 1 0) (suc decimal ∷ []) ≡ Refused 4)
+    × (figuresOf (askedOf 0 (ruleOf 9 1 0) 1 1 (1 ∷ []) [] []) [] ≡ Refused 11)
+    × (figuresOf (askedOf 3 (ruleOf 1 1 0) 1 1 (1 ∷ []) [] []) [] ≡ Refused 11)
+    × (writingOf (typedOf 3 [] [] []) [] ≡ writing.Refused 11)
+    × (bytesFor (typedOf 2 (decimal ∷ []) (7 ∷ []) (1 ∷ 1 ∷ 0 ∷ 1 ∷ 1 ∷ []))
+    ≡ 2 ∷ 0 ∷ 0 ∷ 0 ∷ 1 ∷ 0 ∷ 1 ∷ 0 ∷ 20 ∷ 0 ∷ 0 ∷ 0 ∷ 24 ∷ 0 ∷ 0 ∷ 0 ∷ 26 ∷ 0 ∷ 0 ∷ 0
+    ∷ 0 ∷ 202 ∷ 154 ∷ 59 ∷ 7 ∷ 0 ∷ 1 ∷ 0 ∷ 1 ∷ 0 ∷ 0 ∷ 0 ∷ 1 ∷ 0 ∷ 1 ∷ 0 ∷ [])
+unfolding unitOf sumBelow held some listBelow total numberOf ones moved ended readingOf rounded value stretch aboveUnit weightsOut ranged firstOf figuresRefusal unless figuresOf bytesOf allBytes headerOf systemNumbers systemsOf fileOf writeRefusal writingOf
+versions = (refl, refl, refl, refl, refl, refl, refl, refl)
+
 pub examples : All table
-unfolding All Holds table sumBelow held some first firstWindow firstNear placeOf judgment judgedOf listBelow total numberOf someWindow twoNear fails weightDown ones countIf countsOf moved ended readingOf rounded value stretch aboveUnit weightsOut ranged firstOf verdictRefusal figuresRefusal unless verdictOf figuresOf
+unfolding All Holds table unitOf sumBelow held some first firstWindow firstNear placeOf judgment judgedOf listBelow total numberOf someWindow twoNear fails weightDown ones countIf countsOf moved ended readingOf rounded value stretch aboveUnit weightsOut ranged firstOf verdictRefusal figuresRefusal unless verdictOf figuresOf
 examples = (refl, (refl, (refl, (refl, (refl, (refl, (refl, (refl, (refl, (refl, (refl, (refl, (refl, tt)))))))))))))
 
 -- request 09: "Kind 3 is excepted". Two fans at 1/4, and a system that fails if exactly one of them has: its chance is 5/8. With the second at 1/2 it is
@@ -128,5 +146,5 @@ fallen =
     ∷ []
 
 pub kind3-falls : (rising 3 ≡ false) × NoLower worn mended × All fallen
-unfolding All Holds fallen some total numberOf moved ended readingOf rounded value stretch aboveUnit weightsOut ranged firstOf figuresRefusal unless figuresOf
+unfolding All Holds fallen unitOf some total numberOf moved ended readingOf rounded value stretch aboveUnit weightsOut ranged firstOf figuresRefusal unless figuresOf
 kind3-falls = (refl, set-better worn 1 (2 ^ 28) (2 ^ 29) (omega arith), (refl, (refl, tt)))

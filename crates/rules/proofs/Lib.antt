@@ -9,6 +9,7 @@ pub mod Split
 pub mod Rounding
 pub mod Enclosure
 pub mod Monotone
+pub mod Units
 pub mod Unless
 pub mod Answer
 pub mod Dead

@@ -1,5 +1,5 @@
--- Request 06: the exact difference lies between the two ends of a fan's worth, which are at most 2n - 2 apart and run from -S to S. A rating that is
--- not refused is not refused with one of its fans' numbers replaced by 0 or S, so the third condition holds of both ratings; the rest is two
+-- Request 06: the exact difference lies between the two ends of a fan's worth, which are at most 2n - 2 apart and run from minus the unit to the unit. A rating that is
+-- not refused is not refused with one of its fans' numbers replaced by 0 or the unit, so the third condition holds of both ratings; the rest is two
 -- inequalities. Nothing is rounded here. Assumes nothing.
 use mathlib.Core.Path.{_≡_, refl, sym, ap, ap₂, _∙_}
 use mathlib.Core.Logic.{_↔_}
@@ -7,6 +7,7 @@ use mathlib.Core.Bool.{Bool, true, false, true≢false}
 use mathlib.Core.List.{List, [], _∷_}
 use Prim.Native.Nat.{ℕ, zero, suc, _+_, _*_, _-_, _^_, _≤_, _<_, zero-le}
 use native.Mathlib.Omega.{arith}
+use native.Mathlib.Nat.{le-refl}
 use lib.Dec.{ltb}
 use lib.IntN.{ℤ, subℕ}
 use lib.ListN.{length, getD, set, length-set}
@@ -14,10 +15,9 @@ use borrow.Author.Tests.{le-ltb}
 use Rattle.rules.specs.declared.Worth.{Worth}
 use Rattle.rules.specs.declared.Worth.the-variants.{Ends, Refused}
 use Rattle.rules.specs.Below.{some}
-use Rattle.rules.specs.State.{S}
 use Rattle.rules.specs.Figure.{figure, Third}
 use Rattle.rules.specs.Stretch.{stretch}
-use Rattle.rules.specs.Asked.{Asked, lengthOf, sizeOf, partOf, weightsOf, readOf, lowOf, highOf, ThirdOf}
+use Rattle.rules.specs.Asked.{Asked, unitIn, lengthOf, sizeOf, partOf, weightsOf, readOf, lowOf, highOf, ThirdOf}
 use Rattle.rules.specs.Refusal.{after, aboveUnit, badWeights, badSize, badStretch, figuresRefusal}
 use Rattle.rules.specs.Answer.{unless, figuresOf}
 use Rattle.rules.specs.Worth.{sure, lowerOf, upperOf, Weighs, worthOf, Signed, Between, BetweenOf}
@@ -26,6 +26,7 @@ use Rattle.rules.proofs.Unless.{unless-none}
 use Rattle.rules.proofs.Answer.{given-is, none-is}
 use Rattle.rules.proofs.Windows.{some-none}
 use Rattle.rules.proofs.Conditions.{figure-within}
+use Rattle.rules.proofs.Units.{unit-some}
 use Rattle.rules.proofs.Accepted.{first-same, in-stretch, stretch-get, figures-ratable, figures-third}
 use Rattle.rules.proofs.Differences.{less-le, less-none, none-less, less-less, less-times}
 
@@ -39,32 +40,33 @@ set-within u p h (x ∷ xs) zero (suc i) s = s
 set-within u p h (x ∷ xs) (suc j) zero s = s
 set-within u p h (x ∷ xs) (suc j) (suc i) s = set-within u p h xs j i s
 
-part-within : (p a b j : ℕ) (xs : List ℕ) → p ≤ S → ((i : ℕ) → getD (stretch a b xs) i 0 ≤ S) → (i : ℕ) → getD (stretch a b (set xs j p)) i 0 ≤ S
-part-within p a b j xs h s i =
+part-within : (u p a b j : ℕ) (xs : List ℕ) → p ≤ u → ((i : ℕ) → getD (stretch a b xs) i 0 ≤ u) → (i : ℕ) → getD (stretch a b (set xs j p)) i 0 ≤ u
+part-within u p a b j xs h s i =
     rw (stretch-get a b (set xs j p) i)
-    (by-test (λ x. x ≤ S) (ltb i (suc b - a)) _ _ (λ l. set-within S p h xs j (a - 1 + i) (rw (stretch-get a b xs i, l) at (s i))) (λ l. zero-le))
+    (by-test (λ x. x ≤ u) (ltb i (suc b - a)) _ _ (λ l. set-within u p h xs j (a - 1 + i) (rw (stretch-get a b xs i, l) at (s i))) (λ l. zero-le))
 
-none-above : (xs : List ℕ) → ((i : ℕ) → getD xs i 0 ≤ S) → aboveUnit xs ≡ false
+none-above : (u : ℕ) (xs : List ℕ) → ((i : ℕ) → getD xs i 0 ≤ u) → aboveUnit u xs ≡ false
 unfolding aboveUnit
-none-above xs s = some-none (λ i. ltb S (getD xs i 0)) (length xs) .1 (λ i l e. true≢false (sym e ∙ le-ltb S (getD xs i 0) (s i)))
+none-above u xs s = some-none (λ i. ltb u (getD xs i 0)) (length xs) .1 (λ i l e. true≢false (sym e ∙ le-ltb u (getD xs i 0) (s i)))
 
 -- ---- a rating that is not refused, with one of its numbers replaced
 
-module _ (q : Asked) (table : List ℕ) (fan p : ℕ) (none : figuresRefusal q table ≡ 0) (small : p ≤ S) where
+module _ (q : Asked) (table : List ℕ) (fan p : ℕ) (none : figuresRefusal q table ≡ 0) (small : p ≤ unitIn q) where
   sure-length : lengthOf (sure fan p q) ≡ lengthOf q
   sure-length = length-set (q .survival) (fan - 1) p
 
-  sure-units : (i : ℕ) → getD (partOf (sure fan p q)) i 0 ≤ S
-  sure-units = part-within p (q .a) (q .b) (fan - 1) (q .survival) small (figures-ratable q table none .2 .units)
+  sure-units : (i : ℕ) → getD (partOf (sure fan p q)) i 0 ≤ unitIn q
+  sure-units = part-within (unitIn q) p (q .a) (q .b) (fan - 1) (q .survival) small (figures-ratable q table none .2 .units)
 
   sure-refusal : figuresRefusal (sure fan p q) table ≡ figuresRefusal q table
   unfolding figuresRefusal
   sure-refusal =
+      first-same 11 _ _ _ _ refl (λ eleven.
       first-same 1 _ _ _ _ refl (λ one.
       first-same 2 _ _ _ _ (ap badSize sure-length) (λ two.
       first-same 3 _ _ _ _ (ap (badStretch (q .a) (q .b)) sure-length) (λ three.
-      first-same 4 _ _ _ _ (none-above _ sure-units ∙ sym (none-above _ (figures-ratable q table none .2 .units))) (λ four.
-      first-same 5 _ _ _ _ (ap (λ n. badWeights (q .rule) n (q .weights) (weightsOf q)) sure-length) (λ five. refl)))))
+      first-same 4 _ _ _ _ (none-above _ _ sure-units ∙ sym (none-above _ _ (figures-ratable q table none .2 .units))) (λ four.
+      first-same 5 _ _ _ _ (ap (λ n. badWeights (q .rule) n (q .weights) (weightsOf q)) sure-length) (λ five. refl))))))
 
   pub sure-accepted : figuresRefusal (sure fan p q) table ≡ 0
   sure-accepted = sure-refusal ∙ none
@@ -73,8 +75,8 @@ module _ (q : Asked) (table : List ℕ) (fan p : ℕ) (none : figuresRefusal q t
   unfolding figuresOf
   sure-third = figures-third (sure fan p q) table _ _ (unless-none _ _ _ sure-accepted)
 
-  pub sure-within : (up : Bool) → figure up S (q .rule) (partOf (sure fan p q)) (readOf q) ≤ S
-  sure-within up = figure-within up (q .rule) (partOf (sure fan p q)) (readOf q) sure-units
+  pub sure-within : (up : Bool) → figure up (unitIn q) (q .rule) (partOf (sure fan p q)) (readOf q) ≤ unitIn q
+  sure-within up = figure-within up (unit-some (q .version)) (q .rule) (partOf (sure fan p q)) (readOf q) sure-units
 
 -- ---- the worth
 
@@ -108,10 +110,10 @@ between u n l₁ h₁ e₁ l₀ h₀ e₀ some works fails a b c d =
 module _ (q : Asked) (table : List ℕ) (fan : ℕ) where
   pub figures-between : figuresRefusal q table ≡ 0 → BetweenOf q fan (lowerOf q fan) (upperOf q fan)
   figures-between none =
-      let works = sure-within q table fan S none (omega arith) in
-      let fails = sure-within q table fan 0 none (omega arith) in
+      let works = sure-within q table fan (unitIn q) none (le-refl _) in
+      let fails = sure-within q table fan 0 none zero-le in
       let inside = in-stretch (q .a) (q .b) (lengthOf q) (figures-ratable q table none .0) in
-      between S (sizeOf q) _ _ _ _ _ _ (omega arith) (sure-third q table fan S none (omega arith)) (sure-third q table fan 0 none (omega arith))
+      between (unitIn q) (sizeOf q) _ _ _ _ _ _ (omega arith) (sure-third q table fan (unitIn q) none (le-refl _)) (sure-third q table fan 0 none zero-le)
       (works false) (works true) (fails false) (fails true)
 
   -- of every worth that is answered

@@ -81,5 +81,5 @@ accepted-unread {rule} {n} {ws} {vs} y other = record {
   in-range = unread-range rule n vs ws other ∙ y .in-range;
 }
 
-pub unread-figure : (up : Bool) (rule : Rule) (survival ws vs : List ℕ) → Unread (rule .kind) → figure up S rule survival ws ≡ figure up S rule survival vs
-unread-figure up rule survival ws vs k = ap (λ R. figureOf (R .row) up S survival) (other-reading (rule .kind) (rule .first) (rule .second) ws vs k)
+pub unread-figure : (up : Bool) (u : ℕ) (rule : Rule) (survival ws vs : List ℕ) → Unread (rule .kind) → figure up u rule survival ws ≡ figure up u rule survival vs
+unread-figure up u rule survival ws vs k = ap (λ R. figureOf (R .row) up u survival) (other-reading (rule .kind) (rule .first) (rule .second) ws vs k)

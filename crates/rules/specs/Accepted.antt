@@ -6,7 +6,6 @@ use Prim.Native.Nat.{ℕ, _≤_}
 use lib.ListN.{length, getD}
 use Rattle.rules.specs.declared.Rule.{Rule}
 use Rattle.rules.specs.Below.{total}
-use Rattle.rules.specs.State.{S}
 use Rattle.rules.specs.Refusal.{most, heaviest, inRange, cells}
 
 pub record Accepted (rule : Rule) (n : ℕ) (beside : List ℕ) : Type 0 where
@@ -31,7 +30,7 @@ pub record Two (first r most : ℕ) : Type 0 where
   pub high : r ≤ most
 
 -- a list with an accepted rule, numbers within the unit, and a table to work in
-pub record Ratable (rule : Rule) (survival beside table : List ℕ) : Type 0 where
+pub record Ratable (u : ℕ) (rule : Rule) (survival beside table : List ℕ) : Type 0 where
   pub accepted : Accepted rule (length survival) beside
-  pub units : (i : ℕ) → getD survival i 0 ≤ S
+  pub units : (i : ℕ) → getD survival i 0 ≤ u
   pub room : cells ≤ length table

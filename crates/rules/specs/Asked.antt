@@ -4,11 +4,12 @@ use mathlib.Core.List.{List}
 use Prim.Native.Nat.{ℕ, suc, _-_}
 use lib.ListN.{length}
 use Rattle.rules.specs.declared.Rule.{Rule}
-use Rattle.rules.specs.State.{S, besideOf}
+use Rattle.rules.specs.State.{unitOf, besideOf}
 use Rattle.rules.specs.Figure.{low, high, exact, Third}
 use Rattle.rules.specs.Stretch.{stretch}
 
 pub record Asked : Type 0 where
+  pub version : ℕ
   pub rule : Rule
   pub a : ℕ
   pub b : ℕ
@@ -16,8 +17,13 @@ pub record Asked : Type 0 where
   pub weights : List ℕ
   pub more : List ℕ
 
-abbrev pub askedOf : Rule → (a b : ℕ) (survival weights more : List ℕ) → Asked
-askedOf rule a b survival weights more = record { rule = rule; a = a; b = b; survival = survival; weights = weights; more = more }
+abbrev pub askedOf : (version : ℕ) → Rule → (a b : ℕ) (survival weights more : List ℕ) → Asked
+askedOf version rule a b survival weights more =
+    record { version = version; rule = rule; a = a; b = b; survival = survival; weights = weights; more = more }
+
+-- "Conditions two and three read S as the file's own unit"
+abbrev pub unitIn : Asked → ℕ
+unitIn q = unitOf (q .version)
 
 -- n, the list's length
 abbrev pub lengthOf : Asked → ℕ
@@ -38,14 +44,14 @@ abbrev pub readOf : Asked → List ℕ
 readOf q = besideOf (q .rule) (weightsOf q) (q .more)
 
 abbrev pub lowOf : Asked → ℕ
-lowOf q = low S (q .rule) (partOf q) (readOf q)
+lowOf q = low (unitIn q) (q .rule) (partOf q) (readOf q)
 
 abbrev pub highOf : Asked → ℕ
-highOf q = high S (q .rule) (partOf q) (readOf q)
+highOf q = high (unitIn q) (q .rule) (partOf q) (readOf q)
 
 abbrev pub exactOf : Asked → ℕ
-exactOf q = exact S (q .rule) (partOf q) (readOf q)
+exactOf q = exact (unitIn q) (q .rule) (partOf q) (readOf q)
 
 -- the third condition of two figures
 abbrev pub ThirdOf : Asked → (low high : ℕ) → Type 0
-ThirdOf q low high = Third S (sizeOf q) low high (exactOf q)
+ThirdOf q low high = Third (unitIn q) (sizeOf q) low high (exactOf q)

@@ -17,9 +17,10 @@ pub record NoLower (xs ys : List ℕ) : Type 0 where
 abbrev pub rising : (kind : ℕ) → Bool
 rising kind = within 1 kind 8 && not (eqb kind 3)
 
--- "with the same .. stretch, rule and weights", pairs too: what is asked of the second list; only the stretch's survival numbers are read, so only they
+-- "with the same unit, .. stretch, rule and weights", pairs too: what is asked of the second list; only the stretch's survival numbers are read, so only they
 -- count
 pub record Better (q q' : Asked) : Type 0 where
+  pub version : q .version ≡ q' .version
   pub rule : q .rule ≡ q' .rule
   pub from : q .a ≡ q' .a
   pub to : q .b ≡ q' .b

@@ -1,4 +1,4 @@
--- Document 01, "The memory of a reading": low and high, the exact sum E, and the third condition, over any unit u (S is the one used now).
+-- Document 01, "The memory of a reading": low and high, the exact sum E, and the third condition, over any unit u.
 use mathlib.Core.Bool.{Bool, true, false, cond}
 use mathlib.Core.List.{List}
 use Prim.Native.Nat.{ℕ, zero, suc, _+_, _-_, _*_, _/_, _^_, _≤_}

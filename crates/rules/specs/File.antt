@@ -1,5 +1,5 @@
 -- Document 01, "Deck file and printing": the bytes of a deck, reading them by position, the file's refusals, the loading computer's answer.
-use mathlib.Core.Bool.{Bool, cond, not, _&&_}
+use mathlib.Core.Bool.{Bool, cond, not, _&&_, _||_}
 use mathlib.Core.List.{List, [], _∷_, _++_}
 use Prim.Native.Nat.{ℕ, zero, suc, _+_, _-_, _*_, _/_, _%_, _^_}
 use lib.Dec.{ltb, eqb}
@@ -11,12 +11,13 @@ use Rattle.rules.specs.declared.Worth.{Worth}
 use Rattle.rules.specs.declared.Worth.the-variants as worth
 use Rattle.rules.specs.Below.{within, listBelow}
 use Rattle.rules.specs.Asked.{Asked, askedOf}
-use Rattle.rules.specs.Refusal.{most, cells, firstOf, badSize}
+use Rattle.rules.specs.Refusal.{most, cells, firstOf, badVersion, badSize}
 use Rattle.rules.specs.Answer.{unless, figuresOf}
 use Rattle.rules.specs.Worth.{worthOf}
 
--- a deck: its fans' survival numbers and weights, and its systems
+-- a deck: its version, which says the unit, its fans' survival numbers and weights, and its systems
 pub record Deck : Type 0 where
+  pub version : ℕ
   pub survival : List ℕ
   pub weights : List ℕ
   pub systems : List System
@@ -42,7 +43,7 @@ unfoldable pub allBytes : (width : ℕ) → List ℕ → List ℕ
 allBytes width [] = []
 allBytes width (x ∷ xs) = bytesOf width x ++ allBytes width xs
 
--- where the header has each of its numbers: "version (2 bytes, 1), zero (2), n (2), systems m (2)", then the three offsets; and its length
+-- where the header has each of its numbers: "version (2 bytes, 1)", since request 08 1 or 2, "zero (2), n (2), systems m (2)", then the three offsets; and its length
 abbrev pub versionField : ℕ
 versionField = 0
 
@@ -77,10 +78,7 @@ weightBytes = 2
 abbrev pub systemBytes : ℕ
 systemBytes = 10
 
--- the version, and the most fans and systems that a file has
-abbrev pub version : ℕ
-version = 1
-
+-- the most fans and systems that a file has
 abbrev pub mostFans : ℕ
 mostFans = most
 
@@ -100,9 +98,9 @@ systemsOffset n = weightsOffset n + weightBytes * n
 abbrev pub fileLength : (n m : ℕ) → ℕ
 fileLength n m = systemsOffset n + systemBytes * m
 
--- the header's bytes
-unfoldable pub headerOf : (n m : ℕ) → List ℕ
-headerOf n m =
+-- the header's bytes; request 08: "The layout is otherwise the same"
+unfoldable pub headerOf : (version n m : ℕ) → List ℕ
+headerOf version n m =
     allBytes 2 (version ∷ 0 ∷ n ∷ m ∷ []) ++ allBytes 4 (survivalOffset ∷ weightsOffset n ∷ systemsOffset n ∷ [])
 
 -- "kind, first, second, a, b (2 each)"
@@ -124,12 +122,15 @@ systemsOf numbers = listBelow (length numbers / perSystem) (λ s. fiveOf (λ i. 
 -- the layout
 unfoldable pub fileOf : Deck → List ℕ
 fileOf d =
-    headerOf (length (d .survival)) (length (d .systems))
+    headerOf (d .version) (length (d .survival)) (length (d .systems))
     ++ allBytes survivalBytes (d .survival)
     ++ allBytes weightBytes (d .weights)
     ++ allBytes 2 (systemNumbers (d .systems))
 
--- n and m as a file has them
+-- the version, n and m as a file has them
+abbrev pub versionIn : List ℕ → ℕ
+versionIn bytes = numberAt 2 bytes versionField
+
 abbrev pub fansIn : List ℕ → ℕ
 fansIn bytes = numberAt 2 bytes fansField
 
@@ -154,6 +155,7 @@ unfoldable pub deckIn : List ℕ → Deck
 deckIn bytes =
     let n = fansIn bytes in
     record {
+      version = versionIn bytes;
       survival = numbersFrom survivalBytes bytes survivalOffset n;
       weights = numbersFrom weightBytes bytes (weightsOffset n) n;
       systems = listBelow (countIn bytes) (systemIn bytes);
@@ -163,9 +165,9 @@ deckIn bytes =
 abbrev pub shortFile : List ℕ → Bool
 shortFile bytes = ltb (length bytes) headerLength
 
--- 11: version not 1, or the zero field not 0
-abbrev pub badVersion : List ℕ → Bool
-badVersion bytes = not (eqb (numberAt 2 bytes versionField) version && eqb (numberAt 2 bytes zeroField) 0)
+-- 11: version not 1, since request 08 not 1 or 2, or the zero field not 0
+abbrev pub badStart : List ℕ → Bool
+badStart bytes = badVersion (versionIn bytes) || not (eqb (numberAt 2 bytes zeroField) 0)
 
 -- 12: number of systems not 1..32
 abbrev pub badSystems : List ℕ → Bool
@@ -186,7 +188,7 @@ unfoldable pub fileRefusal : List ℕ → ℕ
 fileRefusal bytes =
     firstOf
     ((10, shortFile bytes)
-    ∷ (11, badVersion bytes)
+    ∷ (11, badStart bytes)
     ∷ (2, badSize (fansIn bytes))
     ∷ (12, badSystems bytes)
     ∷ (13, badLayout bytes)
@@ -194,7 +196,7 @@ fileRefusal bytes =
 
 -- what a system asks of its deck; request 05: "a deck file carries a single pair in first and second"
 abbrev pub askedBy : Deck → System → Asked
-askedBy d s = askedOf (s .rule) (s .a) (s .b) (d .survival) (d .weights) []
+askedBy d s = askedOf (d .version) (s .rule) (s .a) (s .b) (d .survival) (d .weights) []
 
 -- a system's own answer, over a working table that the caller brings
 unfoldable pub systemOf : Deck → System → Rating

@@ -6,9 +6,16 @@ use lib.Dec.{ltb, leb, eqb}
 use lib.ListN.{length, getD}
 use Rattle.rules.specs.declared.Rule.{Rule}
 use Rattle.rules.specs.Below.{some, total, within, rowOf}
-use Rattle.rules.specs.State.{S, besideOf}
+use Rattle.rules.specs.State.{besideOf}
 use Rattle.rules.specs.Pairs.{pairsOf, inRange8, badMore}
-use Rattle.rules.specs.Asked.{Asked, lengthOf, sizeOf, partOf, weightsOf, readOf}
+use Rattle.rules.specs.Asked.{Asked, unitIn, lengthOf, sizeOf, partOf, weightsOf, readOf}
+
+-- 11: since request 08, "for versions other than 1 and 2"
+abbrev pub lastVersion : ℕ
+lastVersion = 2
+
+abbrev pub badVersion : (version : ℕ) → Bool
+badVersion version = not (within 1 version lastVersion)
 
 -- 1: since request 05, "for kinds not 1..8"
 abbrev pub badKind : Rule → Bool
@@ -29,9 +36,9 @@ badSize n = not (within 1 n most)
 abbrev pub badStretch : (a b n : ℕ) → Bool
 badStretch a b n = eqb a 0 || ltb b a || ltb n b
 
--- 4: a P read is above S
-unfoldable pub aboveUnit : (survival : List ℕ) → Bool
-aboveUnit survival = some (λ i. ltb S (getD survival i 0)) (length survival)
+-- 4: a P read is above the unit; request 08: "4 against the file's unit"
+unfoldable pub aboveUnit : (u : ℕ) (survival : List ℕ) → Bool
+aboveUnit u survival = some (λ i. ltb u (getD survival i 0)) (length survival)
 
 -- 5: kind 2: weights' length is not n, or the total over the components rated is above 120
 abbrev pub heaviest : ℕ
@@ -121,14 +128,15 @@ countRefusal rule n weights table room =
     ∷ (8, shortRoom n room)
     ∷ [])
 
--- "the figures 1, 2, 3, 4, 5, 6, 7": since request 02 "3 now belongs to every figure"
+-- "the figures 1, 2, 3, 4, 5, 6, 7": since request 02 "3 now belongs to every figure"; 11 "first where it is an input"
 unfoldable pub figuresRefusal : Asked → (table : List ℕ) → ℕ
 figuresRefusal q table =
     firstOf
-    ((1, badKind (q .rule))
+    ((11, badVersion (q .version))
+    ∷ (1, badKind (q .rule))
     ∷ (2, badSize (lengthOf q))
     ∷ (3, badStretch (q .a) (q .b) (lengthOf q))
-    ∷ (4, aboveUnit (partOf q))
+    ∷ (4, aboveUnit (unitIn q) (partOf q))
     ∷ (5, badWeights (q .rule) (lengthOf q) (q .weights) (weightsOf q))
     ∷ (6, not (inRange (q .rule) (sizeOf q) (readOf q)))
     ∷ (7, shortTable table)

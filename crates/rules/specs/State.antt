@@ -11,6 +11,14 @@ use Rattle.rules.specs.Below.{held}
 abbrev pub S : ℕ
 S = 2 ^ 30
 
+-- Document 02, request 08: "parts per 1,000,000,000"
+abbrev pub decimal : ℕ
+decimal = 1000000000
+
+-- "Version 2 of the deck file has that as its unit; version 1 keeps 2^30"
+unfoldable pub unitOf : (version : ℕ) → ℕ
+unitOf version = cond (eqb version 1) S decimal
+
 -- "Component i has a survival number P": the i-th of the list. Weights are read by the component's number too.
 unfoldable pub numberOf : List ℕ → ℕ → ℕ
 numberOf xs zero = 0

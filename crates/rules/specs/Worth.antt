@@ -10,17 +10,16 @@ use lib.Signed.{_≤ℤ_}
 use Rattle.rules.specs.declared.Worth.{Worth}
 use Rattle.rules.specs.declared.Worth.the-variants.{Ends, Refused}
 use Rattle.rules.specs.Below.{within}
-use Rattle.rules.specs.State.{S}
-use Rattle.rules.specs.Asked.{Asked, askedOf, sizeOf, lowOf, highOf, exactOf}
+use Rattle.rules.specs.Asked.{Asked, askedOf, unitIn, sizeOf, lowOf, highOf, exactOf}
 use Rattle.rules.specs.Refusal.{figuresRefusal, after}
 use Rattle.rules.specs.Answer.{unless, Given}
 
--- what is asked with one fan's survival number replaced: "sure to work" by S, "sure to fail" by 0
+-- what is asked with one fan's survival number replaced: "sure to work" by the unit, "sure to fail" by 0
 abbrev pub sure : (fan p : ℕ) → Asked → Asked
-sure fan p q = askedOf (q .rule) (q .a) (q .b) (set (q .survival) (fan - 1) p) (q .weights) (q .more)
+sure fan p q = askedOf (q .version) (q .rule) (q .a) (q .b) (set (q .survival) (fan - 1) p) (q .weights) (q .more)
 
 abbrev pub working : (fan : ℕ) → Asked → Asked
-working fan q = sure fan S q
+working fan q = sure fan (unitIn q) q
 
 abbrev pub failing : (fan : ℕ) → Asked → Asked
 failing fan q = sure fan 0 q
@@ -63,4 +62,4 @@ pub record Between (u n : ℕ) (lower upper : ℤ) (works fails : ℕ) : Type 0 
 
 -- n is the stretch's length
 abbrev pub BetweenOf : Asked → (fan : ℕ) (lower upper : ℤ) → Type 0
-BetweenOf q fan lower upper = Between S (sizeOf q) lower upper (exactOf (working fan q)) (exactOf (failing fan q))
+BetweenOf q fan lower upper = Between (unitIn q) (sizeOf q) lower upper (exactOf (working fan q)) (exactOf (failing fan q))

@@ -8,28 +8,29 @@ use lib.ListN.{length, drop}
 use Rattle.rules.specs.declared.Writing.{Writing}
 use Rattle.rules.specs.declared.Writing.the-variants.{Written, Refused}
 use Rattle.rules.specs.Below.{within}
-use Rattle.rules.specs.Refusal.{badSize, firstOf}
+use Rattle.rules.specs.Refusal.{badVersion, badSize, firstOf}
 use Rattle.rules.specs.Answer.{unless, Given}
 use Rattle.rules.specs.File.{Deck, perSystem, mostSystems, systemNumbers, systemsOf, fileOf}
 
--- "lists and systems in": the systems as numbers, one system's five after the other's
+-- "lists and systems in", and since request 08 the version: the systems as numbers, one system's five after the other's
 pub record Typed : Type 0 where
+  pub version : ℕ
   pub survival : List ℕ
   pub weights : List ℕ
   pub numbers : List ℕ
 
-abbrev pub typedOf : (survival weights numbers : List ℕ) → Typed
-typedOf survival weights numbers = record { survival = survival; weights = weights; numbers = numbers }
+abbrev pub typedOf : (version : ℕ) (survival weights numbers : List ℕ) → Typed
+typedOf version survival weights numbers = record { version = version; survival = survival; weights = weights; numbers = numbers }
 
 -- the deck that is typed, its bytes, and how a deck is typed
 abbrev pub deckOf : Typed → Deck
-deckOf t = record { survival = t .survival; weights = t .weights; systems = systemsOf (t .numbers) }
+deckOf t = record { version = t .version; survival = t .survival; weights = t .weights; systems = systemsOf (t .numbers) }
 
 abbrev pub bytesFor : Typed → List ℕ
 bytesFor t = fileOf (deckOf t)
 
 abbrev pub typedFrom : Deck → Typed
-typedFrom d = typedOf (d .survival) (d .weights) (systemNumbers (d .systems))
+typedFrom d = typedOf (d .version) (d .survival) (d .weights) (systemNumbers (d .systems))
 
 -- "weights' length not n as 5"
 abbrev pub unpaired : Typed → Bool
@@ -43,11 +44,12 @@ badFives count = not (eqb (count % perSystem) 0 && within 1 (count / perSystem) 
 abbrev pub shortFor : Typed → (room : List ℕ) → Bool
 shortFor t room = ltb (length room) (length (bytesFor t))
 
--- "Refusals: 2, weights' length not n as 5, 12 (a part system too), then 16, room too short, in that order"
+-- "Refusals: 2, weights' length not n as 5, 12 (a part system too), then 16, room too short, in that order"; request 08: 11 "first where it is an input"
 unfoldable pub writeRefusal : Typed → (room : List ℕ) → ℕ
 writeRefusal t room =
     firstOf
-    ((2, badSize (length (t .survival)))
+    ((11, badVersion (t .version))
+    ∷ (2, badSize (length (t .survival)))
     ∷ (5, unpaired t)
     ∷ (12, badFives (length (t .numbers)))
     ∷ (16, shortFor t room)
