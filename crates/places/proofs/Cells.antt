@@ -31,8 +31,8 @@ kept-trans h k = record { long = k .long ∙ h .long; rest = k .rest ∙ h .rest
 pub room-kept : {t₀ t : List ℕ} → Kept t₀ t → cells ≤ length t₀ → cells ≤ length t
 room-kept k room = omega (arith, k .long)
 
-pub workable-kept : {survival t₀ t : List ℕ} → Kept t₀ t → Workable survival t₀ → Workable survival t
-workable-kept k y = record { size = y .size; units = y .units; room = room-kept k (y .room) }
+pub workable-kept : {u : ℕ} {survival t₀ t : List ℕ} → Kept t₀ t → Workable u survival t₀ → Workable u survival t
+workable-kept k y = record { whole = y .whole; narrow = y .narrow; size = y .size; units = y .units; room = room-kept k (y .room) }
 
 -- the two sides
 pub side-near : {from : ℕ} → Side from → from ≤ half

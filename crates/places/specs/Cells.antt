@@ -66,24 +66,26 @@ pub record Written (f : Bool → ℕ → ℕ) (n off : ℕ) (t₀ t : List ℕ) 
   pub other : (up : Bool) (k : ℕ) → k < far → (k < off) ⊎ (off + n ≤ k) → cellAt t up k ≡ cellAt t₀ up k
   pub kept : Kept t₀ t
 
--- the value of a memory with i components left
-abbrev pub valueOf : {M : Type 0} → Machine M → (survival : List ℕ) → M → Bool → ℕ → ℕ
-valueOf K survival m up i = value K up S (numberOf survival) i m
+-- the value of a memory with i components left, in parts of the unit u
+abbrev pub valueOf : {M : Type 0} → (u : ℕ) → Machine M → (survival : List ℕ) → M → Bool → ℕ → ℕ
+valueOf u K survival m up i = value K up u (numberOf survival) i m
 
 -- both ends of a value within the unit
-pub record Within (e : Ends) : Type 0 where
-  pub low : e .low ≤ S
-  pub high : e .high ≤ S
+pub record Within (u : ℕ) (e : Ends) : Type 0 where
+  pub low : e .low ≤ u
+  pub high : e .high ≤ u
 
--- a list of numbers within the unit, and a table to work in
-pub record Workable (survival t : List ℕ) : Type 0 where
+-- a unit, a list of numbers within it, and a table to work in
+pub record Workable (u : ℕ) (survival t : List ℕ) : Type 0 where
+  pub whole : 0 < u
+  pub narrow : u ≤ S
   pub size : length survival ≤ most
-  pub units : (i : ℕ) → getD survival i 0 ≤ S
+  pub units : (i : ℕ) → getD survival i 0 ≤ u
   pub room : cells ≤ length t
 
 -- what a rounded step of both ends is handed
-pub record Steady (p q : ℕ) (works fails : Ends) : Type 0 where
-  pub survival : p ≤ S
-  pub rest : q ≡ failure S p
-  pub left : Within works
-  pub right : Within fails
+pub record Steady (u p q : ℕ) (works fails : Ends) : Type 0 where
+  pub survival : p ≤ u
+  pub rest : q ≡ failure u p
+  pub left : Within u works
+  pub right : Within u fails

@@ -5,10 +5,12 @@ ghost use Prim.Native.Nat.{_-_, _<_, _≤_, min};
 ghost use lib.ListN.{length, getD};
 ghost use Rattle.rules.specs.State.{S};
 ghost use Rattle.rules.specs.Figure.{rounded, mixed};
-ghost use Rattle.places.specs.Cells.{Both, Place, Put, Steady, cellAt, one};
+ghost use Rattle.units.specs.Step.{whole};
+ghost use Rattle.units.specs.Odds.{Prepared};
+ghost use Rattle.places.specs.Cells.{Both, Place, Put, Steady, Within, cellAt, one};
 use units::Failure;
 use units::Survival;
-use units::UNIT;
+use units::odds::Odds;
 
 // How far the high end of a value stands from its low end, and so how many places there are.
 pub const FAR: usize = 1200;
@@ -33,7 +35,7 @@ pub fn read(table: &[u64], at: usize) -> Ends
     }
 }
 
-// The same, where both are within the unit: the compiler sees that they fit 32 bits.
+// The same, where both are within a unit: the compiler sees that they fit 32 bits.
 pub fn read_small(table: &[u64], at: usize) -> Ends
     requires { ⌜ Place at (now table) × ((up : Bool) → cellAt (now table) up at ≤ S) ⌝ }
     ensures { λ r. ⌜ Both (λ up. cellAt (now (table .entry)) up at) r ⌝ }
@@ -55,13 +57,24 @@ pub fn write(table: &mut [u64], at: usize, ends: Ends)
 }
 
 // One rounded step of both ends.
-pub fn step(p: Survival, q: Failure, works: Ends, fails: Ends) -> Ends
-    requires { ⌜ Steady (p .0) (q .0) works fails ⌝ }
-    ensures { λ r. ⌜ Both (λ up. rounded up S (mixed S (p .0) (one up works) (one up fails))) r ⌝ }
+pub fn step(decimal: bool, p: Survival, q: Failure, works: Ends, fails: Ends) -> Ends
+    requires { ⌜ Steady (whole decimal) (p .0) (q .0) works fails ⌝ }
+    ensures { λ r. ⌜ Both (λ up. rounded up (whole decimal) (mixed (whole decimal) (p .0) (one up works) (one up fails))) r ⌝ }
 {
     Ends {
-        low: units::round_down(p, q, works.low, fails.low),
-        high: units::round_up(p, q, works.high, fails.high),
+        low: units::round_down(decimal, p, q, works.low, fails.low),
+        high: units::round_up(decimal, p, q, works.high, fails.high),
+    }
+}
+
+// The same over a row of values, with one component's numbers for all of it.
+pub fn step_row(decimal: bool, odds: Odds, works: Ends, fails: Ends) -> Ends
+    requires { ⌜ Prepared decimal odds × Within (whole decimal) works × Within (whole decimal) fails ⌝ }
+    ensures { λ r. ⌜ Both (λ up. rounded up (whole decimal) (mixed (whole decimal) (odds .p .0) (one up works) (one up fails))) r ⌝ }
+{
+    Ends {
+        low: odds.down(decimal, works.low, fails.low),
+        high: odds.up(decimal, works.high, fails.high),
     }
 }
 
@@ -80,13 +93,14 @@ pub fn chance(survival: &[u32], i: usize) -> Survival
 }
 
 // The value of a memory with no components left; of a dead one at any time.
-pub fn end_value(works: bool) -> Ends
-    ensures { λ r. ⌜ Both (λ up. cond works S 0) r ⌝ }
+pub fn end_value(decimal: bool, works: bool) -> Ends
+    ensures { λ r. ⌜ Both (λ up. cond works (whole decimal) 0) r ⌝ }
 {
     if works {
+        let all = units::whole(decimal);
         return Ends {
-            low: UNIT,
-            high: UNIT,
+            low: all,
+            high: all,
         };
     }
     Ends { low: 0, high: 0 }

@@ -1,11 +1,23 @@
--- The two products of a step, each within a part of the unit. Assumes nothing.
-use Prim.Native.Nat.{ℕ, _*_, _≤_}
-use native.Mathlib.Nat.{mul-le-mul-left}
+-- Either unit is at least 1 and at most 2^30, and so the two products of a step are each within a part of 2^30. Assumes nothing.
+use Prim.Native.Nat.{ℕ, _*_, _≤_, _<_}
+use native.Mathlib.Omega.{arith}
+use native.Mathlib.Nat.{mul-le-mul-left, le-trans}
+use mathlib.Core.Bool.{Bool, true, false}
 use Rattle.rules.specs.State.{S}
-use Rattle.units.specs.Step.{Parts}
+use Rattle.units.specs.Step.{whole, Parts}
 
-pub left-le : {p q a b : ℕ} → Parts p q a b → p * a ≤ p * S
-left-le {p} h = mul-le-mul-left p (h .left)
+pub whole-some : (isDecimal : Bool) → 0 < whole isDecimal
+unfolding whole
+whole-some true = omega arith
+whole-some false = omega arith
 
-pub right-le : {p q a b : ℕ} → Parts p q a b → q * b ≤ q * S
-right-le {q = q} h = mul-le-mul-left q (h .right)
+pub whole-most : (isDecimal : Bool) → whole isDecimal ≤ S
+unfolding whole
+whole-most true = omega arith
+whole-most false = omega arith
+
+pub left-le : {u p q a b : ℕ} → Parts u p q a b → u ≤ S → p * a ≤ p * S
+left-le {p = p} h most = mul-le-mul-left p (le-trans (h .left) most)
+
+pub right-le : {u p q a b : ℕ} → Parts u p q a b → u ≤ S → q * b ≤ q * S
+right-le {q = q} h most = mul-le-mul-left q (le-trans (h .right) most)

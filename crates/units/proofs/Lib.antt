@@ -1,2 +1,3 @@
 -- What the step's proofs share.
 pub mod Laws
+pub mod Shares

@@ -1,2 +1,3 @@
 -- What the rounded step is handed.
 pub mod Step
+pub mod Odds

@@ -7,9 +7,12 @@ use Rattle.units.proofs.round_down.Tie as tie
 mix-requires : tie.Need-mix-requires
 mix-requires c κs = search needs
 
+over-requires : tie.Need-over-requires
+over-requires c κs = search needs
+
 returns : tie.Need-returns
 unfolding rounded
-returns c = rw (c .mix .ensures .0)
+returns c = rw (c .over .ensures, c .before .mix .ensures .0)
 
 pub round-down-spec : {M : Type 1} → statement M
-round-down-spec = tie.close (tie.spec mix-requires returns)
+round-down-spec = tie.close (tie.spec mix-requires over-requires returns)

@@ -1,0 +1,22 @@
+-- `up` meets its contract: by shares over the decimal unit, by the plain step over the other. Assumes nothing.
+use mathlib.Core.Path.{_∙_}
+use native.Mathlib.Omega.{arith}
+use borrow.Author.Needs.{needs}
+use Rattle.units.proofs.Shares.{mixable, row-up}
+use Rattle.units.proofs.odds.Odds.up.Statement.{statement}
+use Rattle.units.proofs.odds.Odds.up.Tie as tie
+
+shared-requires : tie.Need-shared-requires
+shared-requires c κs = let pre = c .before .pre in mixable (c .if1 .taken) (omega arith) (pre .0) (pre .1)
+
+returns : tie.Need-returns
+returns c = let pre = c .before .before .pre in c .shared .ensures ∙ row-up (c .before .if1 .taken) (pre .0) (pre .1)
+
+round-up-requires : tie.Need-round-up-requires
+round-up-requires c κs = let pre = c .before .pre in record { survival = pre .0 .survival; rest = pre .0 .rest; left = pre .1 .left; right = pre .1 .right }
+
+returns-2 : tie.Need-returns-2
+returns-2 c = search needs
+
+pub up-spec : {M : Type 1} → statement M
+up-spec = tie.close (tie.spec shared-requires returns round-up-requires returns-2)
