@@ -1,25 +1,33 @@
 // The engine: low and high of a list that can be rated, worked in the lent table by the room of its kind.
 //
 // No room has an array of its own beside that table: rings work one lead, or one number of clean ones, at a time.
-ghost use Rattle.rules.specs.State.{S, besideOf};
+ghost use Rattle.rules.specs.State.{besideOf};
 ghost use Rattle.rules.specs.Figure.{figure};
 ghost use Rattle.rules.specs.Accepted.{Ratable};
+ghost use Rattle.units.specs.Step.{whole};
 ghost use Rattle.places.specs.Cells.{Both, Kept};
 use places::Ends;
 use rules::Rule;
 
-pub fn rate(rule: Rule, survival: &[u32], weights: &[u16], more: &[u64], table: &mut [u64]) -> Ends
-    requires { ⌜ Ratable rule (now survival) (besideOf rule (now weights) (now more)) (now table) ⌝ }
-    ensures figure { λ r. ⌜ Both (λ up. figure up S rule (now (survival .entry)) (besideOf rule (now (weights .entry)) (now (more .entry)))) r ⌝ }
+pub fn rate(
+    decimal: bool,
+    rule: Rule,
+    survival: &[u32],
+    weights: &[u16],
+    more: &[u64],
+    table: &mut [u64],
+) -> Ends
+    requires { ⌜ Ratable (whole decimal) rule (now survival) (besideOf rule (now weights) (now more)) (now table) ⌝ }
+    ensures figure { λ r. ⌜ Both (λ up. figure up (whole decimal) rule (now (survival .entry)) (besideOf rule (now (weights .entry)) (now (more .entry)))) r ⌝ }
     ensures kept { λ r. ⌜ Kept (now (table .entry)) (now (table .exit)) ⌝ }
 {
     let kind = rule.kind;
     match kind {
-        4 => runs::line(rule.first as usize, survival, table),
-        5 => runs::ring(rule.first as usize, survival, table),
-        6 => gaps::line(rule.second as usize, survival, table),
-        7 => gaps::ring(rule.second as usize, survival, table),
-        8 => windows::rate(rule.first, rule.second, more, survival, table),
-        _ => rows::rate(rule, survival, weights, table),
+        4 => runs::line(decimal, rule.first as usize, survival, table),
+        5 => runs::ring(decimal, rule.first as usize, survival, table),
+        6 => gaps::line(decimal, rule.second as usize, survival, table),
+        7 => gaps::ring(decimal, rule.second as usize, survival, table),
+        8 => windows::rate(decimal, rule.first, rule.second, more, survival, table),
+        _ => rows::rate(decimal, rule, survival, weights, table),
     }
 }

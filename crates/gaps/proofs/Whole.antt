@@ -7,7 +7,7 @@ use Prim.Native.Nat.{ℕ, suc, _+_, _-_, _≤_, _<_, min}
 use native.Mathlib.Numerals.{add-one}
 use native.Mathlib.Omega.{arith}
 use lib.ListN.{length, getD}
-use Rattle.rules.specs.State.{S, numberOf}
+use Rattle.rules.specs.State.{numberOf}
 use Rattle.rules.specs.Memory.{machineOf, row6, row7, ended, end7}
 use Rattle.rules.specs.Figure.{rounded, mixed, value, figureOf}
 use Rattle.memory.specs.declared.owed.Owed.{Owed}
@@ -17,49 +17,49 @@ use Rattle.memory.specs.Open.{cleanOpen}
 use Rattle.memory.proofs.Owing.{owed-row6, owed-row7}
 use Rattle.memory.proofs.Opening.{clean-start, clean-works, clean-fails}
 use Rattle.places.specs.declared.Ends.{Ends}
-use Rattle.places.specs.Cells.{Both, Kept, Steady, cellAt, one, valueOf}
-use Rattle.places.proofs.Cells.{both-as, workable-kept, kept-none, kept-trans}
-use Rattle.places.proofs.Values.{Chance, valued-suc, step-steady, step-mixed}
+use Rattle.places.specs.Cells.{Both, Kept, cellAt, valueOf}
+use Rattle.places.proofs.Cells.{both-at, both-as, workable-kept, kept-none, kept-trans}
+use Rattle.places.proofs.Values.{valued-within, valued-suc}
 use Rattle.gaps.specs.declared.Known.{Known}
-use Rattle.gaps.specs.Gaps.{Asked, Settled, Begun, Reached, Passable, Bringable}
+use Rattle.gaps.specs.Gaps.{Asked, Settled, Begun, Reached, Passable, Bringable, Closable, closedValue}
 use Rattle.gaps.proofs.Reaching.{holds-at}
 
-pub asked-kept : {r : ℕ} {survival t₀ t : List ℕ} → Kept t₀ t → Asked r survival t₀ → Asked r survival t
+pub asked-kept : {u r : ℕ} {survival t₀ t : List ℕ} → Kept t₀ t → Asked u r survival t₀ → Asked u r survival t
 asked-kept k y = record { two = y .two; list = workable-kept k (y .list) }
 
 -- the table settled, and the line's memory begun
-pub start-begun : {r : ℕ} {survival t₀ t : List ℕ} {m : Owed} → Asked r survival t₀ → m ≡ owed (r - 1) 0 → Settled r survival t → Kept t₀ t → Begun r m survival t
+pub start-begun : {u r : ℕ} {survival t₀ t : List ℕ} {m : Owed} → Asked u r survival t₀ → m ≡ owed (r - 1) 0 → Settled u r survival t → Kept t₀ t → Begun u r m survival t
 start-begun y is s k = record { none = ap (λ m. m .owed) is; asked = asked-kept k y; settled = s }
 
-pub line-is : {r : ℕ} {survival t₀ t : List ℕ} {s : Known} → Reached r (r - 1) (length survival) survival t₀ t s → {e : Ends} → Both (λ up. cellAt t up (length survival)) e
-    → Both (λ up. figureOf (row6 r) up S survival) e
-line-is {r} {survival} z b =
-    both-as (λ up. owed-row6 r (omega (arith, z .holds .asked .two)) (length survival) .values up S (numberOf survival)) (holds-at (z .holds) (length survival) (omega arith) b)
+pub line-is : {u r : ℕ} {survival t₀ t : List ℕ} {s : Known} → Reached u r (r - 1) (length survival) survival t₀ t s → {e : Ends} → Both (λ up. cellAt t up (length survival)) e
+    → Both (λ up. figureOf (row6 r) up u survival) e
+line-is {u} {r} {survival} z b =
+    both-as (λ up. owed-row6 r (omega (arith, z .holds .asked .two)) (length survival) .values up u (numberOf survival)) (holds-at (z .holds) (length survival) (omega arith) b)
 
 module _ (r : ℕ) (survival : List ℕ) where
   abbrev n : ℕ
   n = length survival
 
   -- the value of the open clean ones with i components left
-  abbrev opened : (up : Bool) (i : ℕ) → ℕ
-  opened up i = valueOf (machineOf (row7 r)) survival (cleanOpen r n i) up i
+  abbrev opened : (u : ℕ) (up : Bool) (i : ℕ) → ℕ
+  opened u up i = valueOf u (machineOf (row7 r)) survival (cleanOpen r n i) up i
 
   -- the debt that a failed component closes them with
   abbrev closed : (i : ℕ) → Owed
   closed i = owed (min (n - suc i) (r - 1)) (r - 1)
 
-  open-first : (up : Bool) → S ≡ opened up 0
+  open-first : (u : ℕ) (up : Bool) → u ≡ opened u up 0
   unfolding value ended end7 cleanOpen
-  open-first up = refl
+  open-first u up = refl
 
-  open-more : 2 ≤ r → (up : Bool) (i : ℕ) → i < n → rounded up S (mixed S (getD survival i 0) (opened up i) (valueOf (owing r) survival (closed i) up i)) ≡ opened up (i + 1)
-  open-more two up i left =
+  open-more : (u : ℕ) → 2 ≤ r → (up : Bool) (i : ℕ) → i < n → rounded up u (mixed u (getD survival i 0) (opened u up i) (valueOf u (owing r) survival (closed i) up i)) ≡ opened u up (i + 1)
+  open-more u two up i left =
       rw (add-one i)
-      (sym (valued-suc (machineOf (row7 r)) survival i (cleanOpen r n (suc i)) up
+      (sym (valued-suc u (machineOf (row7 r)) survival i (cleanOpen r n (suc i)) up
       ∙ rw (
         clean-works r n i left,
         clean-fails r n i left,
-        owed-row7 r (omega arith) i (min (n - suc i) (r - 1)) (r - 1) (omega arith) .values up S (numberOf survival),
+        owed-row7 r (omega arith) i (min (n - suc i) (r - 1)) (r - 1) (omega arith) .values up u (numberOf survival),
       )))
 
   -- the debt as the code makes it
@@ -67,34 +67,34 @@ module _ (r : ℕ) (survival : List ℕ) where
   closed-is i after failed = let e : n - i - 1 ≡ n - suc i = omega arith in failed ∙ rw (after, e)
 
 -- the ring on the way: the clean ones that are known, and the value of the open ones
-pub record Closing (r : ℕ) (survival t₀ : List ℕ) (i : ℕ) (s : Known) (ends : Ends) (t : List ℕ) : Type 0 where
-  pub asked : Asked r survival t₀
+pub record Closing (u r : ℕ) (survival t₀ : List ℕ) (i : ℕ) (s : Known) (ends : Ends) (t : List ℕ) : Type 0 where
+  pub asked : Asked u r survival t₀
   pub most : i ≤ length survival
   pub front : ℕ
   pub left : ℕ
   pub near : left ≤ i - (r - 1)
-  pub reached : Reached r front left survival t₀ t s
-  pub value : Both (λ up. opened r survival up i) ends
+  pub reached : Reached u r front left survival t₀ t s
+  pub value : Both (λ up. opened r survival u up i) ends
 
-pub closing-first : {r : ℕ} {survival t₀ t : List ℕ} {s : Known} {works : Bool} {e : Ends} → Reached r (r - 1) 0 survival t₀ t s → works ≡ true → Both (λ up. cond works S 0) e
-    → Closing r survival t 0 s e t
-closing-first {r} {survival} z is b = record {
+pub closing-first : {u r : ℕ} {survival t₀ t : List ℕ} {s : Known} {works : Bool} {e : Ends} → Reached u r (r - 1) 0 survival t₀ t s → works ≡ true → Both (λ up. cond works u 0) e
+    → Closing u r survival t 0 s e t
+closing-first {u} {r} {survival} z is b = record {
   asked = z .holds .asked;
   most = omega arith;
   front = r - 1;
   left = 0;
   near = omega arith;
   reached = record { free = z .free; left = z .left; holds = z .holds; kept = kept-none };
-  value = both-as (λ up. rw is (open-first r survival up)) b;
+  value = both-as (λ up. rw is (open-first r survival u up)) b;
 }
 
-pub closing-last : {r : ℕ} {survival t₀ t : List ℕ} {i : ℕ} {s : Known} {e : Ends} → length survival ≤ i → Closing r survival t₀ i s e t → Both (λ up. figureOf (row7 r) up S survival) e
-closing-last {r} {survival} {i = i} l v =
+pub closing-last : {u r : ℕ} {survival t₀ t : List ℕ} {i : ℕ} {s : Known} {e : Ends} → length survival ≤ i → Closing u r survival t₀ i s e t → Both (λ up. figureOf (row7 r) up u survival) e
+closing-last {u} {r} {survival} {i = i} l v =
     let e : i ≡ length survival = omega (arith, v .most) in
-    both-as (λ up. ap (λ m. valueOf (machineOf (row7 r)) survival m up (length survival)) (clean-start r (length survival))) (rw e at (v .value))
+    both-as (λ up. ap (λ m. valueOf u (machineOf (row7 r)) survival m up (length survival)) (clean-start r (length survival))) (rw e at (v .value))
 
-module _ {r : ℕ} {survival t₀ t : List ℕ} {i : ℕ} {s : Known} {ends : Ends} (v : Closing r survival t₀ i s ends t) (l : i < length survival) {m : Owed} (is : m ≡ closed r survival i) where
-  pub closing-bringable : Bringable r s m i survival t
+module _ {u r : ℕ} {survival t₀ t : List ℕ} {i : ℕ} {s : Known} {ends : Ends} (v : Closing u r survival t₀ i s ends t) (l : i < length survival) {m : Owed} (is : m ≡ closed r survival i) where
+  pub closing-bringable : Bringable u r s m i survival t
   closing-bringable = record {
     none = ap (λ f. f .owed) (v .reached .free);
     holds = rw (v .reached .free, v .reached .left) (v .reached .holds);
@@ -103,23 +103,23 @@ module _ {r : ℕ} {survival t₀ t : List ℕ} {i : ℕ} {s : Known} {ends : En
     size = l;
   }
 
-  module _ {t' : List ℕ} {s' : Known} (z : Reached r (m .clean) (i - m .owed) survival t t' s') where
-    pub closing-passable : Passable r m i survival t'
+  module _ {t' : List ℕ} {s' : Known} (z : Reached u r (m .clean) (i - m .owed) survival t t' s') where
+    pub closing-passable : Passable u r m i survival t'
     closing-passable = record { due = ap (λ f. f .owed) is; size = l; holds = z .holds }
 
-    module _ (p q : ℕ) (chance : Chance survival i p q) {fails : Ends} (f : Both (λ up. valueOf (owing r) survival m up i) fails) where
-      pub closing-steady : Steady p q ends fails
-      closing-steady = step-steady (machineOf (row7 r)) (owing r) survival (v .asked .list .units) i p q chance _ _ (v .value) f
+    pub closing-closable : Closable u r m i survival ends t'
+    closing-closable = record {
+      passable = closing-passable;
+      works-small = valued-within (v .asked .list .whole) (machineOf (row7 r)) survival (v .asked .list .units) i _ (v .value);
+    }
 
-      pub closing-more : {e : Ends} → Both (λ up. rounded up S (mixed S p (one up ends) (one up fails))) e → Closing r survival t₀ (i + 1) s' e t'
-      closing-more b = record {
-        asked = v .asked;
-        most = omega arith;
-        front = m .clean;
-        left = i - m .owed;
-        near = rw is (omega arith);
-        reached = record { free = z .free; left = z .left; holds = z .holds; kept = kept-trans (v .reached .kept) (z .kept) };
-        value =
-            both-as (λ up. open-more r survival (v .asked .two) up i l)
-            (step-mixed (machineOf (row7 r)) (owing r) survival (v .asked .list .units) i p q chance _ _ (v .value) (rw is at f) b);
-      }
+    pub closing-more : {e : Ends} → Both (closedValue u r m i survival ends) e → Closing u r survival t₀ (i + 1) s' e t'
+    closing-more b = record {
+      asked = v .asked;
+      most = omega arith;
+      front = m .clean;
+      left = i - m .owed;
+      near = rw is (omega arith);
+      reached = record { free = z .free; left = z .left; holds = z .holds; kept = kept-trans (v .reached .kept) (z .kept) };
+      value = both-as (λ up. open-more r survival u (v .asked .two) up i l) (both-as (λ up. rw (both-at (v .value) up, is)) b);
+    }

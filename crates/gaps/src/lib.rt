@@ -6,11 +6,11 @@
 mod free; // free.rt: the memory that owes nothing, known for more and more components left
 mod owed; // owed.rt: memories that owe
 
-ghost use Rattle.rules.specs.State.{S};
 ghost use Rattle.rules.specs.Memory.{row6, row7};
 ghost use Rattle.rules.specs.Figure.{figureOf};
+ghost use Rattle.units.specs.Step.{whole};
 ghost use Rattle.places.specs.Cells.{Both, Kept};
-ghost use Rattle.gaps.specs.Gaps.{Asked};
+ghost use Rattle.gaps.specs.Gaps.{Asked, Closable, closedValue};
 use memory::owed::Clean;
 use memory::owed::Owed;
 use places::Ends;
@@ -22,35 +22,70 @@ pub struct Known {
 }
 
 // Kind 6.
-pub fn line(r: usize, survival: &[u32], table: &mut [u64]) -> Ends
-    requires { ⌜ Asked r (now survival) (now table) ⌝ }
-    ensures figure { λ e. ⌜ Both (λ up. figureOf (row6 r) up S (now (survival .entry))) e ⌝ }
+pub fn line(decimal: bool, r: usize, survival: &[u32], table: &mut [u64]) -> Ends
+    requires { ⌜ Asked (whole decimal) r (now survival) (now table) ⌝ }
+    ensures figure { λ e. ⌜ Both (λ up. figureOf (row6 r) up (whole decimal) (now (survival .entry))) e ⌝ }
     ensures kept { λ e. ⌜ Kept (now (table .entry)) (now (table .exit)) ⌝ }
 {
     let n = survival.len();
-    owed::settle(r, survival, table);
-    let known = free::begin(r, Owed::start(r), survival, table);
-    free::reach(r, known, n, survival, table);
+    owed::settle(decimal, r, survival, table);
+    let known = free::begin(decimal, r, Owed::start(r), survival, table);
+    free::reach(decimal, r, known, n, survival, table);
     places::read(table, n)
 }
 
+// The open clean ones with one component more: where it fails, m closes them.
+fn one_more(
+    decimal: bool,
+    r: usize,
+    m: Owed,
+    i: usize,
+    survival: &[u32],
+    works: Ends,
+    table: &[u64],
+) -> Ends
+    requires { ⌜ Closable (whole decimal) r m i (now survival) works (now table) ⌝ }
+    ensures { λ e. ⌜ Both (closedValue (whole decimal) r m i (now (survival .entry)) works) e ⌝ }
+{
+    let fails = owed::past(decimal, r, m, i, survival, table);
+    let p = places::chance(survival, i);
+    places::step(decimal, p, p.failure(decimal), works, fails)
+}
+
+// The same, with the unit known to the compiler in each arm, so that no loop asks for it.
+fn close(
+    decimal: bool,
+    r: usize,
+    m: Owed,
+    i: usize,
+    survival: &[u32],
+    works: Ends,
+    table: &[u64],
+) -> Ends
+    requires { ⌜ Closable (whole decimal) r m i (now survival) works (now table) ⌝ }
+    ensures { λ e. ⌜ Both (closedValue (whole decimal) r m i (now (survival .entry)) works) e ⌝ }
+{
+    if decimal {
+        return one_more(true, r, m, i, survival, works, table);
+    }
+    one_more(false, r, m, i, survival, works, table)
+}
+
 // Kind 7: the clean ones, from all n taken back to none. A component that fails closes them.
-pub fn ring(r: usize, survival: &[u32], table: &mut [u64]) -> Ends
-    requires { ⌜ Asked r (now survival) (now table) ⌝ }
-    ensures figure { λ e. ⌜ Both (λ up. figureOf (row7 r) up S (now (survival .entry))) e ⌝ }
+pub fn ring(decimal: bool, r: usize, survival: &[u32], table: &mut [u64]) -> Ends
+    requires { ⌜ Asked (whole decimal) r (now survival) (now table) ⌝ }
+    ensures figure { λ e. ⌜ Both (λ up. figureOf (row7 r) up (whole decimal) (now (survival .entry))) e ⌝ }
     ensures kept { λ e. ⌜ Kept (now (table .entry)) (now (table .exit)) ⌝ }
 {
     let n = survival.len();
-    owed::settle(r, survival, table);
-    let mut known = free::begin(r, Owed::start(r), survival, table);
-    let mut ends = places::end_value(Clean::after(n, r).works());
+    owed::settle(decimal, r, survival, table);
+    let mut known = free::begin(decimal, r, Owed::start(r), survival, table);
+    let mut ends = places::end_value(decimal, Clean::after(n, r).works());
     let mut i: usize = 0;
     while i < n {
         let m = Clean::after(n - i - 1, r).failed(r);
-        known = free::bring(r, known, m, i, survival, table);
-        let fails = owed::past(r, m, i, survival, table);
-        let p = places::chance(survival, i);
-        ends = places::step(p, p.failure(), ends, fails);
+        known = free::bring(decimal, r, known, m, i, survival, table);
+        ends = close(decimal, r, m, i, survival, ends, table);
         i += 1;
     }
     ends

@@ -2,6 +2,7 @@
 ghost use mathlib.Core.Bool.{cond};
 ghost use Prim.Native.Nat.{_+_, _-_, _≤_};
 ghost use Rattle.memory.specs.Owed.{owed, owing, owedWorks};
+ghost use Rattle.units.specs.Step.{whole};
 ghost use Rattle.places.specs.Cells.{Both, Kept, Place, cellAt, half, valueOf};
 ghost use Rattle.gaps.specs.Gaps.{Asked, Due, Owing, Settled, Passable};
 use memory::owed::Owed;
@@ -9,50 +10,64 @@ use places::Ends;
 use places::HALF;
 
 // The value of a memory that owes with one component more, out of its value after the component works: where it fails, it is dead.
-fn must_work(r: usize, m: Owed, i: usize, survival: &[u32], after: Ends) -> Ends
-    requires { ⌜ Due r m i (now survival) after ⌝ }
-    ensures { λ e. ⌜ Both (λ up. valueOf (owing r) (now (survival .entry)) m up (i + 1)) e ⌝ }
+fn must_work(decimal: bool, r: usize, m: Owed, i: usize, survival: &[u32], after: Ends) -> Ends
+    requires { ⌜ Due (whole decimal) r m i (now survival) after ⌝ }
+    ensures { λ e. ⌜ Both (λ up. valueOf (whole decimal) (owing r) (now (survival .entry)) m up (i + 1)) e ⌝ }
 {
     let p = places::chance(survival, i);
-    places::step(p, p.failure(), after, places::end_value(false))
+    places::step(
+        decimal,
+        p,
+        p.failure(decimal),
+        after,
+        places::end_value(decimal, false),
+    )
 }
 
 // Back over components that must all work, from the memory m with `from` left.
-fn back(r: usize, m: Owed, from: usize, upto: usize, survival: &[u32], end: Ends) -> Ends
-    requires { ⌜ Owing r m from upto (now survival) end ⌝ }
-    ensures { λ e. ⌜ Both (λ up. valueOf (owing r) (now (survival .entry)) (owed (m .clean) (m .owed + (upto - from))) up upto) e ⌝ }
+fn back(
+    decimal: bool,
+    r: usize,
+    m: Owed,
+    from: usize,
+    upto: usize,
+    survival: &[u32],
+    end: Ends,
+) -> Ends
+    requires { ⌜ Owing (whole decimal) r m from upto (now survival) end ⌝ }
+    ensures { λ e. ⌜ Both (λ up. valueOf (whole decimal) (owing r) (now (survival .entry)) (owed (m .clean) (m .owed + (upto - from))) up upto) e ⌝ }
 {
     let mut due = m;
     let mut ends = end;
     let mut i = from;
     while i < upto {
         due = due.before();
-        ends = must_work(r, due, i, survival, ends);
+        ends = must_work(decimal, r, due, i, survival, ends);
         i += 1;
     }
     ends
 }
 
 // The value of a memory that owes as many as are left, from place HALF on.
-pub fn settle(r: usize, survival: &[u32], table: &mut [u64])
-    requires { ⌜ Asked r (now survival) (now table) ⌝ }
-    ensures settled { λ e. ⌜ Settled r (now (survival .entry)) (now (table .exit)) ⌝ }
+pub fn settle(decimal: bool, r: usize, survival: &[u32], table: &mut [u64])
+    requires { ⌜ Asked (whole decimal) r (now survival) (now table) ⌝ }
+    ensures settled { λ e. ⌜ Settled (whole decimal) r (now (survival .entry)) (now (table .exit)) ⌝ }
     ensures kept { λ e. ⌜ Kept (now (table .entry)) (now (table .exit)) ⌝ }
 {
     let last = places::lesser(survival.len(), r - 1);
     let mut due = Owed { clean: 0, owed: 0 };
-    let mut ends = places::end_value(due.works());
+    let mut ends = places::end_value(decimal, due.works());
     let mut i: usize = 0;
     while i < last {
         places::write(table, HALF + i, ends);
         due = due.before();
-        ends = must_work(r, due, i, survival, ends);
+        ends = must_work(decimal, r, due, i, survival, ends);
         i += 1;
     }
 }
 
 // A debt that the components' end cuts short: as many work as are left, and the clean ones must make up for the rest.
-pub fn cut_short(m: Owed, i: usize, table: &[u64]) -> Ends
+pub fn cut_short(decimal: bool, m: Owed, i: usize, table: &[u64]) -> Ends
     requires { ⌜ Place (half + i) (now table) × (i ≤ m .owed) ⌝ }
     ensures { λ e. ⌜ Both (λ up. cond (owedWorks (owed (m .clean) (m .owed - i))) (cellAt (now (table .entry)) up (half + i)) 0) e ⌝ }
 {
@@ -60,26 +75,34 @@ pub fn cut_short(m: Owed, i: usize, table: &[u64]) -> Ends
     if last.works() {
         return places::read(table, HALF + i);
     }
-    places::end_value(false)
+    places::end_value(decimal, false)
 }
 
 // A debt that is paid with i components left.
-pub fn paid(r: usize, m: Owed, i: usize, survival: &[u32], table: &[u64]) -> Ends
-    requires { ⌜ Passable r m i (now survival) (now table) × (m .owed ≤ i) ⌝ }
-    ensures { λ e. ⌜ Both (λ up. valueOf (owing r) (now (survival .entry)) m up i) e ⌝ }
+pub fn paid(decimal: bool, r: usize, m: Owed, i: usize, survival: &[u32], table: &[u64]) -> Ends
+    requires { ⌜ Passable (whole decimal) r m i (now survival) (now table) × (m .owed ≤ i) ⌝ }
+    ensures { λ e. ⌜ Both (λ up. valueOf (whole decimal) (owing r) (now (survival .entry)) m up i) e ⌝ }
 {
     let from = i - m.owed;
     let free = m.worked_many(m.owed);
-    back(r, free, from, i, survival, places::read(table, from))
+    back(
+        decimal,
+        r,
+        free,
+        from,
+        i,
+        survival,
+        places::read(table, from),
+    )
 }
 
 // The value with i components left of a memory that has just met a failed one.
-pub fn past(r: usize, m: Owed, i: usize, survival: &[u32], table: &[u64]) -> Ends
-    requires { ⌜ Passable r m i (now survival) (now table) ⌝ }
-    ensures { λ e. ⌜ Both (λ up. valueOf (owing r) (now (survival .entry)) m up i) e ⌝ }
+pub fn past(decimal: bool, r: usize, m: Owed, i: usize, survival: &[u32], table: &[u64]) -> Ends
+    requires { ⌜ Passable (whole decimal) r m i (now survival) (now table) ⌝ }
+    ensures { λ e. ⌜ Both (λ up. valueOf (whole decimal) (owing r) (now (survival .entry)) m up i) e ⌝ }
 {
     if i < m.owed {
-        return cut_short(m, i, table);
+        return cut_short(decimal, m, i, table);
     }
-    paid(r, m, i, survival, table)
+    paid(decimal, r, m, i, survival, table)
 }

@@ -4,34 +4,34 @@ use Prim.Native.Nat.{ℕ, suc, _+_, _-_, _≤_, _<_}
 use mathlib.Core.Path.{_≡_, sym, _∙_}
 use mathlib.Core.Bool.{Bool}
 use mathlib.Core.List.{List}
+use native.Mathlib.Nat.{le-trans}
 use native.Mathlib.Omega.{arith}
 use Rattle.rules.specs.declared.Rule.{Rule}
 use Rattle.rules.specs.State.{S}
 use Rattle.rules.specs.Memory.{Machine}
 use Rattle.rules.specs.Figure.{rounded, mixed}
-use Rattle.rules.specs.Accepted.{Ratable}
 use Rattle.memory.specs.declared.sum.Sum.{Sum}
 use Rattle.memory.specs.Sum.{sum}
 use Rattle.places.specs.declared.Ends.{Ends}
-use Rattle.places.specs.Cells.{half, Side, one, Both, cellAt, Place, Shelf, Written, Steady}
+use Rattle.places.specs.Cells.{half, Side, one, Both, cellAt, Place, Shelf, Written, Workable, Steady}
 use Rattle.places.proofs.Cells.{both-as, room-kept, side-near, apart}
 use Rattle.places.proofs.Values.{Chance, valued-le, step-steady, step-mixed, valued-suc}
 use Rattle.rows.specs.Kinds.{carryOf, summed}
 use Rattle.rows.specs.Level.{sumsValue}
 
 -- what the component after `left` others takes a row up with: its numbers, how far it carries a sum, and how many sums are made
-pub record Climb (rule : Rule) (survival weights : List ℕ) (left from : ℕ) (t : List ℕ) (p q carry width : ℕ) : Type 0 where
-  pub list : Ratable rule survival weights t
+pub record Climb (u : ℕ) (rule : Rule) (survival weights : List ℕ) (left from : ℕ) (t : List ℕ) (p q carry width : ℕ) : Type 0 where
+  pub list : Workable u survival t
   pub side : Side from
-  pub chance : Chance survival left p q
+  pub chance : Chance u survival left p q
   pub is : carry ≡ carryOf rule weights (suc left)
   pub narrow : width + carry ≤ half
-  pub row : Shelf (sumsValue rule survival weights left) t from (width + carry)
+  pub row : Shelf (sumsValue u rule survival weights left) t from (width + carry)
 
-module _ {rule : Rule} {survival weights t₀ t : List ℕ} {left from p q carry width m : ℕ}
-    (y : Climb rule survival weights left from t₀ p q carry width) (l : m < width)
-    (w : Written (sumsValue rule survival weights (suc left)) m (half - from) t₀ t) where
-  stands : (k : ℕ) → k < width + carry → (up : Bool) → cellAt t up (from + k) ≡ sumsValue rule survival weights left up k
+module _ {u : ℕ} {rule : Rule} {survival weights t₀ t : List ℕ} {left from p q carry width m : ℕ}
+    (y : Climb u rule survival weights left from t₀ p q carry width) (l : m < width)
+    (w : Written (sumsValue u rule survival weights (suc left)) m (half - from) t₀ t) where
+  stands : (k : ℕ) → k < width + carry → (up : Bool) → cellAt t up (from + k) ≡ sumsValue u rule survival weights left up k
   stands k h up =
       let near = side-near (y .side) in
       let narrow = y .narrow in
@@ -40,7 +40,7 @@ module _ {rule : Rule} {survival weights t₀ t : List ℕ} {left from p q carry
   pub read-place : (k : ℕ) → k < width + carry → Place (from + k) t × ((up : Bool) → cellAt t up (from + k) ≤ S)
   read-place k h = (
     record { low = omega (arith, side-near (y .side), y .narrow); room = room-kept (w .kept) (y .list .room) },
-    λ up. rw (stands k h up) (valued-le (summed rule weights) survival (y .list .units) left (sum k) up),
+    λ up. rw (stands k h up) (le-trans (valued-le (y .list .whole) (summed rule weights) survival (y .list .units) left (sum k) up) (y .list .narrow)),
   )
 
   pub write-place : Place (half - from + m) t
@@ -50,16 +50,16 @@ module _ {rule : Rule} {survival weights t₀ t : List ℕ} {left from p q carry
     abbrev K : Machine Sum
     K = summed rule weights
 
-    works-is : Both (λ up. sumsValue rule survival weights left up m) a
+    works-is : Both (λ up. sumsValue u rule survival weights left up m) a
     works-is = both-as (stands m (omega arith)) works
 
-    fails-is : Both (λ up. sumsValue rule survival weights left up (m + carry)) b
+    fails-is : Both (λ up. sumsValue u rule survival weights left up (m + carry)) b
     fails-is = both-as (stands (m + carry) (omega arith)) fails
 
-    pub climb-steady : Steady p q a b
-    climb-steady = step-steady K K survival (y .list .units) left p q (y .chance) (sum m) (sum (m + carry)) works-is fails-is
+    pub climb-steady : Steady u p q a b
+    climb-steady = step-steady (y .list .whole) K K survival (y .list .units) left p q (y .chance) (sum m) (sum (m + carry)) works-is fails-is
 
-    pub climb-made : {r : Ends} → Both (λ up. rounded up S (mixed S p (one up a) (one up b))) r → Both (λ up. sumsValue rule survival weights (suc left) up m) r
+    pub climb-made : {r : Ends} → Both (λ up. rounded up u (mixed u p (one up a) (one up b))) r → Both (λ up. sumsValue u rule survival weights (suc left) up m) r
     climb-made b =
-        both-as (λ up. rw (y .is) (sym (valued-suc K survival left (sum m) up)))
-        (step-mixed K K survival (y .list .units) left p q (y .chance) (sum m) (sum (m + carry)) works-is fails-is b)
+        both-as (λ up. rw (y .is) (sym (valued-suc u K survival left (sum m) up)))
+        (step-mixed (y .list .whole) K K survival (y .list .units) left p q (y .chance) (sum m) (sum (m + carry)) works-is fails-is b)

@@ -9,12 +9,12 @@ use lib.Dec.{eqb}
 use lib.ListN.{length}
 use borrow.Author.Tests.{eqb-true}
 use Rattle.rules.specs.declared.Rule.{Rule}
-use Rattle.rules.specs.State.{S, numberOf, ruleOf}
+use Rattle.rules.specs.State.{numberOf, ruleOf}
 use Rattle.rules.specs.Below.{sumBelow, total}
 use Rattle.rules.specs.Memory.{readingOf}
 use Rattle.rules.specs.Figure.{figure}
 use Rattle.rules.specs.Refusal.{heaviest}
-use Rattle.rules.specs.Accepted.{Accepted, Ratable}
+use Rattle.rules.specs.Accepted.{Accepted}
 use Rattle.rules.proofs.Accepted.{range1, range2}
 use Rattle.rules.proofs.EachKind.{each-kind}
 use Rattle.rules.proofs.Sums.{sum-add}
@@ -24,7 +24,7 @@ use Rattle.memory.specs.Sum.{sum}
 use Rattle.places.specs.Cells.{half}
 use Rattle.places.proofs.Values.{valued-dead}
 use Rattle.rows.specs.Kinds.{carryOf, loadOf, limitOf, gapOf, endOf}
-use Rattle.rows.specs.Level.{sumsValue}
+use Rattle.rows.specs.Level.{Asked, sumsValue}
 
 -- weights
 number-le : (ws : List ℕ) (i : ℕ) → numberOf ws i ≤ total ws
@@ -61,18 +61,18 @@ load-upto rule weights i n l =
     omega (arith, load-more rule weights i, sum-add (suc i) (n - suc i) (λ k. carryOf rule weights (suc k)), ap (λ x. loadOf rule weights x) e)
 
 -- an accepted rule of kind 1, 2 or 3
-pub record Early (rule : Rule) (survival weights : List ℕ) : Type 0 where
+pub record Early (u : ℕ) (rule : Rule) (survival weights : List ℕ) : Type 0 where
   pub some : 0 < limitOf rule
   pub most : limitOf rule + gapOf rule ≤ half
-  pub gone : (up : Bool) (i k : ℕ) → limitOf rule ≤ k → k ≤ loadOf rule weights (length survival) → sumsValue rule survival weights i up k ≡ 0
-  pub whole : (up : Bool) → sumsValue rule survival weights (length survival) up 0 ≡ figure up S rule survival weights
+  pub gone : (up : Bool) (i k : ℕ) → limitOf rule ≤ k → k ≤ loadOf rule weights (length survival) → sumsValue u rule survival weights i up k ≡ 0
+  pub whole : (up : Bool) → sumsValue u rule survival weights (length survival) up 0 ≡ figure up u rule survival weights
 
-module _ (survival weights : List ℕ) (first second : ℕ) where
+module _ {u : ℕ} (some : 0 < u) (survival weights : List ℕ) (first second : ℕ) where
   abbrev n : ℕ
   n = length survival
 
   abbrev ByKind : ℕ → Type 0
-  ByKind kind = kind ≤ 3 → Accepted (ruleOf kind first second) n weights → Early (ruleOf kind first second) survival weights
+  ByKind kind = kind ≤ 3 → Accepted (ruleOf kind first second) n weights → Early u (ruleOf kind first second) survival weights
 
   late : {kind : ℕ} → 3 < kind → ByKind kind
   late l early ok = absurd (omega arith)
@@ -84,20 +84,20 @@ module _ (survival weights : List ℕ) (first second : ℕ) where
       (λ early ok. let r = range1 ok refl in record {
         some = r .low;
         most = omega (arith, r .high, ok .size-high);
-        gone = λ up i k l h. valued-dead _ survival (sum-dead first (λ i. 1)) i (sum k) l up;
-        whole = λ up. sum-row1 first (λ i. 1) n (r .low) .values up S (numberOf survival);
+        gone = λ up i k l h. valued-dead some _ survival (sum-dead first (λ i. 1)) i (sum k) l up;
+        whole = λ up. sum-row1 first (λ i. 1) n (r .low) .values up u (numberOf survival);
       })
       (λ early ok. let r = range2 ok refl in record {
         some = r .low;
         most = omega (arith, r .high, ok .weights-total refl);
-        gone = λ up i k l h. valued-dead _ survival (sum-dead first (numberOf weights)) i (sum k) l up;
-        whole = λ up. sum-row1 first (numberOf weights) n (r .low) .values up S (numberOf survival);
+        gone = λ up i k l h. valued-dead some _ survival (sum-dead first (numberOf weights)) i (sum k) l up;
+        whole = λ up. sum-row1 first (numberOf weights) n (r .low) .values up u (numberOf survival);
       })
       (λ early ok. record {
         some = omega arith;
         most = omega arith;
         gone = λ up i k l h. absurd (omega (arith, ok .size-high, sum-bound 1 n (λ i. 1) (λ i. omega arith)));
-        whole = λ up. sum-row3 first second n .values up S (numberOf survival);
+        whole = λ up. sum-row3 first second n .values up u (numberOf survival);
       })
       (late (omega arith))
       (late (omega arith))
@@ -105,7 +105,7 @@ module _ (survival weights : List ℕ) (first second : ℕ) where
       (late (omega arith))
       (late (omega arith))
 
-pub early-is : {rule : Rule} {survival weights t : List ℕ} → Ratable rule survival weights t → rule .kind ≤ 3 → Early rule survival weights
-early-is {rule} {survival} {weights} y early =
+pub early-is : {u : ℕ} {rule : Rule} {survival weights t : List ℕ} → Asked u rule survival weights t → Early u rule survival weights
+early-is {rule = rule} {survival} {weights} y =
     let ok = y .accepted in
-    by-kind survival weights (rule .first) (rule .second) (rule .kind) (ok .kind-low) (ok .kind-high) early ok
+    by-kind (y .list .whole) survival weights (rule .first) (rule .second) (rule .kind) (ok .kind-low) (ok .kind-high) (y .early) ok

@@ -10,19 +10,17 @@ use native.Mathlib.Nat.{add-zero}
 use native.Mathlib.Omega.{arith}
 use lib.ListN.{length}
 use Rattle.rules.specs.declared.Rule.{Rule}
-use Rattle.rules.specs.State.{S}
 use Rattle.rules.specs.Below.{sumBelow}
 use Rattle.rules.specs.Figure.{figure, value}
-use Rattle.rules.specs.Accepted.{Ratable}
 use Rattle.rules.proofs.Rounding.{unchanged}
 use Rattle.memory.specs.Sum.{sum}
 use Rattle.places.specs.declared.Ends.{Ends}
 use Rattle.places.specs.Cells.{half, Side, Both, cellAt, Kept, Shelf, Written}
-use Rattle.places.proofs.Cells.{both-as, room-kept, side-near, other-side, row-same, row-as}
+use Rattle.places.proofs.Cells.{both-as, workable-kept, side-near, other-side, row-same, row-as}
 use Rattle.places.proofs.Values.{Chance, valued-suc}
 use Rattle.rows.specs.declared.Level.{Level}
 use Rattle.rows.specs.Kinds.{carryOf, loadOf, limitOf, gapOf, summed}
-use Rattle.rows.specs.Level.{sumsValue, endsValue, Levelled}
+use Rattle.rows.specs.Level.{sumsValue, endsValue, Asked, Levelled}
 use Rattle.rows.proofs.Early.{carry-le, load-more, load-upto, Early, early-is}
 use Rattle.rows.proofs.Climbs.{Climb}
 
@@ -33,15 +31,15 @@ beside k (inl e) (inr d) l h = inl (omega arith)
 beside k (inr e) (inl d) l h = inr (omega arith)
 beside k (inr e) (inr d) l h = inr (omega arith)
 
-list-kept : {rule : Rule} {survival weights t₀ t : List ℕ} → Kept t₀ t → Ratable rule survival weights t₀ → Ratable rule survival weights t
-list-kept k y = record { accepted = y .accepted; units = y .units; room = room-kept k (y .room) }
+asked-kept : {u : ℕ} {rule : Rule} {survival weights t₀ t : List ℕ} → Kept t₀ t → Asked u rule survival weights t₀ → Asked u rule survival weights t
+asked-kept k y = record { accepted = y .accepted; early = y .early; list = workable-kept k (y .list) }
 
-module _ {rule : Rule} {survival weights : List ℕ} {s : Level} {t : List ℕ} (y : Levelled rule survival weights s t) where
-  abbrev early : Early rule survival weights
-  early = early-is (y .list) (y .early)
+module _ {u : ℕ} {rule : Rule} {survival weights : List ℕ} {s : Level} {t : List ℕ} (y : Levelled u rule survival weights s t) where
+  abbrev early : Early u rule survival weights
+  early = early-is (y .asked)
 
   -- every place that can be read holds the value of its sum
-  known : (up : Bool) (k : ℕ) → k < s .reach → k < limitOf rule + gapOf rule → cellAt t up (s .from + k) ≡ sumsValue rule survival weights (s .left) up k
+  known : (up : Bool) (k : ℕ) → k < s .reach → k < limitOf rule + gapOf rule → cellAt t up (s .from + k) ≡ sumsValue u rule survival weights (s .left) up k
   known up k near l =
       elim (decLt k (limitOf rule)) [
         | yes a ↦ y .row .is up k (omega arith)
@@ -51,15 +49,15 @@ module _ {rule : Rule} {survival weights : List ℕ} {s : Level} {t : List ℕ} 
             ∙ sym (early .gone up (s .left) k (omega arith) (omega (arith, y .reach)))
       ]
 
-  pub level-read : s .left ≡ length survival → {r : Ends} → Both (λ up. cellAt t up (s .from)) r → Both (λ up. figure up S rule survival weights) r
+  pub level-read : s .left ≡ length survival → {r : Ends} → Both (λ up. cellAt t up (s .from)) r → Both (λ up. figure up u rule survival weights) r
   level-read all = both-as at
     where
-      at : (up : Bool) → cellAt t up (s .from) ≡ figure up S rule survival weights
+      at : (up : Bool) → cellAt t up (s .from) ≡ figure up u rule survival weights
       at up =
           let d : s .from ≡ s .from + 0 = omega arith in
           ap (λ x. cellAt t up x) d
           ∙ known up 0 (omega (arith, y .reach, ap (λ i. loadOf rule weights i) all)) (omega (arith, early .some))
-          ∙ ap (λ i. sumsValue rule survival weights i up 0) all
+          ∙ ap (λ i. sumsValue u rule survival weights i up 0) all
           ∙ early .whole up
 
   module _ (more : s .left < length survival) where
@@ -73,11 +71,11 @@ module _ {rule : Rule} {survival weights : List ℕ} {s : Level} {t : List ℕ} 
     pub spare : heavy < s .reach
     spare = omega (arith, y .reach, load-upto rule weights (s .left) (length survival) more)
 
-    pub level-climb : {p q : ℕ} → Chance survival (s .left) p q → Climb rule survival weights (s .left) (s .from) t p q heavy width
+    pub level-climb : {p q : ℕ} → Chance u survival (s .left) p q → Climb u rule survival weights (s .left) (s .from) t p q heavy width
     level-climb chance =
-        let light = carry-le (y .list .accepted) (suc (s .left)) in
+        let light = carry-le (y .asked .accepted) (suc (s .left)) in
         record {
-          list = y .list;
+          list = y .asked .list;
           side = y .side;
           chance = chance;
           is = refl;
@@ -85,14 +83,13 @@ module _ {rule : Rule} {survival weights : List ℕ} {s : Level} {t : List ℕ} 
           row = record { is = λ up k l. known up k (omega (arith, spare)) (omega arith) };
         }
 
-    pub level-up : {t' : List ℕ} → Written (sumsValue rule survival weights (suc (s .left))) width (half - s .from) t t'
-        → Levelled rule survival weights (record { reach = s .reach - heavy; left = suc (s .left); from = half - s .from }) t'
+    pub level-up : {t' : List ℕ} → Written (sumsValue u rule survival weights (suc (s .left))) width (half - s .from) t t'
+        → Levelled u rule survival weights (record { reach = s .reach - heavy; left = suc (s .left); from = half - s .from }) t'
     level-up w =
         let most = early .most in
         let to = other-side (y .side) in
         record {
-          list = list-kept (w .kept) (y .list);
-          early = y .early;
+          asked = asked-kept (w .kept) (y .asked);
           side = to;
           some = omega arith;
           reach = omega (arith, y .reach, spare, load-more rule weights (s .left));
@@ -101,10 +98,9 @@ module _ {rule : Rule} {survival weights : List ℕ} {s : Level} {t : List ℕ} 
         }
 
     -- a component of no weight
-    pub level-same : heavy ≡ 0 → Levelled rule survival weights (record { reach = s .reach; left = suc (s .left); from = s .from }) t
+    pub level-same : heavy ≡ 0 → Levelled u rule survival weights (record { reach = s .reach; left = suc (s .left); from = s .from }) t
     level-same none = record {
-      list = y .list;
-      early = y .early;
+      asked = y .asked;
       side = y .side;
       some = omega arith;
       reach = omega (arith, y .reach, load-more rule weights (s .left));
@@ -112,16 +108,16 @@ module _ {rule : Rule} {survival weights : List ℕ} {s : Level} {t : List ℕ} 
       behind = y .behind;
     }
       where
-        light : (up : Bool) (k : ℕ) → sumsValue rule survival weights (suc (s .left)) up k ≡ sumsValue rule survival weights (s .left) up k
+        light : (up : Bool) (k : ℕ) → sumsValue u rule survival weights (suc (s .left)) up k ≡ sumsValue u rule survival weights (s .left) up k
         light up k =
-            valued-suc (summed rule weights) survival (s .left) (sum k) up ∙ rw (none, add-zero) (unchanged up S _ _ (omega arith) (y .list .units (s .left)))
+            valued-suc u (summed rule weights) survival (s .left) (sum k) up ∙ rw (none, add-zero) (unchanged up u _ _ (y .asked .list .whole) (y .asked .list .units (s .left)))
 
 -- with no components left
-module _ {rule : Rule} {survival weights t₀ t₁ t₂ t₃ : List ℕ} (y : Ratable rule survival weights t₀) (small : rule .kind ≤ 3)
-    (a : Written (endsValue rule) (limitOf rule) 0 t₀ t₁) (b : Written (λ up k. 0) (gapOf rule) (limitOf rule) t₁ t₂)
+module _ {u : ℕ} {rule : Rule} {survival weights t₀ t₁ t₂ t₃ : List ℕ} (y : Asked u rule survival weights t₀)
+    (a : Written (endsValue u rule) (limitOf rule) 0 t₀ t₁) (b : Written (λ up k. 0) (gapOf rule) (limitOf rule) t₁ t₂)
     (c : Written (λ up k. 0) (gapOf rule) (half + limitOf rule) t₂ t₃) where
   abbrev most : limitOf rule + gapOf rule ≤ half
-  most = early-is y small .most
+  most = early-is y .most
 
   -- what was written first is still there
   still : (up : Bool) (k : ℕ) → k < half → cellAt t₃ up k ≡ cellAt t₂ up k
@@ -131,11 +127,10 @@ module _ {rule : Rule} {survival weights t₀ t₁ t₂ t₃ : List ℕ} (y : Ra
   zeros {side} (inl e) = let d : side + limitOf rule ≡ limitOf rule = omega arith in rw d (row-same (λ up k l. still up _ (omega (arith, most))) (b .row))
   zeros (inr e) = rw e (c .row)
 
-  pub level-none : Levelled rule survival weights (record { reach = loadOf rule weights (length survival) + 1; left = 0; from = 0 }) t₃
+  pub level-none : Levelled u rule survival weights (record { reach = loadOf rule weights (length survival) + 1; left = 0; from = 0 }) t₃
   unfolding value sumBelow
   level-none = record {
-    list = list-kept (c .kept) (list-kept (b .kept) (list-kept (a .kept) y));
-    early = small;
+    asked = asked-kept (c .kept) (asked-kept (b .kept) (asked-kept (a .kept) y));
     side = inl refl;
     some = omega arith;
     reach = omega arith;

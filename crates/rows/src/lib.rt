@@ -3,11 +3,10 @@
 mod kinds; // kinds.rt: what kinds 1 to 3 differ in
 mod row; // row.rt: the rows
 
-ghost use Prim.Native.Nat.{_≤_};
-ghost use Rattle.rules.specs.State.{S};
-ghost use Rattle.rules.specs.Accepted.{Ratable};
 ghost use Rattle.rules.specs.Figure.{figure};
+ghost use Rattle.units.specs.Step.{whole};
 ghost use Rattle.places.specs.Cells.{Both, Kept};
+ghost use Rattle.rows.specs.Level.{Asked};
 use places::Ends;
 use places::HALF;
 use rules::Rule;
@@ -20,24 +19,24 @@ struct Level {
 }
 
 // Low and high of a list of kind 1, 2 or 3.
-pub fn rate(rule: Rule, survival: &[u32], weights: &[u16], table: &mut [u64]) -> Ends
-    requires { ⌜ Ratable rule (now survival) (now weights) (now table) × (rule .kind ≤ 3) ⌝ }
-    ensures figure { λ r. ⌜ Both (λ up. figure up S rule (now (survival .entry)) (now (weights .entry))) r ⌝ }
+pub fn rate(decimal: bool, rule: Rule, survival: &[u32], weights: &[u16], table: &mut [u64]) -> Ends
+    requires { ⌜ Asked (whole decimal) rule (now survival) (now weights) (now table) ⌝ }
+    ensures figure { λ r. ⌜ Both (λ up. figure up (whole decimal) rule (now (survival .entry)) (now (weights .entry))) r ⌝ }
     ensures kept { λ r. ⌜ Kept (now (table .entry)) (now (table .exit)) ⌝ }
 {
     let n = survival.len();
     let limit = kinds::limit(rule);
     let gap = kinds::gap(rule);
-    row::start(rule, limit, table);
-    row::clear(limit, gap, table);
-    row::clear(HALF + limit, gap, table);
+    row::start(decimal, rule, limit, table);
+    row::clear(decimal, limit, gap, table);
+    row::clear(decimal, HALF + limit, gap, table);
     let mut s = Level {
         reach: kinds::load(rule, weights, n) + 1,
         left: 0,
         from: 0,
     };
     while s.left < n {
-        s = row::turn(rule, survival, weights, s, table);
+        s = row::turn(decimal, rule, survival, weights, s, table);
     }
     places::read(table, s.from)
 }

@@ -8,7 +8,7 @@ use native.Mathlib.Nat.{zero-add}
 use native.Mathlib.Numerals.{add-one}
 use native.Mathlib.Omega.{arith}
 use lib.ListN.{length, getD}
-use Rattle.rules.specs.State.{S, numberOf}
+use Rattle.rules.specs.State.{numberOf}
 use Rattle.rules.specs.Memory.{machineOf, row4, row5}
 use Rattle.rules.specs.Figure.{rounded, mixed, figureOf}
 use Rattle.rules.proofs.Dead.{row-value}
@@ -24,27 +24,27 @@ use Rattle.places.proofs.Values.{Chance, valued-suc, step-steady, step-mixed}
 use Rattle.runs.specs.Runs.{Asked, Fillable, Filled}
 
 -- what stands where a memory is filled in
-pub filled-at : {k t upto : ℕ} {survival t₀ t₁ : List ℕ} → Filled k (run t 0) upto survival t₀ t₁ → {e : Ends} → Both (λ up. cellAt t₁ up upto) e
-    → Both (λ up. valueOf (running k) survival (run t 0) up upto) e
+pub filled-at : {u k t upto : ℕ} {survival t₀ t₁ : List ℕ} → Filled u k (run t 0) upto survival t₀ t₁ → {e : Ends} → Both (λ up. cellAt t₁ up upto) e
+    → Both (λ up. valueOf u (running k) survival (run t 0) up upto) e
 filled-at {upto = upto} f = both-as (λ up. rw (zero-add upto) at (f .row .is up upto (omega arith)))
 
-module _ {k : ℕ} {survival t₀ : List ℕ} (y : Asked k survival t₀) where
+module _ {u k : ℕ} {survival t₀ : List ℕ} (y : Asked u k survival t₀) where
   abbrev n : ℕ
   n = length survival
 
-  pub line-is : {e : Ends} → Both (λ up. valueOf (running k) survival (run 0 0) up n) e → Both (λ up. figureOf (row4 k) up S survival) e
-  line-is = both-as (λ up. run-row4 k (y .some) n .values up S (numberOf survival))
+  pub line-is : {e : Ends} → Both (λ up. valueOf u (running k) survival (run 0 0) up n) e → Both (λ up. figureOf (row4 k) up u survival) e
+  line-is = both-as (λ up. run-row4 k (y .some) n .values up u (numberOf survival))
 
   -- the value of the open lead with i components left
   abbrev opened : (up : Bool) (i : ℕ) → ℕ
-  opened up i = valueOf (machineOf (row5 k)) survival (leadOpen k n i) up i
+  opened up i = valueOf u (machineOf (row5 k)) survival (leadOpen k n i) up i
 
   open-more : (up : Bool) (i : ℕ) → i < n → n ≤ i + k
-      → rounded up S (mixed S (getD survival i 0) (valueOf (running k) survival (run (n - suc i) 0) up i) (opened up i)) ≡ opened up (i + 1)
+      → rounded up u (mixed u (getD survival i 0) (valueOf u (running k) survival (run (n - suc i) 0) up i) (opened up i)) ≡ opened up (i + 1)
   open-more up i left near =
       rw (add-one i)
-      (sym (valued-suc (machineOf (row5 k)) survival i (leadOpen k n (suc i)) up
-      ∙ rw (lead-works k n i left near, lead-fails k n i left near, run-row5 k (y .some) i (n - suc i) .values up S (numberOf survival))))
+      (sym (valued-suc u (machineOf (row5 k)) survival i (leadOpen k n (suc i)) up
+      ∙ rw (lead-works k n i left near, lead-fails k n i left near, run-row5 k (y .some) i (n - suc i) .values up u (numberOf survival))))
 
   -- the ring on the way: the lead, and its value
   pub record Leading (size i : ℕ) (m : Lead) (ends : Ends) (t : List ℕ) : Type 0 where
@@ -61,14 +61,14 @@ module _ {k : ℕ} {survival t₀ : List ℕ} (y : Asked k survival t₀) where
     is = ap lead (omega (arith, y .fits));
     most = omega arith;
     near = omega arith;
-    value = both-as (λ up. sym (ap (λ m. valueOf (machineOf (row5 k)) survival m up (n - k)) (lead-first k n (y .fits)) ∙ row-value (row5 k) up S (numberOf survival) (omega arith) (n - k))) b;
+    value = both-as (λ up. sym (ap (λ m. valueOf u (machineOf (row5 k)) survival m up (n - k)) (lead-first k n (y .fits)) ∙ row-value (row5 k) up u (numberOf survival) (y .list .whole) (n - k))) b;
     kept = kept-none;
   }
 
-  pub leading-last : {size i : ℕ} {m : Lead} {e : Ends} {t : List ℕ} → size ≤ i → Leading size i m e t → Both (λ up. figureOf (row5 k) up S survival) e
+  pub leading-last : {size i : ℕ} {m : Lead} {e : Ends} {t : List ℕ} → size ≤ i → Leading size i m e t → Both (λ up. figureOf (row5 k) up u survival) e
   leading-last {i = i} l v =
       let e : i ≡ n = omega (arith, v .most, v .all) in
-      both-as (λ up. ap (λ m. valueOf (machineOf (row5 k)) survival m up n) (lead-start k n (y .some))) (rw e at (v .value))
+      both-as (λ up. ap (λ m. valueOf u (machineOf (row5 k)) survival m up n) (lead-start k n (y .some))) (rw e at (v .value))
 
   module _ {size i : ℕ} {m : Lead} {ends : Ends} {t : List ℕ} (v : Leading size i m ends t) (l : i < size) where
     pub leading-some : 0 < m .lead
@@ -78,25 +78,25 @@ module _ {k : ℕ} {survival t₀ : List ℕ} (y : Asked k survival t₀) where
       pub earlier : m' ≡ lead (n - suc i)
       earlier = before ∙ rw (v .is) (ap lead (omega arith))
 
-      pub leading-fillable : Fillable k (run (m' .lead) 0) i survival t
+      pub leading-fillable : Fillable u k (run (m' .lead) 0) i survival t
       leading-fillable = record {
         free = record { none = refl; alive = rw earlier (omega (arith, v .near, v .all)) };
         size = v .most;
         list = workable-kept (v .kept) (y .list);
       }
 
-      module _ {t' : List ℕ} (f : Filled k (run (m' .lead) 0) i survival t t') where
+      module _ {t' : List ℕ} (f : Filled u k (run (m' .lead) 0) i survival t t') where
         pub leading-place : Place i t'
         leading-place = record { low = omega (arith, v .most, y .list .size); room = room-kept (kept-trans (v .kept) (f .kept)) (y .list .room) }
 
-        module _ (p q : ℕ) (is : Chance survival i p q) {none : Ends} (b : Both (λ up. cellAt t' up i) none) where
-          known : Both (λ up. valueOf (running k) survival (run (n - suc i) 0) up i) none
+        module _ (p q : ℕ) (is : Chance u survival i p q) {none : Ends} (b : Both (λ up. cellAt t' up i) none) where
+          known : Both (λ up. valueOf u (running k) survival (run (n - suc i) 0) up i) none
           known = rw earlier at (filled-at f b)
 
-          pub leading-steady : Steady p q none ends
-          leading-steady = step-steady (running k) (machineOf (row5 k)) survival (y .list .units) i p q is _ _ known (v .value)
+          pub leading-steady : Steady u p q none ends
+          leading-steady = step-steady (y .list .whole) (running k) (machineOf (row5 k)) survival (y .list .units) i p q is _ _ known (v .value)
 
-          pub leading-more : {r : Ends} → Both (λ up. rounded up S (mixed S p (one up none) (one up ends))) r → Leading size (i + 1) m' r t'
+          pub leading-more : {r : Ends} → Both (λ up. rounded up u (mixed u p (one up none) (one up ends))) r → Leading size (i + 1) m' r t'
           leading-more s = record {
             all = v .all;
             is = earlier ∙ ap lead (omega arith);
@@ -104,6 +104,6 @@ module _ {k : ℕ} {survival t₀ : List ℕ} (y : Asked k survival t₀) where
             near = omega (arith, v .near);
             value =
                 both-as (λ up. open-more up i (omega (arith, v .all)) (v .near))
-                (step-mixed (running k) (machineOf (row5 k)) survival (y .list .units) i p q is _ _ known (v .value) s);
+                (step-mixed (y .list .whole) (running k) (machineOf (row5 k)) survival (y .list .units) i p q is _ _ known (v .value) s);
             kept = kept-trans (v .kept) (f .kept);
           }

@@ -19,25 +19,25 @@ pub record Decidable (k : ℕ) (m : Run) (upto : ℕ) (t : List ℕ) : Type 0 wh
   pub room : cells ≤ length t
 
 -- with so many components left the lead and a run of all of them come to k; the memory's value with fewer is known
-pub record Falling (k : ℕ) (m : Run) (upto : ℕ) (survival t : List ℕ) : Type 0 where
+pub record Falling (u k : ℕ) (m : Run) (upto : ℕ) (survival t : List ℕ) : Type 0 where
   pub free : Free k m
   pub some : 0 < upto
   pub size : upto ≤ length survival
   pub far : k ≤ upto + m .lead
-  pub row : Shelf (valueOf (running k) survival m) t 0 upto
-  pub list : Workable survival t
+  pub row : Shelf (valueOf u (running k) survival m) t 0 upto
+  pub list : Workable u survival t
 
-pub record Fillable (k : ℕ) (m : Run) (upto : ℕ) (survival t : List ℕ) : Type 0 where
+pub record Fillable (u k : ℕ) (m : Run) (upto : ℕ) (survival t : List ℕ) : Type 0 where
   pub free : Free k m
   pub size : upto ≤ length survival
-  pub list : Workable survival t
+  pub list : Workable u survival t
 
-pub record Filled (k : ℕ) (m : Run) (upto : ℕ) (survival t₀ t : List ℕ) : Type 0 where
-  pub row : Shelf (valueOf (running k) survival m) t 0 (suc upto)
+pub record Filled (u k : ℕ) (m : Run) (upto : ℕ) (survival t₀ t : List ℕ) : Type 0 where
+  pub row : Shelf (valueOf u (running k) survival m) t 0 (suc upto)
   pub kept : Kept t₀ t
 
 -- a rule in range: 1 <= k <= n
-pub record Asked (k : ℕ) (survival t : List ℕ) : Type 0 where
+pub record Asked (u k : ℕ) (survival t : List ℕ) : Type 0 where
   pub some : 1 ≤ k
   pub fits : k ≤ length survival
-  pub list : Workable survival t
+  pub list : Workable u survival t

@@ -4,9 +4,9 @@
 // place i. Each value comes of the earlier ones by one run taken back. The table is all that a ring uses: one lead at a time, each written over the last.
 ghost use mathlib.Core.Path.{_≡_};
 ghost use Prim.Native.Nat.{suc, _-_, _<_, min};
-ghost use Rattle.rules.specs.State.{S};
 ghost use Rattle.rules.specs.Memory.{row4, row5};
 ghost use Rattle.rules.specs.Figure.{figureOf};
+ghost use Rattle.units.specs.Step.{whole};
 ghost use Rattle.memory.specs.Run.{run, running};
 ghost use Rattle.places.specs.Cells.{Both, Kept, Written, valueOf};
 ghost use Rattle.runs.specs.Runs.{Decidable, Falling, Fillable, Filled, Asked};
@@ -23,15 +23,15 @@ fn place(m: Run, left: usize) -> usize
 }
 
 // As far as even the failure of all that is left cannot bring the lead to k, a memory with no run works. The answer is how far.
-fn decide(k: usize, free: Run, upto: usize, table: &mut [u64]) -> usize
+fn decide(decimal: bool, k: usize, free: Run, upto: usize, table: &mut [u64]) -> usize
     requires { ⌜ Decidable k free upto (now table) ⌝ }
     ensures far { λ r. ⌜ r ≡ min upto (k - 1 - free .lead) ⌝ }
-    ensures written { λ r. ⌜ Written (λ up i. S) (suc (min upto (k - 1 - free .lead))) 0 (now (table .entry)) (now (table .exit)) ⌝ }
+    ensures written { λ r. ⌜ Written (λ up i. whole decimal) (suc (min upto (k - 1 - free .lead))) 0 (now (table .entry)) (now (table .exit)) ⌝ }
 {
     let last = places::lesser(upto, k - 1 - free.lead);
     let mut left: usize = 0;
     while left <= last {
-        places::write(table, left, places::end_value(true));
+        places::write(table, left, places::end_value(decimal, true));
         left += 1;
     }
     last
@@ -39,22 +39,23 @@ fn decide(k: usize, free: Run, upto: usize, table: &mut [u64]) -> usize
 
 // The value of a memory with no run with `upto` left: back over a run that ends dead, or past the last component and too long with its lead.
 // Any component of the run may work instead.
-fn back(k: usize, free: Run, upto: usize, survival: &[u32], table: &[u64]) -> Ends
-    requires { ⌜ Falling k free upto (now survival) (now table) ⌝ }
-    ensures { λ r. ⌜ Both (λ up. valueOf (running k) (now (survival .entry)) free up upto) r ⌝ }
+fn back(decimal: bool, k: usize, free: Run, upto: usize, survival: &[u32], table: &[u64]) -> Ends
+    requires { ⌜ Falling (whole decimal) k free upto (now survival) (now table) ⌝ }
+    ensures { λ r. ⌜ Both (λ up. valueOf (whole decimal) (running k) (now (survival .entry)) free up upto) r ⌝ }
 {
     let mut i = places::rest(upto, k);
     let mut m = Run {
         lead: free.lead,
         run: upto - i,
     };
-    let mut ends = places::end_value(false);
+    let mut ends = places::end_value(decimal, false);
     while i < upto {
         m = m.before();
         let p = places::chance(survival, i);
         ends = places::step(
+            decimal,
             p,
-            p.failure(),
+            p.failure(decimal),
             places::read(table, place(m.worked(), i)),
             ends,
         );
@@ -64,46 +65,52 @@ fn back(k: usize, free: Run, upto: usize, survival: &[u32], table: &[u64]) -> En
 }
 
 // The values of a memory with no run, with 0 to `upto` components left.
-fn fill(k: usize, free: Run, upto: usize, survival: &[u32], table: &mut [u64])
-    requires { ⌜ Fillable k free upto (now survival) (now table) ⌝ }
-    ensures { λ r. ⌜ Filled k free upto (now (survival .entry)) (now (table .entry)) (now (table .exit)) ⌝ }
+fn fill(decimal: bool, k: usize, free: Run, upto: usize, survival: &[u32], table: &mut [u64])
+    requires { ⌜ Fillable (whole decimal) k free upto (now survival) (now table) ⌝ }
+    ensures { λ r. ⌜ Filled (whole decimal) k free upto (now (survival .entry)) (now (table .entry)) (now (table .exit)) ⌝ }
 {
-    let mut left = decide(k, free, upto, table);
+    let mut left = decide(decimal, k, free, upto, table);
     while left < upto {
         left += 1;
-        let ends = back(k, free, left, survival, table);
+        let ends = back(decimal, k, free, left, survival, table);
         places::write(table, left, ends);
     }
 }
 
 // Kind 4.
-pub fn line(k: usize, survival: &[u32], table: &mut [u64]) -> Ends
-    requires { ⌜ Asked k (now survival) (now table) ⌝ }
-    ensures figure { λ r. ⌜ Both (λ up. figureOf (row4 k) up S (now (survival .entry))) r ⌝ }
+pub fn line(decimal: bool, k: usize, survival: &[u32], table: &mut [u64]) -> Ends
+    requires { ⌜ Asked (whole decimal) k (now survival) (now table) ⌝ }
+    ensures figure { λ r. ⌜ Both (λ up. figureOf (row4 k) up (whole decimal) (now (survival .entry))) r ⌝ }
     ensures kept { λ r. ⌜ Kept (now (table .entry)) (now (table .exit)) ⌝ }
 {
     let n = survival.len();
     let free = Run::start();
-    fill(k, free, n, survival, table);
+    fill(decimal, k, free, n, survival, table);
     places::read(table, place(free, n))
 }
 
 // Kind 5: the lead, dead with k components read, taken back to none. A component that works closes it.
-pub fn ring(k: usize, survival: &[u32], table: &mut [u64]) -> Ends
-    requires { ⌜ Asked k (now survival) (now table) ⌝ }
-    ensures figure { λ r. ⌜ Both (λ up. figureOf (row5 k) up S (now (survival .entry))) r ⌝ }
+pub fn ring(decimal: bool, k: usize, survival: &[u32], table: &mut [u64]) -> Ends
+    requires { ⌜ Asked (whole decimal) k (now survival) (now table) ⌝ }
+    ensures figure { λ r. ⌜ Both (λ up. figureOf (row5 k) up (whole decimal) (now (survival .entry))) r ⌝ }
     ensures kept { λ r. ⌜ Kept (now (table .entry)) (now (table .exit)) ⌝ }
 {
     let n = survival.len();
     let mut lead = Lead { lead: k };
-    let mut opened = places::end_value(false);
+    let mut opened = places::end_value(decimal, false);
     let mut i = n - k;
     while i < n {
         lead = lead.before();
         let free = lead.worked();
-        fill(k, free, i, survival, table);
+        fill(decimal, k, free, i, survival, table);
         let p = places::chance(survival, i);
-        opened = places::step(p, p.failure(), places::read(table, place(free, i)), opened);
+        opened = places::step(
+            decimal,
+            p,
+            p.failure(decimal),
+            places::read(table, place(free, i)),
+            opened,
+        );
         i += 1;
     }
     opened

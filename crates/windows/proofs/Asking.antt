@@ -50,7 +50,7 @@ longest-upto n b h (p ∷ ps) e =
     let g = both (goodPair n p) (allOf (goodPair n) ps) e in
     omega (arith, h p (good-pair n p (g .0)), longest-upto n b h ps (g .1))
 
-module _ {first second : ℕ} {more survival t : List ℕ} (q : Asked first second more survival t) where
+module _ {u first second : ℕ} {more survival t : List ℕ} (q : Asked u first second more survival t) where
   in-range : (badMore more ≡ false) × (inRange8 (length survival) (pairsOf first second more) ≡ true)
   unfolding rangePairs
   in-range = let h = both (not (badMore more)) (inRange8 (length survival) (pairsOf first second more)) (q .range) in (not-true _ (h .0), h .1)

@@ -14,7 +14,7 @@ use lib.Pow.{pow-pos}
 use borrow.Author.Tests.{eqb-true}
 use Rattle.rules.specs.declared.Pair.{Pair}
 use Rattle.rules.specs.Below.{held}
-use Rattle.rules.specs.State.{S, numberOf}
+use Rattle.rules.specs.State.{numberOf}
 use Rattle.rules.specs.Memory.{Memory, live, dead, moved, Machine, machineOf, lackingIn, longest}
 use Rattle.rules.proofs.Dead.{row-value}
 use Rattle.rules.proofs.Tests.{both}
@@ -22,11 +22,11 @@ use Rattle.rules.proofs.Windows.{held-le}
 use Rattle.memory.specs.Pattern.{oldestOf, dies, lives, patterned}
 use Rattle.memory.proofs.Patterns.{lives-here, lives-worked, lives-failed, lives-low, dies-older}
 use Rattle.places.specs.Cells.{far, half, Side, cellAt, Workable, valueOf}
-use Rattle.places.proofs.Cells.{workable-kept, side-near, other-side, apart}
+use Rattle.places.proofs.Cells.{kept-trans, workable-kept, side-near, other-side, apart}
 use Rattle.places.proofs.Values.{Chance, valued-le, valued-suc}
 use Rattle.windows.specs.declared.Level.{Level}
 use Rattle.windows.specs.Groups.{freeAt, splitAt, boundAt, aloneAt, listAt, Group, free, split, bound, alone, listOf, groupOf, grouped, countAt, entryAt, Listed, Lists, Listables, TrimmedAll}
-use Rattle.windows.specs.Row.{stepOf, Ready, Handed, Worked, patternValue, reachOf, Held, Levelled}
+use Rattle.windows.specs.Row.{stepOf, Ready, Handed, Worked, patternValue, reachOf, Held, Levelled, Midway, Swept}
 use Rattle.windows.proofs.Lists.{held-order, listed-still}
 use Rattle.windows.proofs.Sorting.{begins}
 
@@ -107,24 +107,12 @@ module _ (ps : List Pair) (oldest : ℕ) (bit : oldest ≡ oldestOf ps) where
     failed-lives : (x : ℕ) → x < oldest → lives ps x ≡ true → dies ps x ≡ false → lives ps (2 * x + 1) ≡ true
     failed-lives x l e d = lives-failed ps none x (omega arith) ∙ rw (e, d)
 
--- what the component after i others is worked with, between one list and the next
-pub record Midway (ps : List Pair) (oldest : ℕ) (survival : List ℕ) (i from p q : ℕ) (t : List ℕ) : Type 0 where
-  pub bit : oldest ≡ oldestOf ps
-  pub none : lackingIn ps 0 ≡ false
-  pub most : oldest ≤ 256
-  pub list : Workable survival t
-  pub more : i < length survival
-  pub side : Side from
-  pub chance : Chance survival i p q
-  pub lists : Lists ps (reachOf oldest (length survival) (suc i)) t
-  pub row : Held ps oldest survival i (reachOf oldest (length survival) i) from t
-
 -- the patterns of a list, with one component more, on the other side
-pub record Made (ps : List Pair) (oldest : ℕ) (survival : List ℕ) (i from at : ℕ) (t : List ℕ) : Type 0 where
+pub record Made (u : ℕ) (ps : List Pair) (oldest : ℕ) (survival : List ℕ) (i from at : ℕ) (t : List ℕ) : Type 0 where
   pub is : (up : Bool) (m : ℕ) → m < 2 * oldest → grouped ps at (m % oldest) ≡ true → lives ps m ≡ true → m % oldest < reachOf oldest (length survival) (suc i)
-      → cellAt t up (half - from + m) ≡ patternValue ps survival (suc i) up m
+      → cellAt t up (half - from + m) ≡ patternValue u ps survival (suc i) up m
 
-module _ {ps : List Pair} {oldest : ℕ} {survival : List ℕ} {i from p q : ℕ} {t : List ℕ} (y : Midway ps oldest survival i from p q t) where
+module _ {u : ℕ} {ps : List Pair} {oldest : ℕ} {survival : List ℕ} {i from p q : ℕ} {t : List ℕ} (y : Midway u ps oldest survival i from p q t) where
   abbrev n : ℕ
   n = length survival
 
@@ -139,25 +127,25 @@ module _ {ps : List Pair} {oldest : ℕ} {survival : List ℕ} {i from p q : ℕ
     low : x < oldest
     low = omega arith
 
-    works-is : (up : Bool) → cellAt t up (from + 2 * x) ≡ patternValue ps survival i up (2 * x)
+    works-is : (up : Bool) → cellAt t up (from + 2 * x) ≡ patternValue u ps survival i up (2 * x)
     works-is up =
         let h = near oldest n i x 0 pos (y .more) (omega arith) l in
         y .row .is up (2 * x) (omega (arith, low)) (worked-lives ps oldest (y .bit) (y .none) (y .most) x low e) (simp add-zero at h)
 
-    fails-is : dies ps x ≡ false → (up : Bool) → cellAt t up (from + (2 * x + 1)) ≡ patternValue ps survival i up (2 * x + 1)
+    fails-is : dies ps x ≡ false → (up : Bool) → cellAt t up (from + (2 * x + 1)) ≡ patternValue u ps survival i up (2 * x + 1)
     fails-is d up =
         y .row .is up (2 * x + 1) (omega (arith, low)) (failed-lives ps oldest (y .bit) (y .none) (y .most) x low e d)
         (near oldest n i x 1 pos (y .more) (omega arith) l)
 
     -- the step of x or of its older one
-    step-is : (m : ℕ) → m % oldest ≡ x → (dies ps m ≡ false → dies ps x ≡ false) → (up : Bool) → stepOf (dies ps m) p from t up x ≡ patternValue ps survival (suc i) up m
+    step-is : (m : ℕ) → m % oldest ≡ x → (dies ps m ≡ false → dies ps x ≡ false) → (up : Bool) → stepOf u (dies ps m) p from t up x ≡ patternValue u ps survival (suc i) up m
     unfolding stepOf moved
     step-is m r ok up =
-        rw (y .chance .read, works-is up, after (dies ps m) refl)
-        (sym (simp (r) at (rw (← y .bit) at (valued-suc K survival i (live m) up))))
+        rw (y .read, works-is up, after (dies ps m) refl)
+        (sym (simp (r) at (rw (← y .bit) at (valued-suc u K survival i (live m) up))))
       where
-        after : (b : Bool) → dies ps m ≡ b → cond b 0 (cellAt t up (from + (2 * x + 1))) ≡ valueOf K survival (cond b dead (live (2 * x + 1))) up i
-        after true d = sym (row-value (patterned ps) up S (numberOf survival) (omega arith) i)
+        after : (b : Bool) → dies ps m ≡ b → cond b 0 (cellAt t up (from + (2 * x + 1))) ≡ valueOf u K survival (cond b dead (live (2 * x + 1))) up i
+        after true d = sym (row-value (patterned ps) up u (numberOf survival) (y .list .whole) i)
         after false d = fails-is (ok d) up
 
   -- where the older one may fail, so may the other
@@ -185,23 +173,24 @@ module _ {ps : List Pair} {oldest : ℕ} {survival : List ℕ} {i from p q : ℕ
         go m o l a bound e = refl
         go m o l a alone e = refl
 
-    ready : (x : ℕ) → grouped ps at x ≡ true → x < reachOf oldest n (suc i) → Ready must older p q oldest from x t
+    ready : (x : ℕ) → grouped ps at x ≡ true → x < reachOf oldest n (suc i) → Ready u must older p q oldest from x t
     ready x m l =
         let e = grouped-lives ps at x m .0 in
         let f = flags ps oldest (y .bit) must older lone at g x (low x l e) m in
         record {
-          survival = rw (y .chance .read) (y .list .units i);
-          rest = y .chance .rest;
+          narrow = y .list .narrow;
+          survival = rw (y .read) (y .list .units i);
+          rest = y .rest;
           side = y .side;
           most = y .most;
           young = low x l e;
           order = order;
           room = y .list .room;
-          works = λ up. rw (works-is x l e up) (valued-le K survival (y .list .units) i (live (2 * x)) up);
-          fails = λ d up. rw (fails-is x l e (f .young ∙ d) up) (valued-le K survival (y .list .units) i (live (2 * x + 1)) up);
+          works = λ up. rw (works-is x l e up) (valued-le (y .list .whole) K survival (y .list .units) i (live (2 * x)) up);
+          fails = λ d up. rw (fails-is x l e (f .young ∙ d) up) (valued-le (y .list .whole) K survival (y .list .units) i (live (2 * x + 1)) up);
         }
 
-    pub handed : Handed must older at p q oldest from t
+    pub handed : Handed u must older at p q oldest from t
     handed =
         let b = begins must older lone at g in
         record {
@@ -211,12 +200,12 @@ module _ {ps : List Pair} {oldest : ℕ} {survival : List ℕ} {i from p q : ℕ
           each = λ j l. let v = li .entry j l in ready (entryAt t at j) (v .member) (v .low);
         }
 
-    module _ {t' : List ℕ} (w : Worked must older lone at p oldest from t t') where
+    module _ {t' : List ℕ} (w : Worked u must older lone at p oldest from t t') where
       entry-low : (j : ℕ) → j < countAt t at → entryAt t at j < oldest
       entry-low j l = omega (arith, li .entry j l .low)
 
       -- the side that is read, and the lists, are as they were
-      pub midway-still : Midway ps oldest survival i from p q t'
+      pub midway-still : Midway u ps oldest survival i from p q t'
       midway-still = record {
         bit = y .bit;
         none = y .none;
@@ -224,8 +213,9 @@ module _ {ps : List Pair} {oldest : ℕ} {survival : List ℕ} {i from p q : ℕ
         list = workable-kept (w .kept) (y .list);
         more = y .more;
         side = y .side;
-        chance = y .chance;
-        lists = record { list = λ m o k a h. let b = begins m o k a h in listed-still _ (y .lists .list m o k a h) (λ c u v. w .behind c (omega (arith, b .is))) };
+        read = y .read;
+        rest = y .rest;
+        lists = record { list = λ m o k a h. let b = begins m o k a h in listed-still _ (y .lists .list m o k a h) (λ c l r. w .behind c (omega (arith, b .is))) };
         row = record { is = λ up m l e r. still up m l ∙ y .row .is up m l e r };
       }
         where
@@ -240,11 +230,11 @@ module _ {ps : List Pair} {oldest : ℕ} {survival : List ℕ} {i from p q : ℕ
               ))
 
       -- the patterns of the list have their values
-      pub made : Made ps oldest survival i from at t'
+      pub made : Made u ps oldest survival i from at t'
       made = record { is = λ up m l e v r. one up m e v r (either oldest m pos l) }
         where
           -- by the list it is in
-          young : (x : ℕ) → grouped ps at x ≡ true → x < reachOf oldest n (suc i) → (up : Bool) → cellAt t' up (half - from + x) ≡ patternValue ps survival (suc i) up x
+          young : (x : ℕ) → grouped ps at x ≡ true → x < reachOf oldest n (suc i) → (up : Bool) → cellAt t' up (half - from + x) ≡ patternValue u ps survival (suc i) up x
           young x e r up =
               let alive = grouped-lives ps at x e .0 in
               let lo = low x r alive in
@@ -254,7 +244,7 @@ module _ {ps : List Pair} {oldest : ℕ} {survival : List ℕ} {i from p q : ℕ
               a ∙ (rw (f .young) at (step-is x r alive x (young-is oldest x lo) (λ d. d) up))
 
           old : (x : ℕ) → grouped ps at x ≡ true → x < reachOf oldest n (suc i) → lives ps (oldest + x) ≡ true → (up : Bool)
-              → cellAt t' up (half - from + (oldest + x)) ≡ patternValue ps survival (suc i) up (oldest + x)
+              → cellAt t' up (half - from + (oldest + x)) ≡ patternValue u ps survival (suc i) up (oldest + x)
           old x e r v up =
               let alive = grouped-lives ps at x e .0 in
               let lo = low x r alive in
@@ -272,13 +262,13 @@ module _ {ps : List Pair} {oldest : ℕ} {survival : List ℕ} {i from p q : ℕ
                   go false q = refl
 
           one : (up : Bool) (m : ℕ) → grouped ps at (m % oldest) ≡ true → lives ps m ≡ true → m % oldest < reachOf oldest n (suc i)
-              → (m ≡ m % oldest) ⊎ (m ≡ oldest + m % oldest) → cellAt t' up (half - from + m) ≡ patternValue ps survival (suc i) up m
-          one up m e v r (inl s) = subst (λ z. cellAt t' up (half - from + z) ≡ patternValue ps survival (suc i) up z) (sym s) (young (m % oldest) e r up)
+              → (m ≡ m % oldest) ⊎ (m ≡ oldest + m % oldest) → cellAt t' up (half - from + m) ≡ patternValue u ps survival (suc i) up m
+          one up m e v r (inl s) = subst (λ z. cellAt t' up (half - from + z) ≡ patternValue u ps survival (suc i) up z) (sym s) (young (m % oldest) e r up)
           one up m e v r (inr s) =
-              subst (λ z. cellAt t' up (half - from + z) ≡ patternValue ps survival (suc i) up z) (sym s) (old (m % oldest) e r (ap (lives ps) (sym s) ∙ v) up)
+              subst (λ z. cellAt t' up (half - from + z) ≡ patternValue u ps survival (suc i) up z) (sym s) (old (m % oldest) e r (ap (lives ps) (sym s) ∙ v) up)
 
       -- and those of another list keep theirs
-      pub made-still : {at' : ℕ} → (at' ≡ at → ⊥) → Made ps oldest survival i from at' t → Made ps oldest survival i from at' t'
+      pub made-still : {at' : ℕ} → (at' ≡ at → ⊥) → Made u ps oldest survival i from at' t → Made u ps oldest survival i from at' t'
       made-still {at'} n' h = record { is = λ up m l e v r. w .other up (half - from + m) (omega (arith, y .most)) (λ j s. (λ q. young j s m e q, λ q. old j s m e q)) ∙ h .is up m l e v r }
         where
           clash : (x : ℕ) → grouped ps at' x ≡ true → grouped ps at x ≡ true → ⊥
@@ -297,8 +287,8 @@ module _ {ps : List Pair} {oldest : ℕ} {survival : List ℕ} {i from p q : ℕ
               clash (entryAt t at j) (rw r at e) (li .entry j s .member)
 
   -- with all lists worked, all that live have their values
-  pub raised : {t' : List ℕ} → Midway ps oldest survival i from p q t' → ((must older alone : Bool) (at : ℕ) → Group must older alone at → Made ps oldest survival i from at t')
-      → Levelled ps oldest survival (record { left = suc i; from = half - from }) t'
+  pub raised : {t' : List ℕ} → Midway u ps oldest survival i from p q t' → ((must older alone : Bool) (at : ℕ) → Group must older alone at → Made u ps oldest survival i from at t')
+      → Levelled u ps oldest survival (record { left = suc i; from = half - from }) t'
   unfolding groupOf grouped
   raised {t'} z all = record {
     bit = y .bit;
@@ -316,14 +306,14 @@ module _ {ps : List Pair} {oldest : ℕ} {survival : List ℕ} {i from p q : ℕ
     where
       go : (up : Bool) (m : ℕ) → m < 2 * oldest → lives ps (m % oldest) ≡ true → lives ps m ≡ true → m % oldest < reachOf oldest n (suc i)
           → (d : Bool) → dies ps (m % oldest) ≡ d → (o : Bool) → dies ps (oldestOf ps + m % oldest) ≡ o → (a : Bool) → lackingIn ps (oldestOf ps + m % oldest) ≡ a
-          → cellAt t' up (half - from + m) ≡ patternValue ps survival (suc i) up m
+          → cellAt t' up (half - from + m) ≡ patternValue u ps survival (suc i) up m
       go up m l e v r true d o h true k = all _ _ _ _ alone .is up m l (rw (e, d, k) refl) v r
       go up m l e v r true d o h false k = all _ _ _ _ bound .is up m l (rw (e, d, k) refl) v r
       go up m l e v r false d true h a k = all _ _ _ _ split .is up m l (rw (e, d, h) refl) v r
       go up m l e v r false d false h a k = all _ _ _ _ free .is up m l (rw (e, d, h) refl) v r
 
 -- the lists cut to what can still be reached
-module _ {ps : List Pair} {oldest : ℕ} {survival : List ℕ} {s : Level} {t : List ℕ} (y : Levelled ps oldest survival s t) (more : s .left < length survival) where
+module _ {u : ℕ} {ps : List Pair} {oldest : ℕ} {survival : List ℕ} {s : Level} {t : List ℕ} (y : Levelled u ps oldest survival s t) (more : s .left < length survival) where
   pub listables : Listables oldest t
   listables = record {
     most = y .most;
@@ -331,8 +321,8 @@ module _ {ps : List Pair} {oldest : ℕ} {survival : List ℕ} {s : Level} {t : 
     room = y .list .room;
   }
 
-  pub midway : {reach p q : ℕ} {t' : List ℕ} → reach ≡ 2 ^ (length survival - suc (s .left)) → TrimmedAll reach oldest t t' → Chance survival (s .left) p q
-      → Midway ps oldest survival (s .left) (s .from) p q t'
+  pub midway : {reach p q : ℕ} {t' : List ℕ} → reach ≡ 2 ^ (length survival - suc (s .left)) → TrimmedAll reach oldest t t' → Chance u survival (s .left) p q
+      → Midway u ps oldest survival (s .left) (s .from) p q t'
   midway {reach} {p} {q} {t'} e r chance =
       let n = length survival in
       let k : n - s .left ≡ suc (n - suc (s .left)) = omega arith in
@@ -344,7 +334,8 @@ module _ {ps : List Pair} {oldest : ℕ} {survival : List ℕ} {s : Level} {t : 
         list = workable-kept (r .kept) (y .list);
         more = more;
         side = y .side;
-        chance = chance;
+        read = chance .read;
+        rest = chance .rest;
         lists = rw e at (r .lists ps (reachOf oldest n (s .left)) (y .lists) (omega (arith, e, w)) (omega arith));
         row = record { is = λ up m l v h. cell up m l ∙ y .row .is up m l v h };
       }
@@ -354,32 +345,32 @@ module _ {ps : List Pair} {oldest : ℕ} {survival : List ℕ} {s : Level} {t : 
       cell true m l = r .places (far + (s .from + m)) (omega (arith, side-near (y .side), y .most))
 
 -- the lists worked one after the other
-module _ {ps : List Pair} {oldest : ℕ} {survival : List ℕ} {i from p q : ℕ} {t : List ℕ} (y : Midway ps oldest survival i from p q t) {t₁ : List ℕ}
-    (f : Worked false false false freeAt p oldest from t t₁) where
-  abbrev y₁ : Midway ps oldest survival i from p q t₁
+module _ {u : ℕ} {ps : List Pair} {oldest : ℕ} {survival : List ℕ} {i from p q : ℕ} {t : List ℕ} (y : Midway u ps oldest survival i from p q t) {t₁ : List ℕ}
+    (f : Worked u false false false freeAt p oldest from t t₁) where
+  abbrev y₁ : Midway u ps oldest survival i from p q t₁
   y₁ = midway-still y _ _ _ _ free f
 
-  pub handed-second : Handed false true splitAt p q oldest from t₁
+  pub handed-second : Handed u false true splitAt p q oldest from t₁
   handed-second = handed y₁ _ _ _ _ split
 
-  module _ {t₂ : List ℕ} (s : Worked false true false splitAt p oldest from t₁ t₂) where
-    abbrev y₂ : Midway ps oldest survival i from p q t₂
+  module _ {t₂ : List ℕ} (s : Worked u false true false splitAt p oldest from t₁ t₂) where
+    abbrev y₂ : Midway u ps oldest survival i from p q t₂
     y₂ = midway-still y₁ _ _ _ _ split s
 
-    pub handed-third : Handed true true boundAt p q oldest from t₂
+    pub handed-third : Handed u true true boundAt p q oldest from t₂
     handed-third = handed y₂ _ _ _ _ bound
 
-    module _ {t₃ : List ℕ} (b : Worked true true false boundAt p oldest from t₂ t₃) where
-      abbrev y₃ : Midway ps oldest survival i from p q t₃
+    module _ {t₃ : List ℕ} (b : Worked u true true false boundAt p oldest from t₂ t₃) where
+      abbrev y₃ : Midway u ps oldest survival i from p q t₃
       y₃ = midway-still y₂ _ _ _ _ bound b
 
-      pub handed-fourth : Handed true true aloneAt p q oldest from t₃
+      pub handed-fourth : Handed u true true aloneAt p q oldest from t₃
       handed-fourth = handed y₃ _ _ _ _ alone
 
-      pub risen : {t₄ : List ℕ} → Worked true true true aloneAt p oldest from t₃ t₄ → Levelled ps oldest survival (record { left = suc i; from = half - from }) t₄
+      pub risen : {t₄ : List ℕ} → Worked u true true true aloneAt p oldest from t₃ t₄ → Levelled u ps oldest survival (record { left = suc i; from = half - from }) t₄
       risen {t₄} o = raised y (midway-still y₃ _ _ _ _ alone o) all
         where
-          all : (must older lone : Bool) (at : ℕ) → Group must older lone at → Made ps oldest survival i from at t₄
+          all : (must older lone : Bool) (at : ℕ) → Group must older lone at → Made u ps oldest survival i from at t₄
           all must older lone at free =
               made-still y₃ _ _ _ _ alone o (λ e. omega arith) (made-still y₂ _ _ _ _ bound b (λ e. omega arith)
               (made-still y₁ _ _ _ _ split s (λ e. omega arith) (made y _ _ _ _ free f)))
@@ -387,3 +378,12 @@ module _ {ps : List Pair} {oldest : ℕ} {survival : List ℕ} {i from p q : ℕ
               made-still y₃ _ _ _ _ alone o (λ e. omega arith) (made-still y₂ _ _ _ _ bound b (λ e. omega arith) (made y₁ _ _ _ _ split s))
           all must older lone at bound = made-still y₃ _ _ _ _ alone o (λ e. omega arith) (made y₂ _ _ _ _ bound b)
           all must older lone at alone = made y₃ _ _ _ _ alone o
+
+-- and so whatever pairs and list they are of
+pub all-swept : {u oldest from p q : ℕ} {t t₁ t₂ t₃ t₄ : List ℕ} → Worked u false false false freeAt p oldest from t t₁
+    → Worked u false true false splitAt p oldest from t₁ t₂ → Worked u true true false boundAt p oldest from t₂ t₃
+    → Worked u true true true aloneAt p oldest from t₃ t₄ → Swept u oldest from p q t t₄
+all-swept f s b o = record {
+  level = λ ps survival i y. risen y f s b o;
+  kept = kept-trans (kept-trans (f .kept) (s .kept)) (kept-trans (b .kept) (o .kept));
+}

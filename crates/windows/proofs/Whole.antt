@@ -9,7 +9,7 @@ use native.Mathlib.Omega.{arith}
 use native.Mathlib.Nat.{add-zero, mod-eq-of-lt, sub-zero}
 use lib.ListN.{length}
 use lib.Pow.{pow-pos, pow-mono}
-use Rattle.rules.specs.State.{S, numberOf}
+use Rattle.rules.specs.State.{numberOf}
 use Rattle.rules.specs.Memory.{live, ended, machineOf, longest, row8}
 use Rattle.rules.specs.Figure.{value, figureOf}
 use Rattle.rules.specs.Pairs.{pairsOf}
@@ -24,7 +24,7 @@ use Rattle.windows.specs.Groups.{Sortable, Sorted}
 use Rattle.windows.specs.Row.{reachOf, Filling, Levelled}
 use Rattle.windows.proofs.Asking.{pairs-good, longest-short, longest-fits, windows}
 
-module _ {first second : ℕ} {more survival t : List ℕ} (q : Asked first second more survival t) {oldest : ℕ} (is : oldest ≡ 2 ^ (farthest second more - 2)) where
+module _ {u first second : ℕ} {more survival t : List ℕ} (q : Asked u first second more survival t) {oldest : ℕ} (is : oldest ≡ 2 ^ (farthest second more - 2)) where
   bit : oldest ≡ oldestOf (pairsOf first second more)
   unfolding longest
   bit = is
@@ -39,8 +39,8 @@ module _ {first second : ℕ} {more survival t : List ℕ} (q : Asked first seco
   sortable k = record { windows = windows q; none = none-lacking (length survival) _ (pairs-good q); bit = bit; most = most; room = room-kept k (q .list .room) }
 
   -- with no components left
-  module _ {t₁ t₂ : List ℕ} (w : Written (λ up m. S) (2 * oldest) 0 t t₁) (s : Sorted first second more oldest t₁ t₂) where
-    pub level-none : Levelled (pairsOf first second more) oldest survival (record { left = 0; from = 0 }) t₂
+  module _ {t₁ t₂ : List ℕ} (w : Written (λ up m. u) (2 * oldest) 0 t t₁) (s : Sorted first second more oldest t₁ t₂) where
+    pub level-none : Levelled u (pairsOf first second more) oldest survival (record { left = 0; from = 0 }) t₂
     unfolding value ended
     level-none =
         let n = length survival in
@@ -61,12 +61,12 @@ module _ {first second : ℕ} {more survival t : List ℕ} (q : Asked first seco
         cell true m l = s .places (far + (0 + m)) (omega (arith, most))
 
 -- with all of them left
-module _ {first second oldest : ℕ} {more survival t₀ t : List ℕ} {s : Level} (q : Asked first second more survival t₀)
-    (y : Levelled (pairsOf first second more) oldest survival s t) where
+module _ {u first second oldest : ℕ} {more survival t₀ t : List ℕ} {s : Level} (q : Asked u first second more survival t₀)
+    (y : Levelled u (pairsOf first second more) oldest survival s t) where
   pub figure-place : Place (s .from) t
   figure-place = record { low = omega (arith, side-near (y .side)); room = y .list .room }
 
-  pub figure-there : s .left ≡ length survival → {e : Ends} → Both (λ up. cellAt t up (s .from)) e → Both (λ up. figureOf (row8 (pairsOf first second more)) up S survival) e
+  pub figure-there : s .left ≡ length survival → {e : Ends} → Both (λ up. cellAt t up (s .from)) e → Both (λ up. figureOf (row8 (pairsOf first second more)) up u survival) e
   figure-there all b =
       let ps = pairsOf first second more in
       let n = length survival in
@@ -74,5 +74,5 @@ module _ {first second oldest : ℕ} {more survival t₀ t : List ℕ} {s : Leve
       let z : 0 % oldest ≡ 0 = mod-eq-of-lt some in
       let r : 0 < min oldest (2 ^ (n - s .left)) = omega (arith, pow-pos (n - s .left)) in
       both-as (λ up. (simp add-zero at (y .row .is up 0 (omega arith) (lives-none ps (y .none)) (rw z r)))
-      ∙ ap (λ i. value (machineOf (patterned ps)) up S (numberOf survival) i (live 0)) all
-      ∙ pattern-row8 ps n (pairs-good q) .values up S (numberOf survival)) b
+      ∙ ap (λ i. value (machineOf (patterned ps)) up u (numberOf survival) i (live 0)) all
+      ∙ pattern-row8 ps n (pairs-good q) .values up u (numberOf survival)) b

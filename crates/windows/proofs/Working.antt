@@ -6,6 +6,7 @@ use mathlib.Core.Logic.{⊎-elim}
 use mathlib.Core.List.{List}
 use Prim.Native.Nat.{ℕ, _+_, _-_, _*_, _≤_, _<_}
 use native.Mathlib.Omega.{arith}
+use native.Mathlib.Nat.{le-trans}
 use native.Mathlib.Decide.{ℕ-discrete}
 use borrow.Author.Count.{below-more}
 use Rattle.rules.specs.State.{S}
@@ -16,12 +17,12 @@ use Rattle.places.proofs.Cells.{both-at, kept-none, kept-trans, room-kept, side
 use Rattle.windows.specs.Groups.{countAt, entryAt}
 use Rattle.windows.specs.Row.{stepOf, Ready, Laid, Handed, Partly}
 
-module _ {must older : Bool} {p q oldest from x : ℕ} {t : List ℕ} (y : Ready must older p q oldest from x t) where
+module _ {u : ℕ} {must older : Bool} {p q oldest from x : ℕ} {t : List ℕ} (y : Ready u must older p q oldest from x t) where
   pub works-place : Place (from + 2 * x) t × ((up : Bool) → cellAt t up (from + 2 * x) ≤ S)
-  works-place = (record { low = omega (arith, side-near (y .side), y .most, y .young); room = y .room }, y .works)
+  works-place = (record { low = omega (arith, side-near (y .side), y .most, y .young); room = y .room }, λ up. le-trans (y .works up) (y .narrow))
 
   pub fails-place : must ≡ false → Place (from + (2 * x + 1)) t × ((up : Bool) → cellAt t up (from + (2 * x + 1)) ≤ S)
-  fails-place e = (record { low = omega (arith, side-near (y .side), y .most, y .young); room = y .room }, y .fails e)
+  fails-place e = (record { low = omega (arith, side-near (y .side), y .most, y .young); room = y .room }, λ up. le-trans (y .fails e up) (y .narrow))
 
   -- where the older one may fail, the other may too
   pub may : older ≡ false → must ≡ false
@@ -35,16 +36,16 @@ module _ {must older : Bool} {p q oldest from x : ℕ} {t : List ℕ} (y : Ready
   young-place = record { low = omega (arith, y .most, y .young); room = y .room }
 
   pub older-place : {e : Ends} {t' : List ℕ} → Put (half - from + x) e t t' → Place (half - from + (oldest + x)) t'
-  older-place u = record { low = omega (arith, y .most, y .young); room = room-kept (u .kept) (y .room) }
+  older-place w = record { low = omega (arith, y .most, y .young); room = room-kept (w .kept) (y .room) }
 
   -- what follows where the component works, and where it fails
   module _ {a : Ends} (works : Both (λ up. cellAt t up (from + 2 * x)) a) where
     module _ (b : Bool) (ok : b ≡ false → must ≡ false) {e : Ends} (fails : Both (λ up. cond b 0 (cellAt t up (from + (2 * x + 1)))) e) where
-      within : (up : Bool) (c : Bool) → b ≡ c → cond c 0 (cellAt t up (from + (2 * x + 1))) ≤ S
+      within : (up : Bool) (c : Bool) → b ≡ c → cond c 0 (cellAt t up (from + (2 * x + 1))) ≤ u
       within up true f = omega arith
       within up false f = y .fails (ok f) up
 
-      pub ready-steady : Steady p q a e
+      pub ready-steady : Steady u p q a e
       ready-steady = record {
         survival = y .survival;
         rest = y .rest;
@@ -52,31 +53,31 @@ module _ {must older : Bool} {p q oldest from x : ℕ} {t : List ℕ} (y : Ready
         right = record { low = rw (fails .low) (within false b refl); high = rw (fails .high) (within true b refl) };
       }
 
-      pub stepped : {r : Ends} → Both (λ up. rounded up S (mixed S p (one up a) (one up e))) r → (up : Bool) → one up r ≡ stepOf b p from t up x
+      pub stepped : {r : Ends} → Both (λ up. rounded up u (mixed u p (one up a) (one up e))) r → (up : Bool) → one up r ≡ stepOf u b p from t up x
       unfolding stepOf
       stepped s up = both-at s up ∙ rw (both-at works up, both-at fails up)
 
-  pub laid-alone : {alone : Bool} {e : Ends} {t' : List ℕ} → alone ≡ true → ((up : Bool) → one up e ≡ stepOf must p from t up x) → Put (half - from + x) e t t'
-      → Laid must older alone p oldest from x t t'
-  laid-alone a s u = record {
-    young = λ up. u .here up ∙ s up;
+  pub laid-alone : {alone : Bool} {e : Ends} {t' : List ℕ} → alone ≡ true → ((up : Bool) → one up e ≡ stepOf u must p from t up x) → Put (half - from + x) e t t'
+      → Laid u must older alone p oldest from x t t'
+  laid-alone a s w = record {
+    young = λ up. w .here up ∙ s up;
     old = λ b. absurd (true≢false (sym a ∙ b));
-    other = λ up k l n o. u .other up k l n;
-    behind = u .behind;
-    kept = u .kept;
+    other = λ up k l n o. w .other up k l n;
+    behind = w .behind;
+    kept = w .kept;
   }
 
-  pub laid : {alone : Bool} {e e' : Ends} {t' t'' : List ℕ} → ((up : Bool) → one up e ≡ stepOf must p from t up x) → ((up : Bool) → one up e' ≡ stepOf older p from t up x)
-      → Put (half - from + x) e t t' → Put (half - from + (oldest + x)) e' t' t'' → Laid must older alone p oldest from x t t''
-  laid s s' u v = record {
-    young = λ up. v .other up (half - from + x) (young-place .low) (λ k. omega (arith, y .young)) ∙ u .here up ∙ s up;
+  pub laid : {alone : Bool} {e e' : Ends} {t' t'' : List ℕ} → ((up : Bool) → one up e ≡ stepOf u must p from t up x) → ((up : Bool) → one up e' ≡ stepOf u older p from t up x)
+      → Put (half - from + x) e t t' → Put (half - from + (oldest + x)) e' t' t'' → Laid u must older alone p oldest from x t t''
+  laid s s' w v = record {
+    young = λ up. v .other up (half - from + x) (young-place .low) (λ k. omega (arith, y .young)) ∙ w .here up ∙ s up;
     old = λ a up. v .here up ∙ s' up;
-    other = λ up k l n o. v .other up k l o ∙ u .other up k l n;
-    behind = λ c l. v .behind c l ∙ u .behind c l;
-    kept = kept-trans (u .kept) (v .kept);
+    other = λ up k l n o. v .other up k l o ∙ w .other up k l n;
+    behind = λ c l. v .behind c l ∙ w .behind c l;
+    kept = kept-trans (w .kept) (v .kept);
   }
 
-pub partly-none : {must older alone : Bool} {at p oldest from : ℕ} {t : List ℕ} → Partly must older alone at p oldest from 0 t t
+pub partly-none : {u : ℕ} {must older alone : Bool} {at p oldest from : ℕ} {t : List ℕ} → Partly u must older alone at p oldest from 0 t t
 partly-none = record {
   young = λ up j l. absurd (omega arith);
   old = λ a up j l. absurd (omega arith);
@@ -85,8 +86,8 @@ partly-none = record {
   kept = kept-none;
 }
 
-module _ {must older alone : Bool} {at p q oldest from j : ℕ} {t₀ t : List ℕ} (h : Handed must older at p q oldest from t₀) (l : j < countAt t₀ at)
-    (w : Partly must older alone at p oldest from j t₀ t) where
+module _ {u : ℕ} {must older alone : Bool} {at p q oldest from j : ℕ} {t₀ t : List ℕ} (h : Handed u must older at p q oldest from t₀) (l : j < countAt t₀ at)
+    (w : Partly u must older alone at p oldest from j t₀ t) where
   abbrev x : ℕ
   x = entryAt t₀ at j
 
@@ -103,12 +104,13 @@ module _ {must older alone : Bool} {at p q oldest from j : ℕ} {t₀ t : List �
   pub entry-same : entryAt t at j ≡ x
   entry-same = w .behind (at + 1 + j) (omega (arith, h .behind))
 
-  pub ready-still : Ready must older p q oldest from x t
+  pub ready-still : Ready u must older p q oldest from x t
   ready-still =
       let r = h .each j l in
       let small = r .most in
       let young = r .young in
       record {
+        narrow = r .narrow;
         survival = r .survival;
         rest = r .rest;
         side = r .side;
@@ -120,7 +122,7 @@ module _ {must older alone : Bool} {at p q oldest from j : ℕ} {t₀ t : List �
         fails = λ e up. rw (from-same up (2 * x + 1) (omega arith)) (r .fails e up);
       }
 
-  step-same : (b up : Bool) (i : ℕ) → i < countAt t₀ at → stepOf b p from t up (entryAt t₀ at i) ≡ stepOf b p from t₀ up (entryAt t₀ at i)
+  step-same : (b up : Bool) (i : ℕ) → i < countAt t₀ at → stepOf u b p from t up (entryAt t₀ at i) ≡ stepOf u b p from t₀ up (entryAt t₀ at i)
   unfolding stepOf
   step-same b up i m =
       let r = h .each i m in
@@ -128,7 +130,7 @@ module _ {must older alone : Bool} {at p q oldest from j : ℕ} {t₀ t : List �
       let young = r .young in
       rw (from-same up (2 * entryAt t₀ at i) (omega arith), from-same up (2 * entryAt t₀ at i + 1) (omega arith))
 
-  pub partly-more : {t' : List ℕ} → Laid must older alone p oldest from x t t' → Partly must older alone at p oldest from (j + 1) t₀ t'
+  pub partly-more : {t' : List ℕ} → Laid u must older alone p oldest from x t t' → Partly u must older alone at p oldest from (j + 1) t₀ t'
   partly-more {t'} d = record {
     young = λ up. below-more _ j (λ i m. young-still up i m (ℕ-discrete (entryAt t₀ at i) x)) (d .young up ∙ step-same must up j l);
     old = λ a up. below-more _ j (λ i m. old-still a up i m (ℕ-discrete (entryAt t₀ at i) x)) (d .old a up ∙ step-same older up j l);
@@ -137,7 +139,7 @@ module _ {must older alone : Bool} {at p q oldest from j : ℕ} {t₀ t : List �
     kept = kept-trans (w .kept) (d .kept);
   }
     where
-      young-still : (up : Bool) (i : ℕ) → i < j → Dec (entryAt t₀ at i ≡ x) → cellAt t' up (half - from + entryAt t₀ at i) ≡ stepOf must p from t₀ up (entryAt t₀ at i)
+      young-still : (up : Bool) (i : ℕ) → i < j → Dec (entryAt t₀ at i ≡ x) → cellAt t' up (half - from + entryAt t₀ at i) ≡ stepOf u must p from t₀ up (entryAt t₀ at i)
       young-still up i m (yes e) = rw e (d .young up ∙ step-same must up j l)
       young-still up i m (no e) =
           let r = h .each i (omega arith) in
@@ -145,7 +147,7 @@ module _ {must older alone : Bool} {at p q oldest from j : ℕ} {t₀ t : List �
           d .other up _ (omega (arith, r .most, r .young)) (λ k. e (omega arith)) (λ k. omega (arith, r .young)) ∙ w .young up i m
 
       old-still : alone ≡ false → (up : Bool) (i : ℕ) → i < j → Dec (entryAt t₀ at i ≡ x)
-          → cellAt t' up (half - from + (oldest + entryAt t₀ at i)) ≡ stepOf older p from t₀ up (entryAt t₀ at i)
+          → cellAt t' up (half - from + (oldest + entryAt t₀ at i)) ≡ stepOf u older p from t₀ up (entryAt t₀ at i)
       old-still a up i m (yes e) = rw e (d .old a up ∙ step-same older up j l)
       old-still a up i m (no e) =
           let r = h .each i (omega arith) in

@@ -11,9 +11,9 @@ use Rattle.memory.specs.declared.pattern.Pattern.{Pattern}
 use Rattle.places.specs.Cells.{Workable}
 
 -- pairs in range, one to four of them, over a list that can be worked
-pub record Asked (first second : ℕ) (more survival t : List ℕ) : Type 0 where
+pub record Asked (u first second : ℕ) (more survival t : List ℕ) : Type 0 where
   pub range : rangePairs first second (length survival) more ≡ true
-  pub list : Workable survival t
+  pub list : Workable u survival t
 
 -- the longest window, of the first pair's and the further ones'
 abbrev pub farthest : (second : ℕ) (more : List ℕ) → ℕ

@@ -20,74 +20,101 @@ pub record Filling (count : ℕ) (t : List ℕ) : Type 0 where
   pub room : cells ≤ length t
 
 -- the rounded step of x, which must work or not, out of the side at `from`
-unfoldable pub stepOf : (must : Bool) (p from : ℕ) (t : List ℕ) (up : Bool) (x : ℕ) → ℕ
-stepOf must p from t up x = rounded up S (mixed S p (cellAt t up (from + 2 * x)) (cond must 0 (cellAt t up (from + (2 * x + 1)))))
+unfoldable pub stepOf : (u : ℕ) (must : Bool) (p from : ℕ) (t : List ℕ) (up : Bool) (x : ℕ) → ℕ
+stepOf u must p from t up x = rounded up u (mixed u p (cellAt t up (from + 2 * x)) (cond must 0 (cellAt t up (from + (2 * x + 1)))))
 
 -- a pattern without the oldest state to be worked, and its older one unless it is alone
-pub record Ready (must older : Bool) (p q oldest from x : ℕ) (t : List ℕ) : Type 0 where
-  pub survival : p ≤ S
-  pub rest : q ≡ failure S p
+pub record Ready (u : ℕ) (must older : Bool) (p q oldest from x : ℕ) (t : List ℕ) : Type 0 where
+  pub narrow : u ≤ S
+  pub survival : p ≤ u
+  pub rest : q ≡ failure u p
   pub side : Side from
   pub most : oldest ≤ 256
   pub young : x < oldest
   pub order : must ≡ true → older ≡ true
   pub room : cells ≤ length t
-  pub works : (up : Bool) → cellAt t up (from + 2 * x) ≤ S
-  pub fails : must ≡ false → (up : Bool) → cellAt t up (from + (2 * x + 1)) ≤ S
+  pub works : (up : Bool) → cellAt t up (from + 2 * x) ≤ u
+  pub fails : must ≡ false → (up : Bool) → cellAt t up (from + (2 * x + 1)) ≤ u
 
-pub record Laid (must older alone : Bool) (p oldest from x : ℕ) (t₀ t : List ℕ) : Type 0 where
-  pub young : (up : Bool) → cellAt t up (half - from + x) ≡ stepOf must p from t₀ up x
-  pub old : alone ≡ false → (up : Bool) → cellAt t up (half - from + (oldest + x)) ≡ stepOf older p from t₀ up x
+pub record Laid (u : ℕ) (must older alone : Bool) (p oldest from x : ℕ) (t₀ t : List ℕ) : Type 0 where
+  pub young : (up : Bool) → cellAt t up (half - from + x) ≡ stepOf u must p from t₀ up x
+  pub old : alone ≡ false → (up : Bool) → cellAt t up (half - from + (oldest + x)) ≡ stepOf u older p from t₀ up x
   pub other : (up : Bool) (k : ℕ) → k < far → (k ≡ half - from + x → ⊥) → (k ≡ half - from + (oldest + x) → ⊥) → cellAt t up k ≡ cellAt t₀ up k
   pub behind : (c : ℕ) → 2 * far ≤ c → getD t c 0 ≡ getD t₀ c 0
   pub kept : Kept t₀ t
 
 -- a list of such patterns
-pub record Handed (must older : Bool) (at p q oldest from : ℕ) (t : List ℕ) : Type 0 where
+pub record Handed (u : ℕ) (must older : Bool) (at p q oldest from : ℕ) (t : List ℕ) : Type 0 where
   pub behind : 2 * far ≤ at
   pub low : at + countAt t at < cells
   pub room : cells ≤ length t
-  pub each : (j : ℕ) → j < countAt t at → Ready must older p q oldest from (entryAt t at j) t
+  pub each : (j : ℕ) → j < countAt t at → Ready u must older p q oldest from (entryAt t at j) t
 
 -- the first `count` of them worked
-pub record Partly (must older alone : Bool) (at p oldest from count : ℕ) (t₀ t : List ℕ) : Type 0 where
-  pub young : (up : Bool) (j : ℕ) → j < count → cellAt t up (half - from + entryAt t₀ at j) ≡ stepOf must p from t₀ up (entryAt t₀ at j)
-  pub old : alone ≡ false → (up : Bool) (j : ℕ) → j < count → cellAt t up (half - from + (oldest + entryAt t₀ at j)) ≡ stepOf older p from t₀ up (entryAt t₀ at j)
+pub record Partly (u : ℕ) (must older alone : Bool) (at p oldest from count : ℕ) (t₀ t : List ℕ) : Type 0 where
+  pub young : (up : Bool) (j : ℕ) → j < count → cellAt t up (half - from + entryAt t₀ at j) ≡ stepOf u must p from t₀ up (entryAt t₀ at j)
+  pub old : alone ≡ false → (up : Bool) (j : ℕ) → j < count → cellAt t up (half - from + (oldest + entryAt t₀ at j)) ≡ stepOf u older p from t₀ up (entryAt t₀ at j)
   pub other : (up : Bool) (k : ℕ) → k < far → ((j : ℕ) → j < count → (k ≡ half - from + entryAt t₀ at j → ⊥) × (k ≡ half - from + (oldest + entryAt t₀ at j) → ⊥))
       → cellAt t up k ≡ cellAt t₀ up k
   pub behind : (c : ℕ) → 2 * far ≤ c → getD t c 0 ≡ getD t₀ c 0
   pub kept : Kept t₀ t
 
-abbrev pub Worked : (must older alone : Bool) (at p oldest from : ℕ) (t₀ t : List ℕ) → Type 0
-Worked must older alone at p oldest from t₀ t = Partly must older alone at p oldest from (countAt t₀ at) t₀ t
+abbrev pub Worked : (u : ℕ) (must older alone : Bool) (at p oldest from : ℕ) (t₀ t : List ℕ) → Type 0
+Worked u must older alone at p oldest from t₀ t = Partly u must older alone at p oldest from (countAt t₀ at) t₀ t
 
 -- the value of a pattern with i components left
-abbrev pub patternValue : List Pair → (survival : List ℕ) (i : ℕ) (up : Bool) (m : ℕ) → ℕ
-patternValue ps survival i up m = valueOf (machineOf (patterned ps)) survival (live m) up i
+abbrev pub patternValue : (u : ℕ) → List Pair → (survival : List ℕ) (i : ℕ) (up : Bool) (m : ℕ) → ℕ
+patternValue u ps survival i up m = valueOf u (machineOf (patterned ps)) survival (live m) up i
 
 -- patterns below it can have been reached with `left` of n components left
 abbrev pub reachOf : (oldest n left : ℕ) → ℕ
 reachOf oldest n left = min oldest (2 ^ (n - left))
 
 -- the side at `from` holds the values of those that live
-pub record Held (ps : List Pair) (oldest : ℕ) (survival : List ℕ) (i reach from : ℕ) (t : List ℕ) : Type 0 where
-  pub is : (up : Bool) (m : ℕ) → m < 2 * oldest → lives ps m ≡ true → m % oldest < reach → cellAt t up (from + m) ≡ patternValue ps survival i up m
+pub record Held (u : ℕ) (ps : List Pair) (oldest : ℕ) (survival : List ℕ) (i reach from : ℕ) (t : List ℕ) : Type 0 where
+  pub is : (up : Bool) (m : ℕ) → m < 2 * oldest → lives ps m ≡ true → m % oldest < reach → cellAt t up (from + m) ≡ patternValue u ps survival i up m
 
-pub record Levelled (ps : List Pair) (oldest : ℕ) (survival : List ℕ) (s : Level) (t : List ℕ) : Type 0 where
+pub record Levelled (u : ℕ) (ps : List Pair) (oldest : ℕ) (survival : List ℕ) (s : Level) (t : List ℕ) : Type 0 where
   pub bit : oldest ≡ oldestOf ps
   pub none : lackingIn ps 0 ≡ false
   pub most : oldest ≤ 256
-  pub list : Workable survival t
+  pub list : Workable u survival t
   pub side : Side (s .from)
   pub lists : Lists ps (reachOf oldest (length survival) (s .left)) t
-  pub row : Held ps oldest survival (s .left) (reachOf oldest (length survival) (s .left)) (s .from) t
+  pub row : Held u ps oldest survival (s .left) (reachOf oldest (length survival) (s .left)) (s .from) t
+
+-- what the component after i others is worked with, between one list and the next
+pub record Midway (u : ℕ) (ps : List Pair) (oldest : ℕ) (survival : List ℕ) (i from p q : ℕ) (t : List ℕ) : Type 0 where
+  pub bit : oldest ≡ oldestOf ps
+  pub none : lackingIn ps 0 ≡ false
+  pub most : oldest ≤ 256
+  pub list : Workable u survival t
+  pub more : i < length survival
+  pub side : Side from
+  pub read : p ≡ getD survival i 0
+  pub rest : q ≡ failure u p
+  pub lists : Lists ps (reachOf oldest (length survival) (suc i)) t
+  pub row : Held u ps oldest survival i (reachOf oldest (length survival) i) from t
+
+-- some pairs and a list have it
+pub record Between (u oldest from p q : ℕ) (t : List ℕ) : Type 0 where
+  pub ps : List Pair
+  pub survival : List ℕ
+  pub i : ℕ
+  pub midway : Midway u ps oldest survival i from p q t
+
+-- all lists worked, whatever pairs and list they are of
+pub record Swept (u oldest from p q : ℕ) (t₀ t : List ℕ) : Type 0 where
+  pub level : (ps : List Pair) (survival : List ℕ) (i : ℕ) → Midway u ps oldest survival i from p q t₀
+      → Levelled u ps oldest survival (record { left = suc i; from = half - from }) t
+  pub kept : Kept t₀ t
 
 -- some pairs have such a level, and there is a component left
-pub record Standing (oldest : ℕ) (survival : List ℕ) (s : Level) (t : List ℕ) : Type 0 where
+pub record Standing (u oldest : ℕ) (survival : List ℕ) (s : Level) (t : List ℕ) : Type 0 where
   pub ps : List Pair
-  pub level : Levelled ps oldest survival s t
+  pub level : Levelled u ps oldest survival s t
   pub more : s .left < length survival
 
-pub record Raised (ps : List Pair) (oldest : ℕ) (survival : List ℕ) (s : Level) (t : List ℕ) (r : Level) : Type 0 where
-  pub level : Levelled ps oldest survival r t
+pub record Raised (u : ℕ) (ps : List Pair) (oldest : ℕ) (survival : List ℕ) (s : Level) (t : List ℕ) (r : Level) : Type 0 where
+  pub level : Levelled u ps oldest survival r t
   pub is : r .left ≡ suc (s .left)

@@ -7,10 +7,10 @@ mod groups; // groups.rt: the patterns that live, by which of the two must work
 mod pairs; // pairs.rt: what the pairs ask of a pattern
 mod row; // row.rt: one component more
 
-ghost use Rattle.rules.specs.State.{S};
 ghost use Rattle.rules.specs.Memory.{row8};
 ghost use Rattle.rules.specs.Pairs.{pairsOf};
 ghost use Rattle.rules.specs.Figure.{figureOf};
+ghost use Rattle.units.specs.Step.{whole};
 ghost use Rattle.places.specs.Cells.{Both, Kept};
 ghost use Rattle.windows.specs.Asked.{Asked};
 use places::Ends;
@@ -22,18 +22,25 @@ pub struct Level {
 }
 
 // Low and high of a list.
-pub fn rate(first: u64, second: u64, more: &[u64], survival: &[u32], table: &mut [u64]) -> Ends
-    requires { ⌜ Asked first second (now more) (now survival) (now table) ⌝ }
-    ensures figure { λ e. ⌜ Both (λ up. figureOf (row8 (pairsOf first second (now (more .entry)))) up S (now (survival .entry))) e ⌝ }
+pub fn rate(
+    decimal: bool,
+    first: u64,
+    second: u64,
+    more: &[u64],
+    survival: &[u32],
+    table: &mut [u64],
+) -> Ends
+    requires { ⌜ Asked (whole decimal) first second (now more) (now survival) (now table) ⌝ }
+    ensures figure { λ e. ⌜ Both (λ up. figureOf (row8 (pairsOf first second (now (more .entry)))) up (whole decimal) (now (survival .entry))) e ⌝ }
     ensures kept { λ e. ⌜ Kept (now (table .entry)) (now (table .exit)) ⌝ }
 {
     let n = survival.len();
     let oldest = pairs::oldest(second, more);
-    row::start(2 * oldest, table);
+    row::start(decimal, 2 * oldest, table);
     groups::sort(first, second, more, oldest, table);
     let mut s = Level { left: 0, from: 0 };
     while s.left < n {
-        s = row::turn(oldest, survival, s, table);
+        s = row::turn(decimal, oldest, survival, s, table);
     }
     places::read(table, s.from)
 }

@@ -5,10 +5,15 @@ ghost use mathlib.Core.List.{List};
 ghost use Prim.Native.Nat.{_≤_};
 ghost use Rattle.rules.specs.State.{S};
 ghost use Rattle.rules.specs.declared.Pair.{Pair};
+ghost use Rattle.units.specs.Step.{whole};
 ghost use Rattle.places.specs.Cells.{Both, Kept, Place, Written, cellAt};
-ghost use Rattle.windows.specs.Row.{Filling, Handed, Laid, Levelled, Raised, Ready, Standing, Worked};
+ghost use Rattle.windows.specs.Row.{Between, Filling, Handed, Laid, Levelled, Raised, Ready, Standing, Swept, Worked};
 use crate::Level;
 use crate::groups;
+use crate::groups::ALONE;
+use crate::groups::BOUND;
+use crate::groups::FREE;
+use crate::groups::SPLIT;
 use memory::pattern::Pattern;
 use places::Ends;
 use places::HALF;
@@ -16,30 +21,31 @@ use units::Failure;
 use units::Survival;
 
 // With no components left every pattern works.
-pub fn start(count: usize, table: &mut [u64])
+pub fn start(decimal: bool, count: usize, table: &mut [u64])
     requires { ⌜ Filling count (now table) ⌝ }
-    ensures { λ _. ⌜ Written (λ up m. S) count 0 (now (table .entry)) (now (table .exit)) ⌝ }
+    ensures { λ _. ⌜ Written (λ up m. whole decimal) count 0 (now (table .entry)) (now (table .exit)) ⌝ }
 {
     let mut m: usize = 0;
     while m < count {
-        places::write(table, m, places::end_value(true));
+        places::write(table, m, places::end_value(decimal, true));
         m += 1;
     }
 }
 
 // The value of what follows where a component fails; a pattern that must work is dead then.
-fn failing(must: bool, table: &[u64], at: usize) -> Ends
+fn failing(decimal: bool, must: bool, table: &[u64], at: usize) -> Ends
     requires { ⌜ (must ≡ false → Place at (now table) × ((up : Bool) → cellAt (now table) up at ≤ S)) ⌝ }
     ensures { λ e. ⌜ Both (λ up. cond must 0 (cellAt (now (table .entry)) up at)) e ⌝ }
 {
     if must {
-        return places::end_value(false);
+        return places::end_value(decimal, false);
     }
     places::read_small(table, at)
 }
 
 // A pattern and, unless it is alone, its older one, which goes on alike.
 fn both(
+    decimal: bool,
     must: bool,
     older: bool,
     alone: bool,
@@ -50,28 +56,29 @@ fn both(
     x: usize,
     table: &mut [u64],
 )
-    requires { ⌜ Ready must older (p .0) (q .0) oldest from x (now table) ⌝ }
-    ensures { λ _. ⌜ Laid must older alone (p .0) oldest from x (now (table .entry)) (now (table .exit)) ⌝ }
+    requires { ⌜ Ready (whole decimal) must older (p .0) (q .0) oldest from x (now table) ⌝ }
+    ensures { λ _. ⌜ Laid (whole decimal) must older alone (p .0) oldest from x (now (table .entry)) (now (table .exit)) ⌝ }
 {
     let young = Pattern { bits: x };
     let to = HALF - from;
     let works = places::read_small(table, from + young.worked().bits);
     let after = from + young.failed().bits;
-    let fails = failing(must, table, after);
-    let fails_older = failing(older, table, after);
-    places::write(table, to + x, places::step(p, q, works, fails));
+    let fails = failing(decimal, must, table, after);
+    let fails_older = failing(decimal, older, table, after);
+    places::write(table, to + x, places::step(decimal, p, q, works, fails));
     if alone {
         return;
     }
     places::write(
         table,
         to + young.older(oldest).bits,
-        places::step(p, q, works, fails_older),
+        places::step(decimal, p, q, works, fails_older),
     );
 }
 
 // The patterns of a list.
 fn group(
+    decimal: bool,
     must: bool,
     older: bool,
     alone: bool,
@@ -82,33 +89,92 @@ fn group(
     from: usize,
     table: &mut [u64],
 )
-    requires { ⌜ Handed must older at (p .0) (q .0) oldest from (now table) ⌝ }
-    ensures { λ _. ⌜ Worked must older alone at (p .0) oldest from (now (table .entry)) (now (table .exit)) ⌝ }
+    requires { ⌜ Handed (whole decimal) must older at (p .0) (q .0) oldest from (now table) ⌝ }
+    ensures { λ _. ⌜ Worked (whole decimal) must older alone at (p .0) oldest from (now (table .entry)) (now (table .exit)) ⌝ }
 {
     let count = table[at] as usize;
     let mut j: usize = 0;
     while j < count {
         let x = table[at + 1 + j] as usize;
-        both(must, older, alone, p, q, oldest, from, x, table);
+        both(decimal, must, older, alone, p, q, oldest, from, x, table);
         j += 1;
     }
 }
 
+// The four lists. Both arms say the same: in each the compiler knows the unit, so that no loop asks for it.
+fn sweep(decimal: bool, oldest: usize, p: Survival, q: Failure, from: usize, table: &mut [u64])
+    requires { ⌜ Between (whole decimal) oldest from (p .0) (q .0) (now table) ⌝ }
+    ensures { λ _. ⌜ Swept (whole decimal) oldest from (p .0) (q .0) (now (table .entry)) (now (table .exit)) ⌝ }
+{
+    if !decimal {
+        group(
+            decimal,
+            false,
+            false,
+            false,
+            FREE,
+            p,
+            q,
+            oldest,
+            from,
+            table,
+        );
+        group(
+            decimal,
+            false,
+            true,
+            false,
+            SPLIT,
+            p,
+            q,
+            oldest,
+            from,
+            table,
+        );
+        group(decimal, true, true, false, BOUND, p, q, oldest, from, table);
+        group(decimal, true, true, true, ALONE, p, q, oldest, from, table);
+        return;
+    }
+    group(
+        decimal,
+        false,
+        false,
+        false,
+        FREE,
+        p,
+        q,
+        oldest,
+        from,
+        table,
+    );
+    group(
+        decimal,
+        false,
+        true,
+        false,
+        SPLIT,
+        p,
+        q,
+        oldest,
+        from,
+        table,
+    );
+    group(decimal, true, true, false, BOUND, p, q, oldest, from, table);
+    group(decimal, true, true, true, ALONE, p, q, oldest, from, table);
+}
+
 // The next component, with the patterns that can have been reached.
-pub fn turn(oldest: usize, survival: &[u32], s: Level, table: &mut [u64]) -> Level
-    requires { ⌜ Standing oldest (now survival) s (now table) ⌝ }
-    ensures raised { λ r. ⌜ ((ps : List Pair) → Levelled ps oldest (now (survival .entry)) s (now (table .entry)) → Raised ps oldest (now (survival .entry)) s (now (table .exit)) r) ⌝ }
+pub fn turn(decimal: bool, oldest: usize, survival: &[u32], s: Level, table: &mut [u64]) -> Level
+    requires { ⌜ Standing (whole decimal) oldest (now survival) s (now table) ⌝ }
+    ensures raised { λ r. ⌜ ((ps : List Pair) → Levelled (whole decimal) ps oldest (now (survival .entry)) s (now (table .entry)) → Raised (whole decimal) ps oldest (now (survival .entry)) s (now (table .exit)) r) ⌝ }
     ensures kept { λ r. ⌜ Kept (now (table .entry)) (now (table .exit)) ⌝ }
 {
     let left = s.left + 1;
     let from = s.from;
     groups::trim_all(1 << (survival.len() - left), oldest, table);
     let p = places::chance(survival, s.left);
-    let q = p.failure();
-    group(false, false, false, groups::FREE, p, q, oldest, from, table);
-    group(false, true, false, groups::SPLIT, p, q, oldest, from, table);
-    group(true, true, false, groups::BOUND, p, q, oldest, from, table);
-    group(true, true, true, groups::ALONE, p, q, oldest, from, table);
+    let q = p.failure(decimal);
+    sweep(decimal, oldest, p, q, from, table);
     Level {
         left,
         from: HALF - from,

@@ -5,15 +5,16 @@ use Prim.Native.Nat.{_-_}
 use native.Mathlib.Omega.{arith}
 use lib.ListN.{length}
 use Rattle.places.proofs.Cells.{kept-trans}
-use Rattle.gaps.proofs.Whole.{start-begun, closed-is, Closing, closing-first, closing-last, closing-bringable, closing-passable, closing-steady, closing-more}
+use Rattle.units.specs.Step.{whole}
+use Rattle.gaps.proofs.Whole.{start-begun, closed-is, Closing, closing-first, closing-last, closing-bringable, closing-closable, closing-more}
 use Rattle.gaps.proofs.ring.Statement.{statement}
 use Rattle.gaps.proofs.ring.Tie as tie
 
 abbrev Inv-loop : tie.InvT-loop
-Inv-loop r survival table₀ n known₀ ends₀ i₀ table known ends i = (n ≡ length survival) × Closing r survival table₀ i known ends table
+Inv-loop decimal r survival table₀ n known₀ ends₀ i₀ table known ends i = (n ≡ length survival) × Closing (whole decimal) r survival table₀ i known ends table
 
 abbrev μ-loop : tie.MeasureT-loop
-μ-loop r survival table₀ n known₀ ends₀ i₀ table known ends i = n - i
+μ-loop decimal r survival table₀ n known₀ ends₀ i₀ table known ends i = n - i
 
 settle-requires : tie.Need-settle-requires Inv-loop μ-loop
 settle-requires c κs = search needs
@@ -66,59 +67,25 @@ bring-requires c κs =
     let after2 = c .before .before .after2 in
     closing-bringable (loop .inv .1) (rw (loop .inv .0) at (test .taken)) (closed-is (args .r) (args .survival .now) (loop .i) (rw (loop .inv .0) at (after2 .ensures)) (c .before .failed .ensures))
 
-past-requires : tie.Need-past-requires Inv-loop μ-loop
-past-requires c κs =
-    let args = c .before .before .before .before .before .before .before .before .before .before .before .before .before .before .before .before .before .before .before .before .before .before .before .args in
+close-requires : tie.Need-close-requires Inv-loop μ-loop
+close-requires c κs =
     let loop = c .before .before .before .before .before .before .before .before .loop in
-    let test = c .before .before .before .before .before .before .before .loop-test in
-    let after2 = c .before .before .before .before .before .before .after2 in
-    let failed = c .before .before .before .before .before .failed in
-    let bring = c .before .before .before .bring in
-    closing-passable (loop .inv .1) (rw (loop .inv .0) at (test .taken)) (closed-is (args .r) (args .survival .now) (loop .i) (rw (loop .inv .0) at (after2 .ensures)) (failed .ensures)) (bring .ensures)
-
-chance-requires : tie.Need-chance-requires Inv-loop μ-loop
-chance-requires c κs =
-    let loop = c .before .before .before .before .before .before .before .before .before .loop in
-    let test = c .before .before .before .before .before .before .before .before .loop-test in
-    (rw (loop .inv .0) at (test .taken))
-
-failure-requires : tie.Need-failure-requires Inv-loop μ-loop
-failure-requires c κs =
-    let pre = c .before .before .before .before .before .before .before .before .before .before .before .before .before .before .before .before .before .before .before .before .before .before .before .before .before .pre in
-    rw (c .chance .ensures) (pre .list .units _)
-
-step-requires : tie.Need-step-requires Inv-loop μ-loop
-step-requires c κs =
-    let args = c .before .before .before .before .before .before .before .before .before .before .before .before .before .before .before .before .before .before .before .before .before .before .before .before .before .before .args in
-    let loop = c .before .before .before .before .before .before .before .before .before .before .before .loop in
-    let test = c .before .before .before .before .before .before .before .before .before .before .loop-test in
-    let after2 = c .before .before .before .before .before .before .before .before .before .after2 in
-    let failed = c .before .before .before .before .before .before .before .before .failed in
-    let bring = c .before .before .before .before .before .before .bring in
-    let past = c .before .before .past in
-    closing-steady (loop .inv .1) (rw (loop .inv .0) at (test .taken)) (closed-is (args .r) (args .survival .now) (loop .i) (rw (loop .inv .0) at (after2 .ensures)) (failed .ensures)) (bring .ensures) _ _ (record { read = c .before .chance .ensures; rest = c .failure .ensures }) (past .ensures)
+    closing-closable (loop .inv .1) (rw (loop .inv .0) at (c .before .before .before .before .before .before .before .loop-test .taken))
+    (closed-is (c .before .before .before .before .before .before .before .before .before .before .before .before .before .before .before .before .before .before .before .before .before .before .before .args .r) (c .before .before .before .before .before .before .before .before .before .before .before .before .before .before .before .before .before .before .before .before .before .before .before .args .survival .now) (loop .i) (rw (loop .inv .0) at (c .before .before .before .before .before .before .after2 .ensures)) (c .before .before .before .before .before .failed .ensures)) (c .before .before .before .bring .ensures)
 
 add-i : tie.Need-add-i Inv-loop μ-loop
-add-i c =
-    let pre = c .before .before .before .before .before .before .before .before .before .before .before .before .before .before .before .before .before .before .before .before .before .before .before .before .before .before .before .pre in
-    let loop = c .before .before .before .before .before .before .before .before .before .before .before .before .loop in
-    let test = c .before .before .before .before .before .before .before .before .before .before .before .loop-test in
-    omega (arith, test .taken, loop .inv .0, pre .list .size)
+add-i c = omega (arith, c .before .before .before .before .before .before .before .before .loop-test .taken, c .before .before .before .before .before .before .before .before .before .loop .inv .0, c .before .before .before .before .before .before .before .before .before .before .before .before .before .before .before .before .before .before .before .before .before .before .before .before .pre .list .size)
 
 loop-less : tie.Need-loop-less Inv-loop μ-loop
 loop-less c = search needs
 
 loop-again : tie.Need-loop-again Inv-loop μ-loop
 loop-again c =
-    let args = c .before .before .before .before .before .before .before .before .before .before .before .before .before .before .before .before .before .before .before .before .before .before .before .before .before .before .before .args in
-    let loop = c .before .before .before .before .before .before .before .before .before .before .before .before .loop in
-    let test = c .before .before .before .before .before .before .before .before .before .before .before .loop-test in
-    let after2 = c .before .before .before .before .before .before .before .before .before .before .after2 in
-    let failed = c .before .before .before .before .before .before .before .before .before .failed in
-    let bring = c .before .before .before .before .before .before .before .bring in
-    let past = c .before .before .before .past in
-    let chance = c .before .before .chance in
-    (loop .inv .0, closing-more (loop .inv .1) (rw (loop .inv .0) at (test .taken)) (closed-is (args .r) (args .survival .now) (loop .i) (rw (loop .inv .0) at (after2 .ensures)) (failed .ensures)) (bring .ensures) _ _ (record { read = chance .ensures; rest = c .before .failure .ensures }) (past .ensures) (c .step .ensures))
+    let loop = c .before .before .before .before .before .before .before .before .before .loop in (
+      loop .inv .0,
+      closing-more (loop .inv .1) (rw (loop .inv .0) at (c .before .before .before .before .before .before .before .before .loop-test .taken))
+          (closed-is (c .before .before .before .before .before .before .before .before .before .before .before .before .before .before .before .before .before .before .before .before .before .before .before .before .args .r) (c .before .before .before .before .before .before .before .before .before .before .before .before .before .before .before .before .before .before .before .before .before .before .before .before .args .survival .now) (loop .i) (rw (loop .inv .0) at (c .before .before .before .before .before .before .before .after2 .ensures)) (c .before .before .before .before .before .before .failed .ensures)) (c .before .before .before .before .bring .ensures) (c .close .ensures),
+    )
 
 same-length : tie.Need-same-length Inv-loop μ-loop
 same-length c =
@@ -151,10 +118,7 @@ ring-spec =
     after-requires-2
     failed-requires
     bring-requires
-    past-requires
-    chance-requires
-    failure-requires
-    step-requires
+    close-requires
     add-i
     loop-less
     loop-again

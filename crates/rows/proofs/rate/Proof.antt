@@ -3,6 +3,7 @@ use borrow.Author.Needs.{needs}
 use Prim.Native.Nat.{_-_}
 use native.Mathlib.Omega.{arith}
 use lib.ListN.{length}
+use Rattle.units.specs.Step.{whole}
 use Rattle.places.specs.Cells.{Kept}
 use Rattle.places.proofs.Cells.{kept-none, kept-trans, room-kept, side-near}
 use Rattle.rows.specs.Level.{Levelled}
@@ -12,10 +13,10 @@ use Rattle.rows.proofs.rate.Statement.{statement}
 use Rattle.rows.proofs.rate.Tie as tie
 
 abbrev Inv-loop : tie.InvT-loop
-Inv-loop rule survival weights table₀ n limit gap s₀ table s = Levelled rule survival weights s table × Kept table₀ table
+Inv-loop decimal rule survival weights table₀ n limit gap s₀ table s = Levelled (whole decimal) rule survival weights s table × Kept table₀ table
 
 abbrev μ-loop : tie.MeasureT-loop
-μ-loop rule survival weights table₀ n limit gap s₀ table s = length survival - s .left
+μ-loop decimal rule survival weights table₀ n limit gap s₀ table s = length survival - s .left
 
 limit-requires : tie.Need-limit-requires Inv-loop μ-loop
 limit-requires c κs = search needs
@@ -26,7 +27,7 @@ gap-requires c κs = search needs
 start-requires : tie.Need-start-requires Inv-loop μ-loop
 start-requires c κs =
     let pre = c .before .before .before .before .before .before .pre in
-    (record { low = omega (arith, early-is (pre .0) (pre .1) .most); room = pre .0 .room }, c .before .before .limit .ensures)
+    (record { low = omega (arith, early-is pre .most); room = pre .list .room }, c .before .before .limit .ensures)
 
 clear-requires : tie.Need-clear-requires Inv-loop μ-loop
 clear-requires c κs =
@@ -34,15 +35,15 @@ clear-requires c κs =
     let g = s .before .before in
     let pre = g .before .before .before .before .before .pre in
     record {
-      low = omega (arith, g .gap .ensures, g .before .limit .ensures, early-is (pre .0) (pre .1) .most);
-      room = room-kept (s .start .ensures .kept) (pre .0 .room);
+      low = omega (arith, g .gap .ensures, g .before .limit .ensures, early-is pre .most);
+      room = room-kept (s .start .ensures .kept) (pre .list .room);
     }
 
 add-clear : tie.Need-add-clear Inv-loop μ-loop
 add-clear c =
     let g = c .before .before .before .before .before .before .before .before in
     let pre = g .before .before .before .before .before .pre in
-    omega (arith, g .before .limit .ensures, early-is (pre .0) (pre .1) .most)
+    omega (arith, g .before .limit .ensures, early-is pre .most)
 
 clear-requires-2 : tie.Need-clear-requires-2 Inv-loop μ-loop
 clear-requires-2 c κs =
@@ -51,19 +52,19 @@ clear-requires-2 c κs =
     let g = s .before .before in
     let pre = g .before .before .before .before .before .pre in
     record {
-      low = omega (arith, g .gap .ensures, g .before .limit .ensures, early-is (pre .0) (pre .1) .most);
-      room = room-kept (d .clear .ensures .kept) (room-kept (s .start .ensures .kept) (pre .0 .room));
+      low = omega (arith, g .gap .ensures, g .before .limit .ensures, early-is pre .most);
+      room = room-kept (d .clear .ensures .kept) (room-kept (s .start .ensures .kept) (pre .list .room));
     }
 
 load-requires : tie.Need-load-requires Inv-loop μ-loop
 load-requires c κs =
     let g = c .before .before .before .before .before .before .before .before .before .before .before .before in
-    g .before .before .before .before .before .pre .0 .accepted
+    g .before .before .before .before .before .pre .accepted
 
-add-t17 : tie.Need-add-t17 Inv-loop μ-loop
-add-t17 c =
+add-t18 : tie.Need-add-t18 Inv-loop μ-loop
+add-t18 c =
     let g = c .before .before .before .before .before .before .before .before .before .before .before .before .before in
-    let ok = g .before .before .before .before .before .pre .0 .accepted in
+    let ok = g .before .before .before .before .before .pre .accepted in
     omega (arith, c .load .ensures, load-le ok (length (g .before .before .before .before .before .args .survival .now)), ok .size-high)
 
 loop-holds : tie.Need-loop-holds Inv-loop μ-loop
@@ -75,7 +76,7 @@ loop-holds c =
     let row = rw limit at (s .start .ensures) in
     let first = rw (g .gap .ensures, limit) at (c .before .before .before .before .before .before .before .clear .ensures) in
     let second = rw (g .gap .ensures, limit) at (c .before .before .before .clear2 .ensures) in
-    (rw (c .load .ensures) (level-none (pre .0) (pre .1) row first second), kept-none)
+    (rw (c .load .ensures) (level-none pre row first second), kept-none)
 
 turn-requires : tie.Need-turn-requires Inv-loop μ-loop
 turn-requires c κs = (c .before .before .before .loop .inv .0, c .before .if1 .taken)
@@ -91,7 +92,7 @@ loop-again c =
 read-requires : tie.Need-read-requires Inv-loop μ-loop
 read-requires c κs =
     let y = c .before .before .before .loop .inv .0 in
-    record { low = omega (arith, side-near (y .side)); room = y .list .room }
+    record { low = omega (arith, side-near (y .side)); room = y .asked .list .room }
 
 same-length : tie.Need-same-length Inv-loop μ-loop
 same-length c =
@@ -122,7 +123,7 @@ rate-spec =
     add-clear
     clear-requires-2
     load-requires
-    add-t17
+    add-t18
     loop-holds
     turn-requires
     loop-less

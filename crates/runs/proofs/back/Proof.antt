@@ -2,21 +2,22 @@
 use borrow.Author.Needs.{needs}
 use Prim.Native.Nat.{_-_}
 use native.Mathlib.Omega.{arith}
+use Rattle.units.specs.Step.{whole}
 use Rattle.runs.proofs.Falling.{Back, back-first, back-last, back-place, back-some, back-steady, back-more}
 use Rattle.runs.proofs.back.Statement.{statement}
 use Rattle.runs.proofs.back.Tie as tie
 
 abbrev Inv-loop : tie.InvT-loop
-Inv-loop k upto survival table i₀ m₀ ends₀ i m ends = Back k (m₀ .lead) upto survival i m ends
+Inv-loop decimal k upto survival table i₀ m₀ ends₀ i m ends = Back (whole decimal) k (m₀ .lead) upto survival i m ends
 
 abbrev μ-loop : tie.MeasureT-loop
-μ-loop k upto survival table i₀ m₀ ends₀ i m ends = upto - i
+μ-loop decimal k upto survival table i₀ m₀ ends₀ i m ends = upto - i
 
 rest-requires : tie.Need-rest-requires Inv-loop μ-loop
 rest-requires c κs = search needs
 
-sub-t10 : tie.Need-sub-t10 Inv-loop μ-loop
-sub-t10 c = search needs
+sub-t11 : tie.Need-sub-t11 Inv-loop μ-loop
+sub-t11 c = search needs
 
 end-value-requires : tie.Need-end-value-requires Inv-loop μ-loop
 end-value-requires c κs = search needs
@@ -86,7 +87,7 @@ back-spec =
     Inv-loop
     μ-loop
     rest-requires
-    sub-t10
+    sub-t11
     end-value-requires
     loop-holds
     before-requires

@@ -3,17 +3,17 @@ use borrow.Author.Needs.{needs}
 use mathlib.Core.Path.{_≡_}
 use Prim.Native.Nat.{suc, _-_, _≤_}
 use native.Mathlib.Omega.{arith}
-use Rattle.rules.specs.State.{S}
+use Rattle.units.specs.Step.{whole}
 use Rattle.places.specs.Cells.{Written}
 use Rattle.places.proofs.Cells.{written-more}
 use Rattle.runs.proofs.decide.Statement.{statement}
 use Rattle.runs.proofs.decide.Tie as tie
 
 abbrev Inv-loop : tie.InvT-loop
-Inv-loop k upto table₀ last left₀ table left = (left ≤ suc last) × Written (λ up i. S) left 0 table₀ table
+Inv-loop decimal k upto table₀ last left₀ table left = (left ≤ suc last) × Written (λ up i. whole decimal) left 0 table₀ table
 
 abbrev μ-loop : tie.MeasureT-loop
-μ-loop k upto table₀ last left₀ table left = suc last - left
+μ-loop decimal k upto table₀ last left₀ table left = suc last - left
 
 sub-lesser : tie.Need-sub-lesser Inv-loop μ-loop
 sub-lesser c = search needs

@@ -4,16 +4,17 @@ use mathlib.Core.Path.{_≡_}
 use Prim.Native.Nat.{suc, _+_, _-_, _≤_, _<_}
 use native.Mathlib.Omega.{arith}
 use Rattle.places.proofs.Cells.{kept-trans}
+use Rattle.units.specs.Step.{whole}
 use Rattle.runs.specs.Runs.{Filled}
 use Rattle.runs.proofs.Falling.{filled-first, fillable-kept, filled-falling, filled-place, filled-more}
 use Rattle.runs.proofs.fill.Statement.{statement}
 use Rattle.runs.proofs.fill.Tie as tie
 
 abbrev Inv-loop : tie.InvT-loop
-Inv-loop k free upto survival table₀ left₀ table left = (left ≤ upto) × (left < upto → k ≤ suc left + free .lead) × Filled k free left survival table₀ table
+Inv-loop decimal k free upto survival table₀ left₀ table left = (left ≤ upto) × (left < upto → k ≤ suc left + free .lead) × Filled (whole decimal) k free left survival table₀ table
 
 abbrev μ-loop : tie.MeasureT-loop
-μ-loop k free upto survival table₀ left₀ table left = upto - left
+μ-loop decimal k free upto survival table₀ left₀ table left = upto - left
 
 decide-requires : tie.Need-decide-requires Inv-loop μ-loop
 decide-requires c κs = search needs

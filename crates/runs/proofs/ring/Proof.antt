@@ -3,16 +3,17 @@ use borrow.Author.Needs.{needs}
 use mathlib.Core.Path.{refl}
 use Prim.Native.Nat.{_-_}
 use native.Mathlib.Omega.{arith}
+use Rattle.units.specs.Step.{whole}
 use Rattle.runs.specs.Runs.{Asked}
 use Rattle.runs.proofs.Whole.{Leading, leading-first, leading-last, leading-some, leading-fillable, leading-place, leading-steady, leading-more}
 use Rattle.runs.proofs.ring.Statement.{statement}
 use Rattle.runs.proofs.ring.Tie as tie
 
 abbrev Inv-loop : tie.InvT-loop
-Inv-loop k survival table₀ n lead₀ opened₀ i₀ table lead opened i = (y : Asked k survival table₀) → Leading y n i lead opened table
+Inv-loop decimal k survival table₀ n lead₀ opened₀ i₀ table lead opened i = (y : Asked (whole decimal) k survival table₀) → Leading y n i lead opened table
 
 abbrev μ-loop : tie.MeasureT-loop
-μ-loop k survival table₀ n lead₀ opened₀ i₀ table lead opened i = n - i
+μ-loop decimal k survival table₀ n lead₀ opened₀ i₀ table lead opened i = n - i
 
 end-value-requires : tie.Need-end-value-requires Inv-loop μ-loop
 end-value-requires c κs = search needs

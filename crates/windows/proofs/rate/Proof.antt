@@ -2,6 +2,7 @@
 use Prim.Native.Nat.{_-_, _≤_}
 use native.Mathlib.Omega.{arith}
 use Rattle.rules.specs.Pairs.{pairsOf}
+use Rattle.units.specs.Step.{whole}
 use Rattle.places.specs.Cells.{Kept}
 use Rattle.places.proofs.Cells.{kept-none, kept-trans}
 use Rattle.windows.specs.Row.{Levelled}
@@ -11,10 +12,10 @@ use Rattle.windows.proofs.rate.Statement.{statement}
 use Rattle.windows.proofs.rate.Tie as tie
 
 abbrev Inv-loop : tie.InvT-loop
-Inv-loop first second more survival table₀ n oldest s₀ table s = Levelled (pairsOf first second more) oldest survival s table × Kept table₀ table × (s .left ≤ n)
+Inv-loop decimal first second more survival table₀ n oldest s₀ table s = Levelled (whole decimal) (pairsOf first second more) oldest survival s table × Kept table₀ table × (s .left ≤ n)
 
 abbrev μ-loop : tie.MeasureT-loop
-μ-loop first second more survival table₀ n oldest s₀ table s = n - s .left
+μ-loop decimal first second more survival table₀ n oldest s₀ table s = n - s .left
 
 oldest-requires : tie.Need-oldest-requires Inv-loop μ-loop
 oldest-requires c κs = windows (c .before .before .before .pre)

@@ -4,15 +4,16 @@ use mathlib.Core.Path.{ap}
 use Prim.Native.Nat.{_-_, _≤_}
 use native.Mathlib.Omega.{arith}
 use Rattle.memory.specs.Owed.{owed}
+use Rattle.units.specs.Step.{whole}
 use Rattle.gaps.proofs.Reaching.{Stands, holds-place, cut-place, cut-is, failed-is, stands-first, stands-stepping, stands-more}
 use Rattle.gaps.proofs.free.reach_cut.Statement.{statement}
 use Rattle.gaps.proofs.free.reach_cut.Tie as tie
 
 abbrev Inv-loop : tie.InvT-loop
-Inv-loop r upto survival table₀ free m last left₀ works₀ table left works = (left ≤ upto) × Stands r (free .clean) left survival works table₀ table
+Inv-loop decimal r upto survival table₀ free m last left₀ works₀ table left works = (left ≤ upto) × Stands (whole decimal) r (free .clean) left survival works table₀ table
 
 abbrev μ-loop : tie.MeasureT-loop
-μ-loop r upto survival table₀ free m last left₀ works₀ table left works = last - left
+μ-loop decimal r upto survival table₀ free m last left₀ works₀ table left works = last - left
 
 failed-requires : tie.Need-failed-requires Inv-loop μ-loop
 failed-requires c κs = omega (arith, c .before .before .before .pre .holds .asked .two)

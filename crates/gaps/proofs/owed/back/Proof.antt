@@ -2,15 +2,16 @@
 use borrow.Author.Needs.{needs}
 use Prim.Native.Nat.{_-_, _≤_}
 use native.Mathlib.Omega.{arith}
+use Rattle.units.specs.Step.{whole}
 use Rattle.gaps.proofs.Paying.{Back, back-first, back-last, back-due, back-more}
 use Rattle.gaps.proofs.owed.back.Statement.{statement}
 use Rattle.gaps.proofs.owed.back.Tie as tie
 
 abbrev Inv-loop : tie.InvT-loop
-Inv-loop r from upto survival due₀ ends₀ i₀ due ends i = (i ≤ upto) × Back r (due₀ .clean) (due₀ .owed) i₀ survival i due ends
+Inv-loop decimal r from upto survival due₀ ends₀ i₀ due ends i = (i ≤ upto) × Back (whole decimal) r (due₀ .clean) (due₀ .owed) i₀ survival i due ends
 
 abbrev μ-loop : tie.MeasureT-loop
-μ-loop r from upto survival due₀ ends₀ i₀ due ends i = upto - i
+μ-loop decimal r from upto survival due₀ ends₀ i₀ due ends i = upto - i
 
 loop-holds : tie.Need-loop-holds Inv-loop μ-loop
 loop-holds c = (c .before .pre .order, back-first (c .before .pre .value))
@@ -24,7 +25,7 @@ must-work-requires c κs =
     let loop = c .before .before .loop in
     let v = loop .inv .1 in
     let l = c .before .loop-test .taken in
-    back-due v (c .before2 .ensures) (omega (arith, l, pre .size)) (omega (arith, l, pre .alive, v .least)) (pre .units)
+    back-due v (c .before2 .ensures) (omega (arith, l, pre .size)) (omega (arith, l, pre .alive, v .least)) (pre .whole) (pre .units)
 
 add-i : tie.Need-add-i Inv-loop μ-loop
 add-i c = search needs

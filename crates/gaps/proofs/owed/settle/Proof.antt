@@ -7,15 +7,16 @@ use native.Mathlib.Omega.{arith}
 use Rattle.memory.specs.Owed.{owed, owing}
 use Rattle.places.specs.Cells.{Written, half, valueOf}
 use Rattle.places.proofs.Cells.{written-none, written-more, room-kept}
+use Rattle.units.specs.Step.{whole}
 use Rattle.gaps.proofs.Paying.{Back, end-valued, back-first, back-last, back-due, back-more}
 use Rattle.gaps.proofs.owed.settle.Statement.{statement}
 use Rattle.gaps.proofs.owed.settle.Tie as tie
 
 abbrev Inv-loop : tie.InvT-loop
-Inv-loop r survival table₀ last due₀ ends₀ i₀ table due ends i = (i ≤ last) × Back r 0 0 0 survival i due ends × Written (λ up k. valueOf (owing r) survival (owed 0 k) up k) i half table₀ table
+Inv-loop decimal r survival table₀ last due₀ ends₀ i₀ table due ends i = (i ≤ last) × Back (whole decimal) r 0 0 0 survival i due ends × Written (λ up k. valueOf (whole decimal) (owing r) survival (owed 0 k) up k) i half table₀ table
 
 abbrev μ-loop : tie.MeasureT-loop
-μ-loop r survival table₀ last due₀ ends₀ i₀ table due ends i = last - i
+μ-loop decimal r survival table₀ last due₀ ends₀ i₀ table due ends i = last - i
 
 sub-lesser : tie.Need-sub-lesser Inv-loop μ-loop
 sub-lesser c = search needs
@@ -32,7 +33,7 @@ end-value-requires c κs = search needs
 loop-holds : tie.Need-loop-holds Inv-loop μ-loop
 loop-holds c =
     let pre = c .before .before .before .before .before .pre in
-    (omega arith, back-first (end-valued _ _ (owed 0 0) (omega (arith, pre .two)) (c .before .works .ensures) (c .end-value .ensures)), written-none)
+    (omega arith, back-first (end-valued _ _ _ (owed 0 0) (omega (arith, pre .two)) (c .before .works .ensures) (c .end-value .ensures)), written-none)
 
 add-write : tie.Need-add-write Inv-loop μ-loop
 add-write c = search needs
@@ -59,7 +60,7 @@ must-work-requires c κs =
     let loop = c .before .before .before .before .before .before .loop in
     let test = c .before .before .before .before .before .loop-test in
     let l = test .taken in
-    back-due (loop .inv .1) (c .before2 .ensures) (omega (arith, l, lesser .ensures)) (omega (arith, l, lesser .ensures)) (pre .list .units)
+    back-due (loop .inv .1) (c .before2 .ensures) (omega (arith, l, lesser .ensures)) (omega (arith, l, lesser .ensures)) (pre .list .whole) (pre .list .units)
 
 add-i : tie.Need-add-i Inv-loop μ-loop
 add-i c = search needs

@@ -9,10 +9,10 @@ use Rattle.rows.proofs.row.clear.Statement.{statement}
 use Rattle.rows.proofs.row.clear.Tie as tie
 
 abbrev Inv-loop : tie.InvT-loop
-Inv-loop off count table₀ k₀ table k = (k ≤ count) × Written (λ up k. 0) k off table₀ table
+Inv-loop decimal off count table₀ k₀ table k = (k ≤ count) × Written (λ up k. 0) k off table₀ table
 
 abbrev μ-loop : tie.MeasureT-loop
-μ-loop off count table₀ k₀ table k = count - k
+μ-loop decimal off count table₀ k₀ table k = count - k
 
 loop-holds : tie.Need-loop-holds Inv-loop μ-loop
 loop-holds c = (omega arith, written-none)

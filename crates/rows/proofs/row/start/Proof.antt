@@ -3,6 +3,7 @@ use borrow.Author.Needs.{needs}
 use Prim.Native.Nat.{_≤_, _-_}
 use mathlib.Core.Path.{_≡_}
 use native.Mathlib.Omega.{arith}
+use Rattle.units.specs.Step.{whole}
 use Rattle.places.specs.Cells.{Written}
 use Rattle.places.proofs.Cells.{room-kept, written-none, written-more}
 use Rattle.rows.specs.Level.{endsValue}
@@ -10,10 +11,10 @@ use Rattle.rows.proofs.row.start.Statement.{statement}
 use Rattle.rows.proofs.row.start.Tie as tie
 
 abbrev Inv-loop : tie.InvT-loop
-Inv-loop rule limit table₀ m₀ table m = (m ≤ limit) × Written (endsValue rule) m 0 table₀ table
+Inv-loop decimal rule limit table₀ m₀ table m = (m ≤ limit) × Written (endsValue (whole decimal) rule) m 0 table₀ table
 
 abbrev μ-loop : tie.MeasureT-loop
-μ-loop rule limit table₀ m₀ table m = limit - m
+μ-loop decimal rule limit table₀ m₀ table m = limit - m
 
 loop-holds : tie.Need-loop-holds Inv-loop μ-loop
 loop-holds c = (omega arith, written-none)

@@ -6,6 +6,7 @@ use mathlib.Core.Path.{_≡_, refl, sym, _∙_}
 use native.Mathlib.Omega.{arith}
 use native.Mathlib.Numerals.{add-one}
 use Rattle.rules.specs.declared.Rule.{Rule}
+use Rattle.units.specs.Step.{whole}
 use Rattle.places.specs.Cells.{half, Written}
 use Rattle.places.proofs.Cells.{kept-none, side-near, written-none, written-more}
 use Rattle.rows.specs.Level.{sumsValue}
@@ -15,19 +16,19 @@ use Rattle.rows.proofs.row.turn.Statement.{statement}
 use Rattle.rows.proofs.row.turn.Tie as tie
 
 abbrev Inv-loop : tie.InvT-loop
-Inv-loop survival weights table₀ left next from carry reach width to p q m₀ table m =
+Inv-loop decimal survival weights table₀ left next from carry reach width to odds m₀ table m =
     (m ≤ width)
-    × ((rule : Rule) → Climb rule survival weights left from table₀ (p .0) (q .0) carry width
-    → Written (sumsValue rule survival weights (suc left)) m (half - from) table₀ table)
+    × ((rule : Rule) → Climb (whole decimal) rule survival weights left from table₀ (odds .p .0) (odds .q .0) carry width
+    → Written (sumsValue (whole decimal) rule survival weights (suc left)) m (half - from) table₀ table)
 
 abbrev μ-loop : tie.MeasureT-loop
-μ-loop survival weights table₀ left next from carry reach width to p q m₀ table m = width - m
+μ-loop decimal survival weights table₀ left next from carry reach width to odds m₀ table m = width - m
 
 add-next : tie.Need-add-next Inv-loop μ-loop
 add-next c = search needs
 
 carry-requires : tie.Need-carry-requires Inv-loop μ-loop
-carry-requires c κs = let pre = c .before .before .before .pre in λ two. omega (arith, pre .1, pre .0 .list .accepted .weights-length two)
+carry-requires c κs = let pre = c .before .before .before .pre in λ two. omega (arith, pre .1, pre .0 .asked .accepted .weights-length two)
 
 returns : tie.Need-returns Inv-loop μ-loop
 returns c =
@@ -50,18 +51,18 @@ sub-to c = omega (arith, side-near (c .before .before .before .before .before .b
 chance-requires : tie.Need-chance-requires Inv-loop μ-loop
 chance-requires c κs = search needs
 
-failure-requires : tie.Need-failure-requires Inv-loop μ-loop
-failure-requires c κs = rw (c .chance .ensures) (c .before .before .before .before .before .before .before .before .before .pre .0 .list .units _)
+prepare-requires : tie.Need-prepare-requires Inv-loop μ-loop
+prepare-requires c κs = rw (c .chance .ensures) (c .before .before .before .before .before .before .before .before .before .pre .0 .asked .list .units _)
 
 -- where the loop begins
-climb : (c : tie.After-failure Inv-loop μ-loop)
+climb : (c : tie.After-prepare Inv-loop μ-loop)
     → let w = c .before .before .before .before .before .before in let a = w .before .before .before .before .args in
-    Climb (a .rule) (a .survival .now) (a .weights .now) (a .s .left) (a .s .from) (a .table .now)
-    (c .before .chance .result .0) (c .failure .result .0) (w .carry .result) (c .before .before .lesser .result)
+    Climb (whole (a .decimal)) (a .rule) (a .survival .now) (a .weights .now) (a .s .left) (a .s .from) (a .table .now)
+    (c .prepare .result .p .0) (c .prepare .result .q .0) (w .carry .result) (c .before .before .lesser .result)
 climb c =
     let pre = c .before .before .before .before .before .before .before .before .before .before .pre in
     rw (c .before .before .lesser .ensures, c .before .before .before .limit .ensures, c .before .before .before .before .before .before .carry .ensures)
-    (level-climb (pre .0) (pre .1) (record { read = c .before .chance .ensures; rest = c .failure .ensures }))
+    (level-climb (pre .0) (pre .1) (record { read = c .prepare .ensures .1 ∙ c .before .chance .ensures; rest = c .prepare .ensures .0 .rest }))
 
 loop-holds : tie.Need-loop-holds Inv-loop μ-loop
 loop-holds c = (omega arith, λ rule y. written-none)
@@ -86,13 +87,14 @@ value-requires-2 c κs =
 add-write : tie.Need-add-write Inv-loop μ-loop
 add-write c = omega (arith, climb (c .before .before .before .before .before .before .before .before .before) .narrow)
 
-step-requires : tie.Need-step-requires Inv-loop μ-loop
-step-requires c κs =
+step-row-requires : tie.Need-step-row-requires Inv-loop μ-loop
+step-row-requires c κs =
     let o = c .before .before .before .before .before .before .before .before in
     let y = climb (o .before) in
     let works = rw (c .before .before .before .before .before .worked .ensures) at (c .before .before .before .before .value .ensures) in
     let fails = rw (c .before .before .failed .ensures) at (c .before .value2 .ensures) in
-    climb-steady y (c .before .before .before .before .before .before .before .loop-test .taken) (o .loop .inv .1 _ y) works fails
+    let steady = climb-steady y (c .before .before .before .before .before .before .before .loop-test .taken) (o .loop .inv .1 _ y) works fails in
+    (o .before .prepare .ensures .0, steady .left, steady .right)
 
 write-requires : tie.Need-write-requires Inv-loop μ-loop
 write-requires c κs =
@@ -115,7 +117,7 @@ loop-again c =
     let made = e .before .before .before .before .before .before .before .before .before .loop .inv .1 in (
       omega arith,
       λ rule y. written-more (c .before .before .write .ensures) refl (write-place y l (made rule y) .low)
-          (climb-made y l (made rule y) works fails (e .step .ensures)) (made rule y),
+          (climb-made y l (made rule y) works fails (e .step-row .ensures)) (made rule y),
     )
 
 same-length : tie.Need-same-length Inv-loop μ-loop
@@ -144,14 +146,14 @@ turn-spec =
     lesser-requires
     sub-to
     chance-requires
-    failure-requires
+    prepare-requires
     loop-holds
     worked-requires
     value-requires
     failed-requires
     value-requires-2
     add-write
-    step-requires
+    step-row-requires
     write-requires
     add-m
     loop-less

@@ -3,6 +3,7 @@ use borrow.Author.Needs.{needs}
 use mathlib.Core.Path.{_≡_, refl}
 use Prim.Native.Nat.{_-_, _≤_}
 use native.Mathlib.Omega.{arith}
+use Rattle.units.specs.Step.{whole}
 use Rattle.windows.specs.Groups.{countAt}
 use Rattle.windows.specs.Row.{Partly}
 use Rattle.windows.proofs.Working.{partly-none, entry-same, ready-still, partly-more}
@@ -10,10 +11,10 @@ use Rattle.windows.proofs.row.group.Statement.{statement}
 use Rattle.windows.proofs.row.group.Tie as tie
 
 abbrev Inv-loop : tie.InvT-loop
-Inv-loop must older alone at p q oldest from table₀ count j₀ table j = (j ≤ count) × (count ≡ countAt table₀ at) × Partly must older alone at (p .0) oldest from j table₀ table
+Inv-loop decimal must older alone at p q oldest from table₀ count j₀ table j = (j ≤ count) × (count ≡ countAt table₀ at) × Partly (whole decimal) must older alone at (p .0) oldest from j table₀ table
 
 abbrev μ-loop : tie.MeasureT-loop
-μ-loop must older alone at p q oldest from table₀ count j₀ table j = count - j
+μ-loop decimal must older alone at p q oldest from table₀ count j₀ table j = count - j
 
 mul-count : tie.Need-mul-count Inv-loop μ-loop
 mul-count c = search needs

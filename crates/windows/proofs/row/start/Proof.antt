@@ -3,17 +3,17 @@ use borrow.Author.Needs.{needs}
 use Prim.Native.Nat.{_≤_, _-_}
 use mathlib.Core.Path.{_≡_}
 use native.Mathlib.Omega.{arith}
-use Rattle.rules.specs.State.{S}
+use Rattle.units.specs.Step.{whole}
 use Rattle.places.specs.Cells.{Written}
 use Rattle.places.proofs.Cells.{room-kept, written-none, written-more}
 use Rattle.windows.proofs.row.start.Statement.{statement}
 use Rattle.windows.proofs.row.start.Tie as tie
 
 abbrev Inv-loop : tie.InvT-loop
-Inv-loop count table₀ m₀ table m = (m ≤ count) × Written (λ up k. S) m 0 table₀ table
+Inv-loop decimal count table₀ m₀ table m = (m ≤ count) × Written (λ up k. whole decimal) m 0 table₀ table
 
 abbrev μ-loop : tie.MeasureT-loop
-μ-loop count table₀ m₀ table m = count - m
+μ-loop decimal count table₀ m₀ table m = count - m
 
 loop-holds : tie.Need-loop-holds Inv-loop μ-loop
 loop-holds c = (omega arith, written-none)

@@ -6,8 +6,7 @@ use native.Mathlib.Nat.{one-mul}
 use native.Mathlib.Numerals.{add-one}
 use lib.Pow.{shl-exact}
 use Rattle.places.proofs.Cells.{kept-trans, side-near}
-use Rattle.windows.specs.Groups.{free}
-use Rattle.windows.proofs.Levels.{listables, midway, handed, handed-second, handed-third, handed-fourth, risen}
+use Rattle.windows.proofs.Levels.{listables, midway}
 use borrow.Author.Needs.{needs}
 use Rattle.windows.proofs.row.turn.Statement.{statement}
 use Rattle.windows.proofs.row.turn.Tie as tie
@@ -35,52 +34,33 @@ chance-requires c κs = search needs
 failure-requires : tie.Need-failure-requires
 failure-requires c κs = rw (c .chance .ensures) (c .before .before .before .before .before .before .before .before .pre .level .list .units _)
 
-group-requires : tie.Need-group-requires
-group-requires c κs =
-    let y = c .before .before .before .before .before .before .before .before .before .before .pre .level in
-    handed (midway y (c .before .before .before .before .before .before .before .before .before .before .pre .more) (shifted (c .before .before .before .before .before .before .before .before .before .before .pre .level .list .size) (c .before .before .before .before .before .before .before .before .before .before .pre .more)) (c .before .before .before .before .before .trim-all .ensures) (record { read = c .before .before .chance .ensures; rest = c .before .failure .ensures })) _ _ _ _ free
+sweep-requires : tie.Need-sweep-requires
+sweep-requires c κs =
+    let pre = c .before .before .before .before .before .before .before .before .before .before .pre in
+    record {
+      ps = _;
+      survival = _;
+      i = _;
+      midway = midway (pre .level) (pre .more) (shifted (pre .level .list .size) (pre .more)) (c .before .before .before .before .before .trim-all .ensures) (record { read = c .before .before .chance .ensures; rest = c .before .failure .ensures });
+    }
 
-group-requires-2 : tie.Need-group-requires-2
-group-requires-2 c κs =
-    let y = c .before .before .before .before .before .before .before .before .before .before .before .before .before .before .pre .level in
-    handed-second (midway y (c .before .before .before .before .before .before .before .before .before .before .before .before .before .before .pre .more) (shifted (c .before .before .before .before .before .before .before .before .before .before .before .before .before .before .pre .level .list .size) (c .before .before .before .before .before .before .before .before .before .before .before .before .before .before .pre .more)) (c .before .before .before .before .before .before .before .before .before .trim-all .ensures) (record { read = c .before .before .before .before .before .before .chance .ensures; rest = c .before .before .before .before .before .failure .ensures })) (c .before .before .before .group .ensures)
-
-group-requires-3 : tie.Need-group-requires-3
-group-requires-3 c κs =
-    let y = c .before .before .before .before .before .before .before .before .before .before .before .before .before .before .before .before .before .before .pre .level in
-    handed-third (midway y (c .before .before .before .before .before .before .before .before .before .before .before .before .before .before .before .before .before .before .pre .more) (shifted (c .before .before .before .before .before .before .before .before .before .before .before .before .before .before .before .before .before .before .pre .level .list .size) (c .before .before .before .before .before .before .before .before .before .before .before .before .before .before .before .before .before .before .pre .more)) (c .before .before .before .before .before .before .before .before .before .before .before .before .before .trim-all .ensures) (record { read = c .before .before .before .before .before .before .before .before .before .before .chance .ensures; rest = c .before .before .before .before .before .before .before .before .before .failure .ensures })) (c .before .before .before .before .before .before .before .group .ensures) (c .before .before .before .group2 .ensures)
-
-group-requires-4 : tie.Need-group-requires-4
-group-requires-4 c κs =
-    let y = c .before .before .before .before .before .before .before .before .before .before .before .before .before .before .before .before .before .before .before .before .before .before .pre .level in
-    handed-fourth (midway y (c .before .before .before .before .before .before .before .before .before .before .before .before .before .before .before .before .before .before .before .before .before .before .pre .more) (shifted (c .before .before .before .before .before .before .before .before .before .before .before .before .before .before .before .before .before .before .before .before .before .before .pre .level .list .size) (c .before .before .before .before .before .before .before .before .before .before .before .before .before .before .before .before .before .before .before .before .before .before .pre .more)) (c .before .before .before .before .before .before .before .before .before .before .before .before .before .before .before .before .before .trim-all .ensures) (record { read = c .before .before .before .before .before .before .before .before .before .before .before .before .before .before .chance .ensures; rest = c .before .before .before .before .before .before .before .before .before .before .before .before .before .failure .ensures })) (c .before .before .before .before .before .before .before .before .before .before .before .group .ensures) (c .before .before .before .before .before .before .before .group2 .ensures) (c .before .before .before .group3 .ensures)
-
-sub-t12 : tie.Need-sub-t12
-sub-t12 c = omega (arith, side-near (c .before .before .before .before .before .before .before .before .before .before .before .before .before .before .before .before .before .before .before .before .before .before .before .before .before .pre .level .side))
+sub-t13 : tie.Need-sub-t13
+sub-t13 c = omega (arith, side-near (c .before .before .before .before .before .before .before .before .before .before .before .before .before .pre .level .side))
 
 same-length : tie.Need-same-length
-same-length c = kept-trans (kept-trans (c .before .before .before .before .before .before .before .before .before .before .before .before .before .before .before .before .before .before .before .before .trim-all .ensures .kept) (c .before .before .before .before .before .before .before .before .before .before .before .before .before .before .group .ensures .kept)) (kept-trans (c .before .before .before .before .before .before .before .before .before .before .group2 .ensures .kept) (kept-trans (c .before .before .before .before .before .before .group3 .ensures .kept) (c .before .before .group4 .ensures .kept))) .long
+same-length c = kept-trans (c .before .before .before .before .before .before .before .before .trim-all .ensures .kept) (c .before .before .sweep .ensures .kept) .long
 
 returns : tie.Need-returns
-returns c = (
-  λ ps y. record { level = rw add-one (risen (midway y (c .before .before .before .before .before .before .before .before .before .before .before .before .before .before .before .before .before .before .before .before .before .before .before .before .before .pre .more) (shifted (c .before .before .before .before .before .before .before .before .before .before .before .before .before .before .before .before .before .before .before .before .before .before .before .before .before .pre .level .list .size) (c .before .before .before .before .before .before .before .before .before .before .before .before .before .before .before .before .before .before .before .before .before .before .before .before .before .pre .more)) (c .before .before .before .before .before .before .before .before .before .before .before .before .before .before .before .before .before .before .before .before .trim-all .ensures) (record { read = c .before .before .before .before .before .before .before .before .before .before .before .before .before .before .before .before .before .chance .ensures; rest = c .before .before .before .before .before .before .before .before .before .before .before .before .before .before .before .before .failure .ensures })) (c .before .before .before .before .before .before .before .before .before .before .before .before .before .before .group .ensures) (c .before .before .before .before .before .before .before .before .before .before .group2 .ensures) (c .before .before .before .before .before .before .group3 .ensures) (c .before .before .group4 .ensures)); is = add-one _ },
-  kept-trans (kept-trans (c .before .before .before .before .before .before .before .before .before .before .before .before .before .before .before .before .before .before .before .before .trim-all .ensures .kept) (c .before .before .before .before .before .before .before .before .before .before .before .before .before .before .group .ensures .kept)) (kept-trans (c .before .before .before .before .before .before .before .before .before .before .group2 .ensures .kept) (kept-trans (c .before .before .before .before .before .before .group3 .ensures .kept) (c .before .before .group4 .ensures .kept))),
-)
+returns c =
+    let pre = c .before .before .before .before .before .before .before .before .before .before .before .before .before .pre in (
+      λ ps y. record {
+        level = rw add-one (c .before .before .sweep .ensures .level ps _ _ (midway y (pre .more) (shifted (pre .level .list .size) (pre .more)) (c .before .before .before .before .before .before .before .before .trim-all .ensures) (record { read = c .before .before .before .before .before .chance .ensures; rest = c .before .before .before .before .failure .ensures })));
+        is = add-one _;
+      },
+      kept-trans (c .before .before .before .before .before .before .before .before .trim-all .ensures .kept) (c .before .before .sweep .ensures .kept),
+    )
 
 pub turn-spec : {M : Type 1} → statement M
 turn-spec =
     tie.close
-    (tie.spec
-    add-left
-    sub-trim-all
-    shl-trim-all
-    trim-all-requires
-    chance-requires
-    failure-requires
-    group-requires
-    group-requires-2
-    group-requires-3
-    group-requires-4
-    sub-t12
-    same-length
-    returns)
+    (tie.spec add-left sub-trim-all shl-trim-all trim-all-requires chance-requires failure-requires sweep-requires sub-t13 same-length returns)
