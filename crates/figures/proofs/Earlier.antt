@@ -12,7 +12,7 @@ use borrow.Author.Tests.{le-leb, lt-leb}
 use Rattle.rules.specs.declared.Rule.{Rule}
 use Rattle.rules.specs.declared.Rating.{Rating}
 use Rattle.rules.specs.Below.{within}
-use Rattle.rules.specs.State.{S}
+use Rattle.rules.specs.State.{S, unitOf}
 use Rattle.rules.specs.Figure.{figure, low, high}
 use Rattle.rules.specs.Stretch.{stretch}
 use Rattle.rules.specs.Asked.{Asked, askedOf, readOf}
@@ -32,7 +32,7 @@ refusalBefore rule a b survival weights table =
     ((1, badKindBefore rule)
     ∷ (2, badSize (length survival))
     ∷ (3, badStretch a b (length survival))
-    ∷ (4, aboveUnit (stretch a b survival))
+    ∷ (4, aboveUnit S (stretch a b survival))
     ∷ (5, badWeights rule (length survival) weights (stretch a b weights))
     ∷ (6, not (inRange rule (suc b - a) (stretch a b weights)))
     ∷ (7, shortTable table)
@@ -44,7 +44,7 @@ pub record RatedBefore (rule : Rule) (a b : ℕ) (survival weights t₀ t : List
 
 module _ (rule : Rule) (a b : ℕ) (survival weights more : List ℕ) (earlier : rule .kind ≡ 8 → ⊥) where
   abbrev q : Asked
-  q = askedOf rule a b survival weights more
+  q = askedOf 1 rule a b survival weights more
 
   kind-same : badKind rule ≡ badKindBefore rule
   kind-same = ap (λ x. not (leb 1 (rule .kind) && x)) (go (decLe (rule .kind) 7))
@@ -57,13 +57,14 @@ module _ (rule : Rule) (a b : ℕ) (survival weights more : List ℕ) (earlier :
   read-same = beside-weights rule (stretch a b weights) more earlier
 
   refusal-same : (table : List ℕ) → figuresRefusal q table ≡ refusalBefore rule a b survival weights table
-  unfolding figuresRefusal refusalBefore
+  unfolding figuresRefusal refusalBefore firstOf unitOf
   refusal-same table = rw (kind-same, read-same)
 
   figure-same : (up : Bool) → figure up S rule (stretch a b survival) (readOf q) ≡ figure up S rule (stretch a b survival) (stretch a b weights)
   figure-same up = rw read-same
 
   pub rated-as-before : {t₀ t : List ℕ} {r : Rating} → Rated q t₀ t r → RatedBefore rule a b survival weights t₀ t r
+  unfolding unitOf
   rated-as-before {t₀} {t} {r} h = record {
     answer = rates-same r (refusal-same t₀) (λ e. (figure-same false, figure-same true)) (h .answer);
     table = h .table ∙ ap (λ x. tableAfter x t₀) (refusal-same t₀);

@@ -11,11 +11,11 @@ use lib.ListN.{length, take, drop, length-take, length-drop}
 use borrow.Author.Tests.{eqb-true, eqb-false, eq-eqb, ne-eqb}
 use Rattle.rules.specs.declared.Rule.{Rule}
 use Rattle.rules.specs.Below.{total}
-use Rattle.rules.specs.State.{S, besideOf}
+use Rattle.rules.specs.State.{besideOf}
 use Rattle.rules.specs.Figure.{figure}
 use Rattle.rules.specs.Stretch.{stretch}
-use Rattle.rules.specs.Asked.{Asked, lengthOf, sizeOf, partOf, weightsOf, readOf}
-use Rattle.rules.specs.Refusal.{after, firstOf, badKind, badSize, badStretch, aboveUnit, weightsOut, badWeights, ranged, inRange, shortTable, figuresRefusal}
+use Rattle.rules.specs.Asked.{Asked, unitIn, lengthOf, sizeOf, partOf, weightsOf, readOf}
+use Rattle.rules.specs.Refusal.{after, firstOf, badVersion, badKind, badSize, badStretch, aboveUnit, weightsOut, badWeights, ranged, inRange, shortTable, figuresRefusal}
 use Rattle.rules.specs.Accepted.{Ratable}
 use Rattle.rules.proofs.Tests.{by-test}
 use Rattle.rules.proofs.Accepted.{first-same, first-after, in-stretch, figures-ratable, weights-accepted}
@@ -84,15 +84,15 @@ abbrev read : Asked → List ℕ
 read q = besideOf (q .rule) (handed q) (q .more)
 
 module _ (q : Asked) (table : List ℕ) where
-  -- 5, 6 and 7 once 1 to 4 are past
-  pub rest-is : badKind (q .rule) ≡ false → badSize (lengthOf q) ≡ false → badStretch (q .a) (q .b) (lengthOf q) ≡ false → aboveUnit (partOf q) ≡ false
+  -- 5, 6 and 7 once 11 and 1 to 4 are past
+  pub rest-is : badVersion (q .version) ≡ false → badKind (q .rule) ≡ false → badSize (lengthOf q) ≡ false → badStretch (q .a) (q .b) (lengthOf q) ≡ false → aboveUnit (unitIn q) (partOf q) ≡ false
       → {own : ℕ} {rated : List ℕ} → own ≡ ratedRefusal (q .rule) (lengthOf q) (length (q .weights)) (q .b - (q .a - 1)) (total rated) (q .more) → rated ≡ handed q
       → figuresRefusal q table ≡ after own (cond (shortTable table) 7 0)
   unfolding figuresRefusal
-  rest-is one two three four e d =
+  rest-is eleven one two three four e d =
       let h = in-stretch (q .a) (q .b) (lengthOf q) three in
       let m : sizeOf q ≡ q .b - (q .a - 1) = omega arith in
-      first-after 1 _ _ one ∙ first-after 2 _ _ two ∙ first-after 3 _ _ three ∙ first-after 4 _ _ four
+      first-after 11 _ _ eleven ∙ first-after 1 _ _ one ∙ first-after 2 _ _ two ∙ first-after 3 _ _ three ∙ first-after 4 _ _ four
       ∙ seven-after _ _ _
       ∙ ap (λ r. after r (cond (shortTable table) 7 0))
       (sym (e ∙ ap (λ xs. ratedRefusal (q .rule) (lengthOf q) (length (q .weights)) (q .b - (q .a - 1)) (total xs) (q .more)) d
@@ -101,7 +101,7 @@ module _ (q : Asked) (table : List ℕ) where
 
 -- no refusal: the part can be rated, and its figures are those asked for
 module _ (q : Asked) (table : List ℕ) (none : figuresRefusal q table ≡ 0) where
-  ratable : (badStretch (q .a) (q .b) (lengthOf q) ≡ false) × (q .rule .kind ≡ 2 → length (q .weights) ≡ lengthOf q) × Ratable (q .rule) (partOf q) (readOf q) table
+  ratable : (badStretch (q .a) (q .b) (lengthOf q) ≡ false) × (q .rule .kind ≡ 2 → length (q .weights) ≡ lengthOf q) × Ratable (unitIn q) (q .rule) (partOf q) (readOf q) table
   ratable = figures-ratable q table none
 
   pub inside : badStretch (q .a) (q .b) (lengthOf q) ≡ false
@@ -119,10 +119,10 @@ module _ (q : Asked) (table : List ℕ) (none : figuresRefusal q table ≡ 0) wh
       by-eight not-two true e = inl refl
       by-eight not-two false e = inr (record { not-two = not-two; not-eight = eqb-false _ _ e })
 
-  pub part-ratable : Ratable (q .rule) (partOf q) (read q) table
+  pub part-ratable : Ratable (unitIn q) (q .rule) (partOf q) (read q) table
   part-ratable =
       let y = ratable .2 in
       record { accepted = ⊎-elim (λ s. rw s (y .accepted)) (accepted-unread (y .accepted)) same; units = y .units; room = y .room }
 
-  pub part-figure : (up : Bool) → figure up S (q .rule) (partOf q) (read q) ≡ figure up S (q .rule) (partOf q) (readOf q)
-  part-figure up = ⊎-elim (λ s. rw s) (unread-figure up (q .rule) (partOf q) (read q) (readOf q)) same
+  pub part-figure : (up : Bool) → figure up (unitIn q) (q .rule) (partOf q) (read q) ≡ figure up (unitIn q) (q .rule) (partOf q) (readOf q)
+  part-figure up = ⊎-elim (λ s. rw s) (unread-figure up (unitIn q) (q .rule) (partOf q) (read q) (readOf q)) same

@@ -32,7 +32,7 @@ wholeRefusal rule survival weights table =
     firstOf
     ((1, badKindBefore rule)
     ∷ (2, badSize (length survival))
-    ∷ (4, aboveUnit survival)
+    ∷ (4, aboveUnit S survival)
     ∷ (5, badWeights rule (length survival) weights weights)
     ∷ (6, not (inRange rule (length survival) weights))
     ∷ (7, shortTable table)
@@ -72,7 +72,7 @@ module _ (rule : Rule) (survival weights : List ℕ) (earlier : rule .kind ≡ 8
 
   figure-same : (up : Bool) → badWeights rule n weights weights ≡ false → figure up S rule survival weights ≡ figure up S rule (stretch 1 n survival) rated
   figure-same up five =
-      ⊎-elim (λ s. rw s) (unread-figure up rule survival weights rated) (read-same five)
+      ⊎-elim (λ s. rw s) (unread-figure up S rule survival weights rated) (read-same five)
       ∙ ap (λ xs. figure up S rule xs rated) (sym (stretch-all survival n refl))
 
   module _ (table : List ℕ) where
@@ -83,7 +83,7 @@ module _ (rule : Rule) (survival weights : List ℕ) (earlier : rule .kind ≡ 8
         let some = within-true 1 n 64 (not-false _ size) .0 in
         let as-long : suc n - 1 ≡ n = omega arith in
         first-after 3 _ _ (whole-stretch n some)
-        ∙ first-same 4 _ _ _ _ (ap aboveUnit (stretch-all survival n refl)) (λ units.
+        ∙ first-same 4 _ _ _ _ (ap (aboveUnit S) (stretch-all survival n refl)) (λ units.
         first-same 5 _ _ _ _ (sym five-same) (λ five.
         first-same 6 _ _ _ _ (ap (λ m. not (inRange rule m rated)) as-long ∙ ap not (sym (six-same (five-same ∙ five)))) (λ six. refl)))))
 
@@ -92,7 +92,7 @@ module _ (rule : Rule) (survival weights : List ℕ) (earlier : rule .kind ≡ 8
     five-past e = five-same ∙ none-first 4 _ _ (none-first 3 _ _ (none-first 2 _ _ (none-first 1 _ _ (none-first 0 _ _ e .1) .1) .1) .1) .0
 
     -- the theorem
-    pub whole-as-before : (more : List ℕ) {t : List ℕ} {r : Rating} → Rated (askedOf rule 1 n survival weights more) table t r → Listed rule survival weights table t r
+    pub whole-as-before : (more : List ℕ) {t : List ℕ} {r : Rating} → Rated (askedOf 1 rule 1 n survival weights more) table t r → Listed rule survival weights table t r
     whole-as-before more {t} {r} h =
         let v = rated-as-before rule 1 n survival weights more earlier h in
         record {

@@ -1,6 +1,8 @@
 // Low and high: the figures of a stretch of a list.
 ghost use mathlib.Core.Path.{_≡_};
 ghost use mathlib.Core.Bool.{false};
+ghost use Prim.Native.Nat.{_≤_};
+ghost use Rattle.rules.specs.State.{S};
 ghost use Rattle.rules.specs.Asked.{askedOf};
 ghost use Rattle.rules.specs.Refusal.{badStretch, aboveUnit, figuresRefusal};
 ghost use Rattle.figures.specs.Outcome.{ratedOf, Worked, Ranged, Rated};
@@ -8,7 +10,6 @@ use cells::CELLS;
 use places::Ends;
 use rules::Rating;
 use rules::Rule;
-use units::UNIT;
 
 // Refusal 3.
 fn stretch_out(a: u64, b: u64, n: u64) -> bool
@@ -24,13 +25,15 @@ fn stretch_out(a: u64, b: u64, n: u64) -> bool
 }
 
 // Refusal 4. Every number is looked at, so that the compiler can look at several at once.
-fn above_unit(survival: &[u32]) -> bool
-    ensures { λ r. ⌜ r ≡ aboveUnit (now (survival .entry)) ⌝ }
+fn above_unit(all: u64, survival: &[u32]) -> bool
+    requires { ⌜ all ≤ S ⌝ }
+    ensures { λ r. ⌜ r ≡ aboveUnit all (now (survival .entry)) ⌝ }
 {
+    let most = all as u32;
     let mut above = false;
     let mut i: usize = 0;
     while i < survival.len() {
-        if UNIT < survival[i] as u64 {
+        if most < survival[i] {
             above = true;
         }
         i += 1;
@@ -54,8 +57,9 @@ fn rated_weights(rule: Rule, n: usize, weights: &[u16], a: u64, b: u64) -> &[u16
     &weights[from..upto]
 }
 
-// Refusals 1 to 7, the lowest that applies; 0 for none.
+// Refusals 11, then 1 to 7, the first that applies; 0 for none.
 pub fn refusal(
+    version: u64,
     rule: Rule,
     a: u64,
     b: u64,
@@ -64,8 +68,13 @@ pub fn refusal(
     more: &[u64],
     table: &[u64],
 ) -> u64
-    ensures { λ r. ⌜ r ≡ figuresRefusal (askedOf rule a b (now (survival .entry)) (now (weights .entry)) (now (more .entry))) (now (table .entry)) ⌝ }
+    ensures { λ r. ⌜ r ≡ figuresRefusal (askedOf version rule a b (now (survival .entry)) (now (weights .entry)) (now (more .entry))) (now (table .entry)) ⌝ }
 {
+    if refusals::version_out(version) {
+        return 11;
+    }
+    let decimal = units::is_decimal(version);
+    let all = units::whole(decimal);
     if refusals::kind_out(rule) {
         return 1;
     }
@@ -78,7 +87,7 @@ pub fn refusal(
     }
     let from = a as usize - 1;
     let upto = b as usize;
-    if above_unit(&survival[from..upto]) {
+    if above_unit(all, &survival[from..upto]) {
         return 4;
     }
     let rated = rated_weights(rule, n, weights, a, b);
@@ -101,6 +110,7 @@ pub fn refusal(
 
 // Low and high of a stretch that is not refused, worked on that part of the lent lists where it stands. The table is left as it was worked.
 pub fn work(
+    version: u64,
     rule: Rule,
     a: u64,
     b: u64,
@@ -109,17 +119,19 @@ pub fn work(
     more: &[u64],
     table: &mut [u64],
 ) -> Ends
-    requires { ⌜ figuresRefusal (askedOf rule a b (now survival) (now weights) (now more)) (now table) ≡ 0 ⌝ }
-    ensures { λ r. ⌜ Worked (askedOf rule a b (now (survival .entry)) (now (weights .entry)) (now (more .entry))) (now (table .entry)) (now (table .exit)) r ⌝ }
+    requires { ⌜ figuresRefusal (askedOf version rule a b (now survival) (now weights) (now more)) (now table) ≡ 0 ⌝ }
+    ensures { λ r. ⌜ Worked (askedOf version rule a b (now (survival .entry)) (now (weights .entry)) (now (more .entry))) (now (table .entry)) (now (table .exit)) r ⌝ }
 {
     let start = a as usize - 1;
     let end = b as usize;
     let rated = rated_weights(rule, survival.len(), weights, a, b);
-    engine::rate(rule, &survival[start..end], rated, more, table)
+    let decimal = units::is_decimal(version);
+    engine::rate(decimal, rule, &survival[start..end], rated, more, table)
 }
 
 // The figures of a stretch that is not refused, likewise.
 pub fn rate(
+    version: u64,
     rule: Rule,
     a: u64,
     b: u64,
@@ -128,10 +140,10 @@ pub fn rate(
     more: &[u64],
     table: &mut [u64],
 ) -> Rating
-    requires { ⌜ figuresRefusal (askedOf rule a b (now survival) (now weights) (now more)) (now table) ≡ 0 ⌝ }
-    ensures { λ r. ⌜ Ranged (askedOf rule a b (now (survival .entry)) (now (weights .entry)) (now (more .entry))) (now (table .entry)) (now (table .exit)) r ⌝ }
+    requires { ⌜ figuresRefusal (askedOf version rule a b (now survival) (now weights) (now more)) (now table) ≡ 0 ⌝ }
+    ensures { λ r. ⌜ Ranged (askedOf version rule a b (now (survival .entry)) (now (weights .entry)) (now (more .entry))) (now (table .entry)) (now (table .exit)) r ⌝ }
 {
-    let ends = work(rule, a, b, survival, weights, more, table);
+    let ends = work(version, rule, a, b, survival, weights, more, table);
     let low = ends.low;
     let high = ends.high;
     Rating::Range { low, high }
@@ -140,6 +152,7 @@ pub fn rate(
 // The figures of the stretch from component a to component b; of a whole list, from 1 to n.
 // Condition three of every range it answers: `figures-third` of rules/proofs/Accepted.
 pub fn figures(
+    version: u64,
     rule: Rule,
     a: u64,
     b: u64,
@@ -148,13 +161,13 @@ pub fn figures(
     more: &[u64],
     table: &mut [u64],
 ) -> Rating
-    ensures { λ r. ⌜ Rated (askedOf rule a b (now (survival .entry)) (now (weights .entry)) (now (more .entry))) (now (table .entry)) (now (table .exit)) r ⌝ }
+    ensures { λ r. ⌜ Rated (askedOf version rule a b (now (survival .entry)) (now (weights .entry)) (now (more .entry))) (now (table .entry)) (now (table .exit)) r ⌝ }
 {
-    let refused = refusal(rule, a, b, survival, weights, more, table);
+    let refused = refusal(version, rule, a, b, survival, weights, more, table);
     if refused != 0 {
         return Rating::Refused(refused);
     }
-    let rating = rate(rule, a, b, survival, weights, more, table);
+    let rating = rate(version, rule, a, b, survival, weights, more, table);
     cells::zero(table, CELLS);
     rating
 }

@@ -1,10 +1,11 @@
 -- A fan's number replaced at the front of a longer copy, and the second rating on the table that the first has worked in: as long as it was, so
 -- refused as little. Assumes nothing.
-use Prim.Native.Nat.{ℕ, _-_, _≤_, _<_}
+use Prim.Native.Nat.{ℕ, _-_, _≤_, _<_, zero-le}
 use mathlib.Core.Path.{_≡_, refl, sym, ap, _∙_}
 use mathlib.Core.Bool.{Bool, true, false, cond}
 use mathlib.Core.List.{List}
 use native.Mathlib.Omega.{arith}
+use native.Mathlib.Nat.{le-refl, le-trans}
 use lib.Dec.{ltb}
 use lib.IntN.{subℕ}
 use lib.ListN.{length, take, set}
@@ -12,12 +13,13 @@ use lib.Seq.{take-set-lt}
 use mir.Syntax.{w64}
 use mir.Val.{SFits}
 use borrow.Author.Tests.{not-false}
-use Rattle.rules.specs.State.{S}
+use Rattle.rules.specs.State.{S, unitOf}
 use Rattle.rules.specs.Figure.{figure}
-use Rattle.rules.specs.Asked.{Asked, lengthOf, partOf, readOf}
+use Rattle.rules.specs.Asked.{Asked, unitIn, lengthOf, partOf, readOf}
 use Rattle.rules.specs.Refusal.{most, cells, figuresRefusal}
 use Rattle.places.specs.Cells.{Kept}
 use Rattle.rules.specs.Worth.{working, failing, badFan, worthRefusal}
+use Rattle.rules.proofs.Units.{unit-most}
 use Rattle.rules.proofs.EachKind.{within-true}
 use Rattle.rules.proofs.Accepted.{first-same, none-first, in-stretch, figures-ratable}
 use Rattle.rules.proofs.Unless.{after-none}
@@ -38,13 +40,13 @@ module _ (q : Asked) (table : List ℕ) (fan : ℕ) (none : figuresRefusal q tab
 
   pub listed : lengthOf q ≤ most
   unfolding figuresRefusal
-  listed = within-true 1 (lengthOf q) most (not-false _ (none-first 1 _ _ (none-first 0 _ _ none .1) .0)) .1
+  listed = within-true 1 (lengthOf q) most (not-false _ (none-first 1 _ _ (none-first 0 _ _ (none-first 10 _ _ none .1) .1) .0)) .1
 
   pub kept-accepted : (later : List ℕ) → Kept table later → figuresRefusal q later ≡ 0
   unfolding figuresRefusal
   kept-accepted later k =
-      first-same 1 _ _ _ _ refl (λ one. first-same 2 _ _ _ _ refl (λ two. first-same 3 _ _ _ _ refl (λ three. first-same 4 _ _ _ _ refl (λ four.
-      first-same 5 _ _ _ _ refl (λ five. first-same 6 _ _ _ _ refl (λ six. first-same 7 _ _ _ _ (ap (λ n. ltb n cells) (k .long)) (λ seven. refl)))))))
+      first-same 11 _ _ _ _ refl (λ eleven. first-same 1 _ _ _ _ refl (λ one. first-same 2 _ _ _ _ refl (λ two. first-same 3 _ _ _ _ refl (λ three. first-same 4 _ _ _ _ refl (λ four.
+      first-same 5 _ _ _ _ refl (λ five. first-same 6 _ _ _ _ refl (λ six. first-same 7 _ _ _ _ (ap (λ n. ltb n cells) (k .long)) (λ seven. refl))))))))
       ∙ none
 
 -- ---- a worth that is not refused: neither rating is, and all four figures are within the unit
@@ -66,11 +68,15 @@ module _ (q : Asked) (fan : ℕ) (table : List ℕ) (none : worthRefusal q fan t
   pub room : cells ≤ length table
   room = figures-ratable q table accepted .2 .room
 
-  pub works-within : (up : Bool) → figure up S (q .rule) (partOf (working fan q)) (readOf q) ≤ S
-  works-within = sure-within q table fan S accepted (omega arith)
+  pub works-within : (up : Bool) → figure up (unitIn q) (q .rule) (partOf (working fan q)) (readOf q) ≤ unitIn q
+  works-within = sure-within q table fan (unitIn q) accepted (le-refl _)
 
-  pub fails-within : (up : Bool) → figure up S (q .rule) (partOf (failing fan q)) (readOf q) ≤ S
-  fails-within = sure-within q table fan 0 accepted (omega arith)
+  pub fails-within : (up : Bool) → figure up (unitIn q) (q .rule) (partOf (failing fan q)) (readOf q) ≤ unitIn q
+  fails-within = sure-within q table fan 0 accepted zero-le
+
+-- a figure within the unit is within 2^30
+pub within-most : (version : ℕ) {x : ℕ} → x ≤ unitOf version → x ≤ S
+within-most version l = le-trans l (unit-most version)
 
 -- the difference of two figures is a signed number of 64 bits
 pub less-fits : (a b : ℕ) → a ≤ S → b ≤ S → SFits w64 (subℕ a b)

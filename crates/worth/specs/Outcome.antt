@@ -5,8 +5,7 @@ use mathlib.Core.Bool.{false}
 use mathlib.Core.List.{List}
 use Rattle.rules.specs.declared.Worth.{Worth}
 use Rattle.rules.specs.declared.Worth.the-variants.{Ends}
-use Rattle.rules.specs.State.{S}
-use Rattle.rules.specs.Asked.{Asked}
+use Rattle.rules.specs.Asked.{Asked, unitIn}
 use Rattle.rules.specs.Refusal.{figuresRefusal}
 use Rattle.rules.specs.Answer.{tableAfter}
 use Rattle.rules.specs.Worth.{lowerOf, upperOf, badFan, worthRefusal, Weighs}
@@ -16,7 +15,7 @@ use Rattle.places.specs.Cells.{Kept}
 pub record Replaceable (q : Asked) (fan p : ℕ) (table : List ℕ) : Type 0 where
   pub accepted : figuresRefusal q table ≡ 0
   pub inside : badFan q fan ≡ false
-  pub small : p ≤ S
+  pub small : p ≤ unitIn q
 
 -- the worth of a fan that is not refused, in a table of which no more is known than what lies past it
 pub record Found (q : Asked) (fan : ℕ) (t₀ t : List ℕ) (r : Worth) : Type 0 where

@@ -13,13 +13,13 @@ use cells::CELLS;
 use places::Ends;
 use rules::Rule;
 use rules::Worth;
-use units::UNIT;
 
 // The fans of a list, at most.
 const MOST: usize = 64;
 
 // The refusals of the figures, then 17: the fan is outside the stretch.
 pub fn refusal(
+    version: u64,
     rule: Rule,
     a: u64,
     b: u64,
@@ -29,9 +29,9 @@ pub fn refusal(
     more: &[u64],
     table: &[u64],
 ) -> u64
-    ensures { λ r. ⌜ r ≡ worthRefusal (askedOf rule a b (now (survival .entry)) (now (weights .entry)) (now (more .entry))) fan (now (table .entry)) ⌝ }
+    ensures { λ r. ⌜ r ≡ worthRefusal (askedOf version rule a b (now (survival .entry)) (now (weights .entry)) (now (more .entry))) fan (now (table .entry)) ⌝ }
 {
-    let own = figures::refusal(rule, a, b, survival, weights, more, table);
+    let own = figures::refusal(version, rule, a, b, survival, weights, more, table);
     let refused = own != 0;
     let outside = refusals::outside(a, fan, b);
     if refused {
@@ -59,6 +59,7 @@ fn copied(survival: &[u32]) -> [u32; MOST]
 
 // Low and high with the fan's survival number replaced.
 fn rate_sure(
+    version: u64,
     rule: Rule,
     a: u64,
     b: u64,
@@ -69,13 +70,13 @@ fn rate_sure(
     more: &[u64],
     table: &mut [u64],
 ) -> Ends
-    requires { ⌜ Replaceable (askedOf rule a b (now survival) (now weights) (now more)) fan p (now table) ⌝ }
-    ensures { λ r. ⌜ Worked (sure fan p (askedOf rule a b (now (survival .entry)) (now (weights .entry)) (now (more .entry)))) (now (table .entry)) (now (table .exit)) r ⌝ }
+    requires { ⌜ Replaceable (askedOf version rule a b (now survival) (now weights) (now more)) fan p (now table) ⌝ }
+    ensures { λ r. ⌜ Worked (sure fan p (askedOf version rule a b (now (survival .entry)) (now (weights .entry)) (now (more .entry)))) (now (table .entry)) (now (table .exit)) r ⌝ }
 {
     let n = survival.len();
     let mut numbers = copied(survival);
     numbers[fan as usize - 1] = p;
-    figures::work(rule, a, b, &numbers[..n], weights, more, table)
+    figures::work(version, rule, a, b, &numbers[..n], weights, more, table)
 }
 
 // The difference of two figures.
@@ -88,6 +89,7 @@ fn less(a: u64, b: u64) -> i64
 
 // The worth of a fan that is not refused. The table is left as it was worked.
 pub fn weigh(
+    version: u64,
     rule: Rule,
     a: u64,
     b: u64,
@@ -97,11 +99,23 @@ pub fn weigh(
     more: &[u64],
     table: &mut [u64],
 ) -> Worth
-    requires { ⌜ worthRefusal (askedOf rule a b (now survival) (now weights) (now more)) fan (now table) ≡ 0 ⌝ }
-    ensures { λ r. ⌜ Found (askedOf rule a b (now (survival .entry)) (now (weights .entry)) (now (more .entry))) fan (now (table .entry)) (now (table .exit)) r ⌝ }
+    requires { ⌜ worthRefusal (askedOf version rule a b (now survival) (now weights) (now more)) fan (now table) ≡ 0 ⌝ }
+    ensures { λ r. ⌜ Found (askedOf version rule a b (now (survival .entry)) (now (weights .entry)) (now (more .entry))) fan (now (table .entry)) (now (table .exit)) r ⌝ }
 {
-    let works = rate_sure(rule, a, b, fan, UNIT as u32, survival, weights, more, table);
-    let fails = rate_sure(rule, a, b, fan, 0, survival, weights, more, table);
+    let all = units::whole(units::is_decimal(version));
+    let works = rate_sure(
+        version,
+        rule,
+        a,
+        b,
+        fan,
+        all as u32,
+        survival,
+        weights,
+        more,
+        table,
+    );
+    let fails = rate_sure(version, rule, a, b, fan, 0, survival, weights, more, table);
     let lower = less(works.low, fails.high);
     let upper = less(works.high, fails.low);
     Worth::Ends { lower, upper }
@@ -110,6 +124,7 @@ pub fn weigh(
 // The worth of a fan of the stretch from component a to component b. The exact difference lies between its ends: `worth-between` of
 // rules/proofs/Sure.
 pub fn worth(
+    version: u64,
     rule: Rule,
     a: u64,
     b: u64,
@@ -119,13 +134,13 @@ pub fn worth(
     more: &[u64],
     table: &mut [u64],
 ) -> Worth
-    ensures { λ r. ⌜ Weighed (askedOf rule a b (now (survival .entry)) (now (weights .entry)) (now (more .entry))) fan (now (table .entry)) (now (table .exit)) r ⌝ }
+    ensures { λ r. ⌜ Weighed (askedOf version rule a b (now (survival .entry)) (now (weights .entry)) (now (more .entry))) fan (now (table .entry)) (now (table .exit)) r ⌝ }
 {
-    let refused = refusal(rule, a, b, fan, survival, weights, more, table);
+    let refused = refusal(version, rule, a, b, fan, survival, weights, more, table);
     if refused != 0 {
         return Worth::Refused(refused);
     }
-    let worth = weigh(rule, a, b, fan, survival, weights, more, table);
+    let worth = weigh(version, rule, a, b, fan, survival, weights, more, table);
     cells::zero(table, CELLS);
     worth
 }

@@ -9,17 +9,19 @@ use native.Mathlib.Numerals.{add-one}
 use lib.Dec.{ltb}
 use lib.ListN.{length, getD}
 use borrow.Author.Tests.{lt-ltb, le-ltb}
-use Rattle.rules.specs.State.{S}
 use Rattle.rules.specs.Below.{some}
 use Rattle.rules.specs.Refusal.{aboveUnit}
 use Rattle.figures.proofs.above_unit.Statement.{statement}
 use Rattle.figures.proofs.above_unit.Tie as tie
 
 abbrev Inv-loop : tie.InvT-loop
-Inv-loop survival above₀ i₀ above i = (i ≤ length survival) × (above ≡ some (λ k. ltb S (getD survival k 0)) i)
+Inv-loop all survival most above₀ i₀ above i = (i ≤ length survival) × (above ≡ some (λ k. ltb most (getD survival k 0)) i)
 
 abbrev μ-loop : tie.MeasureT-loop
-μ-loop survival above₀ i₀ above i = length survival - i
+μ-loop all survival most above₀ i₀ above i = length survival - i
+
+cast-most : tie.Need-cast-most Inv-loop μ-loop
+cast-most c = omega (arith, c .pre)
 
 loop-holds : tie.Need-loop-holds Inv-loop μ-loop
 unfolding some
@@ -31,9 +33,6 @@ mul-if1 c = search needs
 shared-slice-read-if1 : tie.Need-shared-slice-read-if1 Inv-loop μ-loop
 shared-slice-read-if1 c = search needs
 
-cast-if1 : tie.Need-cast-if1 Inv-loop μ-loop
-cast-if1 c = omega (arith, c .shared-slice-known .given (c .before .before .loop .i))
-
 add-i : tie.Need-add-i Inv-loop μ-loop
 add-i c = search needs
 
@@ -44,7 +43,7 @@ loop-again : tie.Need-loop-again Inv-loop μ-loop
 unfolding some
 loop-again c =
     let l = c .before .before .before .loop in
-    let passed = some (λ k. ltb S (getD (c .before .before .before .before .args .survival .now) k 0)) (l .i) in (
+    let passed = some (λ k. ltb (c .before .before .before .before .args .all) (getD (c .before .before .before .before .args .survival .now) k 0)) (l .i) in (
       omega arith,
       rw add-one
           (⊎-elim
@@ -65,10 +64,10 @@ above-unit-spec =
     (tie.spec
     Inv-loop
     μ-loop
+    cast-most
     loop-holds
     mul-if1
     shared-slice-read-if1
-    cast-if1
     add-i
     loop-less
     loop-again

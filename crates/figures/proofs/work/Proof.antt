@@ -13,32 +13,35 @@ sub-start c = omega (arith, fits _ _ (c .before .before .before .before .pre))
 rated-weights-requires : tie.Need-rated-weights-requires
 rated-weights-requires c κs = inside _ _ (c .before .before .before .before .pre)
 
+is-decimal-requires : tie.Need-is-decimal-requires
+is-decimal-requires c κs = search needs
+
 mul-rate : tie.Need-mul-rate
-mul-rate c = omega (arith, fits _ _ (c .before .before .before .before .before .pre))
+mul-rate c = omega (arith, fits _ _ (c .before .before .before .before .before .before .pre))
 
 sub-rate : tie.Need-sub-rate
-sub-rate c = omega (arith, fits _ _ (c .before .before .before .before .before .pre))
+sub-rate c = omega (arith, fits _ _ (c .before .before .before .before .before .before .pre))
 
 part-rate-start : tie.Need-part-rate-start
-part-rate-start c = omega (arith, fits _ _ (c .before .before .before .before .before .pre))
+part-rate-start c = omega (arith, fits _ _ (c .before .before .before .before .before .before .pre))
 
 part-rate-end : tie.Need-part-rate-end
-part-rate-end c = omega (arith, fits _ _ (c .before .before .before .before .before .pre))
+part-rate-end c = omega (arith, fits _ _ (c .before .before .before .before .before .before .pre))
 
 rate-requires : tie.Need-rate-requires
 rate-requires c κs =
-    let start = c .before .before .before .before .before .before .before in
+    let start = c .before .before .before .before .before .before .before .before in
     let x = start .args in
-    rw (c .before .before .rated-weights .ensures, part-is (x .a) (x .b) _ _ (inside _ _ (start .pre))) (part-ratable _ _ (start .pre))
+    rw (c .before .before .is-decimal .ensures, c .before .before .before .rated-weights .ensures, part-is (x .a) (x .b) _ _ (inside _ _ (start .pre))) (part-ratable _ _ (start .pre))
 
 same-length : tie.Need-same-length
 same-length c = search needs
 
 returns : tie.Need-returns
 returns c =
-    let start = c .before .before .before .before .before .before .before .before .before .before in
+    let start = c .before .before .before .before .before .before .before .before .before .before .before in
     let x = start .args in
-    let e = rw (c .before .before .before .before .before .rated-weights .ensures, part-is (x .a) (x .b) _ _ (inside _ _ (start .pre))) at (c .before .before .rate .ensures) in
+    let e = rw (c .before .before .before .before .before .is-decimal .ensures, c .before .before .before .before .before .before .rated-weights .ensures, part-is (x .a) (x .b) _ _ (inside _ _ (start .pre))) at (c .before .before .rate .ensures) in
     record {
       low = e .0 .low ∙ part-figure _ _ (start .pre) false;
       high = e .0 .high ∙ part-figure _ _ (start .pre) true;
@@ -51,6 +54,7 @@ work-spec =
     (tie.spec
     sub-start
     rated-weights-requires
+    is-decimal-requires
     mul-rate
     sub-rate
     part-rate-start
