@@ -2,36 +2,45 @@
 -- Each part of a file is the bytes of a list of numbers, so the laws of such lists serve for the header, the survival numbers, the weights and
 -- the systems alike. Assumes nothing.
 use mathlib.Core.Path.{_≡_, refl, sym, ap₂, _∙_}
+use mathlib.Core.Bool.{false}
 use mathlib.Core.Logic.{_↔_}
 use mathlib.Core.List.{List, [], _∷_, _++_, append-assoc, append-nil}
-use Prim.Native.Nat.{ℕ, _+_, _*_, _<_}
+use Prim.Native.Nat.{ℕ, _+_, _*_, _^_, _<_}
 use native.Mathlib.Omega.{arith}
 use lib.ListN.{length, getD, take, length-append}
 use lib.Seq.{take-all, take-add}
+use borrow.Author.Tests.{not-false}
 use Rattle.rules.specs.Below.{listBelow}
-use Rattle.rules.specs.File.{Deck, nthNumber, numbersFrom, allBytes, headerOf, systemNumbers, fileOf, systemIn, deckIn, fileRefusal, fansIn, countIn, version, versionField, survivalField, headerLength, survivalBytes, weightBytes, systemBytes, survivalOffset, weightsOffset, systemsOffset}
+use Rattle.rules.specs.Refusal.{lastVersion, badVersion}
+use Rattle.rules.specs.File.{Deck, nthNumber, numbersFrom, allBytes, headerOf, systemNumbers, fileOf, systemIn, deckIn, fileRefusal, versionIn, fansIn, countIn, versionField, survivalField, headerLength, survivalBytes, weightBytes, systemBytes, survivalOffset, weightsOffset, systemsOffset}
 use Rattle.deck.specs.Bounds.{Bytes, Bounds}
 use Rattle.rules.proofs.Lists.{below-length}
+use Rattle.rules.proofs.EachKind.{within-true}
 use Rattle.deck.proofs.Lists.{under-none, under-cons, under-below}
 use Rattle.deck.proofs.Numbers.{Stands, all-length, number-fits, number-within, numbers-back, bytes-back}
 use Rattle.deck.proofs.Systems.{numbers-length, systems-back, numbers-of}
 use Rattle.deck.proofs.Sound.{Sound, sound, not-refused}
 
+-- a version that there is fits its field
+pub version-fits : (version : ℕ) → badVersion version ≡ false → version < 2 ^ 16
+version-fits version e = omega (arith, within-true 1 version lastVersion (not-false _ e))
+
 -- how long each part is
-abbrev counts : (n m : ℕ) → List ℕ
-counts n m = version ∷ 0 ∷ n ∷ m ∷ []
+abbrev counts : (version n m : ℕ) → List ℕ
+counts version n m = version ∷ 0 ∷ n ∷ m ∷ []
 
 abbrev offsets : ℕ → List ℕ
 offsets n = survivalOffset ∷ weightsOffset n ∷ systemsOffset n ∷ []
 
-pub header-length : (n m : ℕ) → length (headerOf n m) ≡ headerLength
+pub header-length : (version n m : ℕ) → length (headerOf version n m) ≡ headerLength
 unfolding headerOf
-header-length n m =
-    length-append (allBytes 2 (counts n m)) (allBytes 4 (offsets n)) ∙ rw (all-length 2 (counts n m), all-length 4 (offsets n))
+header-length version n m =
+    let first = counts version n m in
+    length-append (allBytes 2 first) (allBytes 4 (offsets n)) ∙ rw (all-length 2 first, all-length 4 (offsets n))
 
 -- a file's part before the weights, and its part before the systems
 abbrev pub toWeights : Deck → List ℕ
-toWeights d = headerOf (length (d .survival)) (length (d .systems)) ++ allBytes survivalBytes (d .survival)
+toWeights d = headerOf (d .version) (length (d .survival)) (length (d .systems)) ++ allBytes survivalBytes (d .survival)
 
 abbrev pub toSystems : Deck → List ℕ
 toSystems d = toWeights d ++ allBytes weightBytes (d .weights)
@@ -40,7 +49,7 @@ pub weights-from : (d : Deck) → length (toWeights d) ≡ weightsOffset (length
 weights-from d =
     let n = length (d .survival) in
     let m = length (d .systems) in
-    length-append (headerOf n m) (allBytes survivalBytes (d .survival)) ∙ rw (header-length n m, all-length survivalBytes (d .survival))
+    length-append (headerOf (d .version) n m) (allBytes survivalBytes (d .survival)) ∙ rw (header-length (d .version) n m, all-length survivalBytes (d .survival))
 
 pub systems-from : (d : Deck) → length (toSystems d) ≡ weightsOffset (length (d .survival)) + weightBytes * length (d .weights)
 systems-from d = length-append (toWeights d) (allBytes weightBytes (d .weights)) ∙ rw (weights-from d, all-length weightBytes (d .weights))
@@ -59,10 +68,10 @@ module _ (d : Deck) (ok : Bounds d) where
   abbrev m : ℕ
   m = length (d .systems)
 
-  count-at : (i : ℕ) → i < 4 → nthNumber 2 (fileOf d) versionField i ≡ getD (counts n m) i 0
+  count-at : (i : ℕ) → i < 4 → nthNumber 2 (fileOf d) versionField i ≡ getD (counts (d .version) n m) i 0
   unfolding fileOf headerOf
   count-at =
-      let stands : Stands 2 (counts n m) (fileOf d) versionField =
+      let stands : Stands 2 (counts (d .version) n m) (fileOf d) versionField =
       record {
         before = [];
         after = allBytes 4 (offsets n) ++ (allBytes survivalBytes (d .survival) ++ (allBytes weightBytes (d .weights) ++ allBytes 2 (systemNumbers (d .systems))));
@@ -71,7 +80,7 @@ module _ (d : Deck) (ok : Bounds d) where
       }
       in
       number-within stands
-      (under-cons (omega arith)
+      (under-cons (version-fits (d .version) (ok .versioned))
       (under-cons (omega arith) (under-cons (omega arith) (under-cons (omega arith) (under-none (omega arith))))))
 
   offset-at : (i : ℕ) → i < 3 → nthNumber 4 (fileOf d) survivalField i ≡ getD (offsets n) i 0
@@ -79,14 +88,17 @@ module _ (d : Deck) (ok : Bounds d) where
   offset-at =
       let stands : Stands 4 (offsets n) (fileOf d) survivalField =
       record {
-        before = allBytes 2 (counts n m);
+        before = allBytes 2 (counts (d .version) n m);
         after = allBytes survivalBytes (d .survival) ++ (allBytes weightBytes (d .weights) ++ allBytes 2 (systemNumbers (d .systems)));
         parts = simp append-assoc;
-        place = all-length 2 (counts n m);
+        place = all-length 2 (counts (d .version) n m);
       }
       in
       number-within stands
       (under-cons (omega arith) (under-cons (omega arith) (under-cons (omega arith) (under-none (omega arith)))))
+
+  version-at : versionIn (fileOf d) ≡ d .version
+  version-at = count-at 0 (omega arith)
 
   fans-at : fansIn (fileOf d) ≡ n
   fans-at = count-at 2 (omega arith)
@@ -97,10 +109,10 @@ module _ (d : Deck) (ok : Bounds d) where
   survival-stand : Stands survivalBytes (d .survival) (fileOf d) survivalOffset
   unfolding fileOf
   survival-stand = record {
-    before = headerOf n m;
+    before = headerOf (d .version) n m;
     after = allBytes weightBytes (d .weights) ++ allBytes 2 (systemNumbers (d .systems));
     parts = simp append-assoc;
-    place = header-length n m;
+    place = header-length (d .version) n m;
   }
 
   weights-stand : Stands weightBytes (d .weights) (fileOf d) (weightsOffset (fansIn (fileOf d)))
@@ -126,7 +138,7 @@ module _ (d : Deck) (ok : Bounds d) where
       not-refused (fileOf d)
       record {
         long = omega (arith, file-length d);
-        version = count-at 0 (omega arith);
+        versioned = rw version-at (ok .versioned);
         nought = count-at 1 (omega arith);
         some-fan = omega (arith, fans-at, ok .some-fan);
         most-fans = omega (arith, fans-at, ok .most-fans);
@@ -147,20 +159,20 @@ module _ (d : Deck) (ok : Bounds d) where
       systems-back (d .systems) (fileOf d) (systemsOffset (fansIn (fileOf d))) (countIn (fileOf d)) (sym systems-at)
       (λ i h. number-within systems-stand (ok .systems-fit) i (omega (arith, numbers-length (d .systems), systems-at)))
       in
-      λ x. record { survival = survival x; weights = weights x; systems = systems x }
+      λ x. record { version = version-at x; survival = survival x; weights = weights x; systems = systems x }
 
 -- a file that is not refused, written again
 module _ (bytes : List ℕ) (small : Bytes bytes) (e : fileRefusal bytes ≡ 0) where
   abbrev s : Sound bytes
   s = sound bytes e
 
-  header-back : headerOf (fansIn bytes) (countIn bytes) ≡ take headerLength bytes
+  header-back : headerOf (versionIn bytes) (fansIn bytes) (countIn bytes) ≡ take headerLength bytes
   unfolding headerOf listBelow
   header-back =
       let n = fansIn bytes in
       let m = countIn bytes in
-      let counted : allBytes 2 (counts n m) ≡ allBytes 2 (numbersFrom 2 bytes versionField 4) =
-      λ x. allBytes 2 (sym (s .version) x ∷ sym (s .nought) x ∷ n ∷ m ∷ [])
+      let counted : allBytes 2 (counts (versionIn bytes) n m) ≡ allBytes 2 (numbersFrom 2 bytes versionField 4) =
+      λ x. allBytes 2 (versionIn bytes ∷ sym (s .nought) x ∷ n ∷ m ∷ [])
       in
       let placed : allBytes 4 (offsets n) ≡ allBytes 4 (numbersFrom 4 bytes survivalField 3) =
       λ x. allBytes 4 (sym (s .survival-place) x ∷ sym (s .weights-place) x ∷ sym (s .systems-place) x ∷ [])
@@ -197,6 +209,7 @@ module _ (bytes : List ℕ) (small : Bytes bytes) (e : fileRefusal bytes ≡ 0) 
       let fans : length (deckIn bytes .survival) ≡ n = below-length n _ in
       let systems : length (deckIn bytes .systems) ≡ m = below-length m _ in
       record {
+        versioned = s .versioned;
         some-fan = omega (arith, s .some-fan);
         most-fans = omega (arith, s .most-fans);
         weighed = below-length n _ ∙ sym fans;

@@ -4,7 +4,7 @@ use mathlib.Core.List.{List}
 use Prim.Native.Nat.{ℕ, _<_}
 use lib.ListN.{getD, take}
 use Rattle.rules.specs.declared.System.{System}
-use Rattle.rules.specs.File.{Deck, mostFans, mostSystems, fansIn, countIn, systemIn, fileOf, deckIn, fileRefusal}
+use Rattle.rules.specs.File.{Deck, mostFans, mostSystems, versionIn, fansIn, countIn, systemIn, fileOf, deckIn, fileRefusal}
 use Rattle.deck.specs.declared.Read.{Read}
 use Rattle.deck.specs.Read.{noDeck, arraysOf, keptDeck}
 use Rattle.deck.specs.Outcome.{Handed}
@@ -42,6 +42,7 @@ module _ (bytes : List ℕ) where
       let n = sym (below-length (fansIn bytes) _) in
       let m = sym (below-length (countIn bytes) (systemIn bytes)) in
       λ x. record {
+        version = versionIn bytes;
         fans = n x;
         count = m x;
         survival = keptDeck bytes .survival;

@@ -1,18 +1,19 @@
 -- A file that is not refused: every check held, one by one, and a file of which every check holds is not refused. Assumes nothing.
 use mathlib.Core.Path.{_≡_}
+use mathlib.Core.Bool.{false}
 use mathlib.Core.List.{List}
 use Prim.Native.Nat.{ℕ, _≤_}
 use lib.ListN.{length}
 use borrow.Author.Tests.{ltb-false, eqb-true, not-false, le-ltb, le-leb, eq-eqb}
-use Rattle.rules.specs.Refusal.{firstOf}
-use Rattle.rules.specs.File.{numberAt, versionField, zeroField, survivalField, weightsField, systemsField, headerLength, version, mostFans, mostSystems, fansIn, countIn, survivalOffset, weightsOffset, systemsOffset, fileLength, fileRefusal}
-use Rattle.rules.proofs.Tests.{both}
+use Rattle.rules.specs.Refusal.{badVersion, firstOf}
+use Rattle.rules.specs.File.{numberAt, zeroField, survivalField, weightsField, systemsField, headerLength, mostFans, mostSystems, versionIn, fansIn, countIn, survivalOffset, weightsOffset, systemsOffset, fileLength, fileRefusal}
+use Rattle.rules.proofs.Tests.{both, neither}
 use Rattle.rules.proofs.EachKind.{within-true}
 use Rattle.rules.proofs.Accepted.{none-first}
 
 pub record Sound (bytes : List ℕ) : Type 0 where
   pub long : headerLength ≤ length bytes
-  pub version : numberAt 2 bytes versionField ≡ version
+  pub versioned : badVersion (versionIn bytes) ≡ false
   pub nought : numberAt 2 bytes zeroField ≡ 0
   pub some-fan : 1 ≤ fansIn bytes
   pub most-fans : fansIn bytes ≤ mostFans
@@ -31,7 +32,7 @@ sound bytes e =
     let size = none-first 1 _ _ (version .1) in
     let count = none-first 11 _ _ (size .1) in
     let layout = none-first 12 _ _ (count .1) in
-    let zeros = both _ _ (not-false _ (version .0)) in
+    let start = neither (badVersion (versionIn bytes)) _ (version .0) in
     let fans = within-true 1 (fansIn bytes) mostFans (not-false _ (size .0)) in
     let systems = within-true 1 (countIn bytes) mostSystems (not-false _ (count .0)) in
     let whole = both _ _ (not-false _ (layout .0)) in
@@ -39,8 +40,8 @@ sound bytes e =
     let offsets = both _ _ (third .0) in
     record {
       long = ltb-false _ _ (short .0);
-      version = eqb-true _ _ (zeros .0);
-      nought = eqb-true _ _ (zeros .1);
+      versioned = start .0;
+      nought = eqb-true _ _ (not-false _ (start .1));
       some-fan = fans .0;
       most-fans = fans .1;
       some-system = systems .0;
@@ -56,7 +57,7 @@ unfolding fileRefusal firstOf
 not-refused bytes s =
     simp (
       le-ltb (length bytes) headerLength (s .long),
-      eq-eqb _ _ (s .version),
+      s .versioned,
       eq-eqb _ _ (s .nought),
       le-leb _ _ (s .some-fan),
       le-leb _ _ (s .most-fans),

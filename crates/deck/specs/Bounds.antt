@@ -1,8 +1,10 @@
--- Which decks a file can hold: 1 to 64 fans with a weight each, 1 to 32 systems, and numbers that fit the layout's fields.
+-- Which decks a file can hold: of a version that there is, 1 to 64 fans with a weight each, 1 to 32 systems, and numbers that fit the layout's fields.
 use mathlib.Core.Path.{_≡_}
+use mathlib.Core.Bool.{false}
 use mathlib.Core.List.{List}
 use Prim.Native.Nat.{ℕ, _^_, _≤_, _<_}
 use lib.ListN.{length, getD}
+use Rattle.rules.specs.Refusal.{badVersion}
 use Rattle.rules.specs.File.{Deck, systemNumbers, mostFans, mostSystems}
 
 -- every number of a list is below a limit
@@ -15,6 +17,7 @@ Bytes bytes = Under 256 bytes
 
 -- "P (4 bytes each), weights (2 each)", a system's five numbers "2 each"
 pub record Bounds (d : Deck) : Type 0 where
+  pub versioned : badVersion (d .version) ≡ false
   pub some-fan : 1 ≤ length (d .survival)
   pub most-fans : length (d .survival) ≤ mostFans
   pub weighed : length (d .weights) ≡ length (d .survival)

@@ -4,7 +4,7 @@ use Prim.Native.Nat.{ℕ, _-_}
 use lib.ListN.{length, replicate}
 use Rattle.rules.specs.declared.System.{System}
 use Rattle.rules.specs.File as file
-use Rattle.rules.specs.File.{mostFans, mostSystems, fansIn, countIn, deckIn}
+use Rattle.rules.specs.File.{mostFans, mostSystems, versionIn, fansIn, countIn, deckIn}
 use Rattle.deck.specs.declared.Deck.{Deck}
 
 -- a list followed by so many fillers that it has k entries
@@ -17,6 +17,7 @@ noSystem = record { rule = record { kind = 0; first = 0; second = 0 }; a = 0; b 
 
 abbrev pub noDeck : Deck
 noDeck = record {
+  version = 0;
   fans = 0;
   count = 0;
   survival = replicate mostFans 0;
@@ -27,6 +28,7 @@ noDeck = record {
 -- a deck in arrays
 abbrev pub arraysOf : file.Deck → Deck
 arraysOf d = record {
+  version = d .version;
   fans = length (d .survival);
   count = length (d .systems);
   survival = padded mostFans 0 (d .survival);
@@ -34,9 +36,10 @@ arraysOf d = record {
   systems = padded mostSystems noSystem (d .systems);
 }
 
--- the deck that a file holds, in arrays: its n and m are those of the file
+-- the deck that a file holds, in arrays: its version, n and m are those of the file
 unfoldable pub keptDeck : List ℕ → Deck
 keptDeck bytes = record {
+  version = versionIn bytes;
   fans = fansIn bytes;
   count = countIn bytes;
   survival = padded mostFans 0 (deckIn bytes .survival);

@@ -7,8 +7,6 @@ pub const MOST_FANS: usize = 64;
 
 pub const MOST_SYSTEMS: usize = 32;
 
-pub const VERSION: u64 = 1;
-
 pub const VERSION_FIELD: usize = 0;
 
 pub const ZERO_FIELD: usize = 2;

@@ -6,15 +6,16 @@ mod parts; // parts.rt: the survival numbers, the weights and the systems, in ar
 ghost use mathlib.Core.Path.{_≡_};
 ghost use Prim.Native.Nat.{_≤_};
 ghost use lib.ListN.{length};
-ghost use Rattle.rules.specs.File.{headerLength, fansIn, countIn, systemIn, badVersion, badLayout, fileRefusal};
+ghost use Rattle.rules.specs.File.{headerLength, versionIn, fansIn, countIn, systemIn, badStart, badLayout, fileRefusal};
 ghost use Rattle.deck.specs.Read.{noDeck, keptDeck};
 ghost use Rattle.deck.specs.Outcome.{Checked, Handed, Placed};
 use crate::layout::MOST_FANS;
 use crate::layout::MOST_SYSTEMS;
 use rules::System;
 
-// A file's deck: how many fans and systems it has, n and m, and arrays whose first n or m entries the file fills; the others are zeros.
+// A file's deck: its version, how many fans and systems it has, n and m, and arrays whose first n or m entries the file fills; the others are zeros.
 pub struct Deck {
+    pub version: u64,
     pub fans: u64,
     pub count: u64,
     pub survival: [u32; MOST_FANS],
@@ -28,12 +29,12 @@ pub struct Read {
     pub deck: Deck,
 }
 
-// 11: version not 1, or the zero field not 0.
-fn bad_version(bytes: &[u8]) -> bool
+// 11: there is no such version, or the zero field is not 0.
+fn bad_start(bytes: &[u8]) -> bool
     requires { ⌜ headerLength ≤ length (now bytes) ⌝ }
-    ensures { λ r. ⌜ r ≡ badVersion (now (bytes .entry)) ⌝ }
+    ensures { λ r. ⌜ r ≡ badStart (now (bytes .entry)) ⌝ }
 {
-    number::number2(bytes, layout::VERSION_FIELD) != layout::VERSION
+    refusals::version_out(number::number2(bytes, layout::VERSION_FIELD))
         || number::number2(bytes, layout::ZERO_FIELD) != 0
 }
 
@@ -64,7 +65,7 @@ pub fn file_refusal(bytes: &[u8]) -> u64
     if bytes.len() < layout::HEADER_LENGTH {
         return 10;
     }
-    if bad_version(bytes) {
+    if bad_start(bytes) {
         return 11;
     }
     let n = number::number2(bytes, layout::FANS_FIELD);
@@ -90,6 +91,7 @@ fn no_deck() -> Deck
     let zeros = parts::no_system();
     let systems = [zeros; MOST_SYSTEMS];
     Deck {
+        version: 0,
         fans: 0,
         count: 0,
         survival,
@@ -98,7 +100,15 @@ fn no_deck() -> Deck
     }
 }
 
-// How many fans a file that is not refused has.
+// The version of a file that is not refused.
+pub fn version_in(bytes: &[u8]) -> u64
+    requires { ⌜ fileRefusal (now bytes) ≡ 0 ⌝ }
+    ensures { λ r. ⌜ r ≡ versionIn (now (bytes .entry)) ⌝ }
+{
+    number::number2(bytes, layout::VERSION_FIELD)
+}
+
+// How many fans it has.
 pub fn fans_in(bytes: &[u8]) -> usize
     requires { ⌜ fileRefusal (now bytes) ≡ 0 ⌝ }
     ensures { λ r. ⌜ r ≡ fansIn (now (bytes .entry)) ⌝ }
@@ -144,12 +154,14 @@ fn kept_deck(bytes: &[u8]) -> Deck
     requires { ⌜ fileRefusal (now bytes) ≡ 0 ⌝ }
     ensures { λ r. ⌜ r ≡ keptDeck (now (bytes .entry)) ⌝ }
 {
+    let version = version_in(bytes);
     let n = fans_in(bytes);
     let count = count_in(bytes);
     let survival = survival_in(bytes);
     let weights = weights_in(bytes);
     let systems = parts::systems_in(bytes, n, count);
     Deck {
+        version,
         fans: n as u64,
         count: count as u64,
         survival,

@@ -6,8 +6,10 @@ use Prim.Native.Nat.{ℕ}
 use lib.IntN.{ℤ}
 use Rattle.rules.specs.declared.Worth.{Worth}
 use Rattle.rules.specs.declared.Worth.the-variants.{Ends, Refused}
+use Rattle.rules.specs.State.{unitOf}
 use Rattle.rules.specs.Refusal.{after}
-use Rattle.rules.specs.File.{fileRefusal, badNumber, packed, loadingOf, worthLoadingOf}
+use Rattle.rules.specs.Answer.{unless}
+use Rattle.rules.specs.File.{versionIn, fileRefusal, badNumber, packed, loadingOf, worthLoadingOf}
 
 pub record Answered (file : List ℕ) (system r : ℕ) : Type 0 where
   pub number : r ≡ packed (loadingOf file system)
@@ -24,6 +26,13 @@ endsAfter (Refused number) ends = ends
 pub record Told (file : List ℕ) (system fan : ℕ) (e₀ e : List ℤ) (r : ℕ) : Type 0 where
   pub number : r ≡ numberOf (worthLoadingOf file system fan)
   pub ends : e ≡ endsAfter (worthLoadingOf file system fan) e₀
+
+-- request 08, the unit that a file's figures are parts of; 0 for a refused file
+unfoldable pub partsOf : List ℕ → ℕ
+partsOf file = unless (fileRefusal file) (λ r. 0) (unitOf (versionIn file))
+
+pub record Parted (file : List ℕ) (r : ℕ) : Type 0 where
+  pub number : r ≡ partsOf file
 
 -- a file's own refusal, then 14
 unfoldable pub openRefusal : List ℕ → ℕ → ℕ

@@ -1,7 +1,7 @@
 // The loading computer's calls: a deck file's bytes and a system number in, its figures as one 64-bit number out; with a fan, its worth.
 ghost use mathlib.Core.Path.{_≡_};
 ghost use Rattle.rules.specs.File.{packed, loadingOf, worthLoadingOf};
-ghost use Rattle.loading.specs.Outcome.{openRefusal, Answered, numberOf, endsAfter, Told};
+ghost use Rattle.loading.specs.Outcome.{openRefusal, Answered, Parted, numberOf, endsAfter, Told};
 ghost use Rattle.loading.specs.Packing.{Packable};
 use refusals::HALF_WORD;
 use rules::Rating;
@@ -60,6 +60,18 @@ pub extern "C" fn foambeetle_rate(file: &[u8], system: u64) -> u64
     ensures { λ r. ⌜ Answered (now (file .entry)) system r ⌝ }
 {
     pack(rate_file(file, system))
+}
+
+// What the C program calls for the unit of a file's figures: `uint64_t foambeetle_unit(const uint8_t *file, size_t length)`.
+#[no_mangle]
+pub extern "C" fn foambeetle_unit(file: &[u8]) -> u64
+    ensures { λ r. ⌜ Parted (now (file .entry)) r ⌝ }
+{
+    if deck::file_refusal(file) != 0 {
+        return 0;
+    }
+    let decimal = units::is_decimal(deck::version_in(file));
+    units::whole(decimal)
 }
 
 // A worth as C gets it: 0 and both ends, or the refusal and the ends as they were.

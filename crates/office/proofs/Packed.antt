@@ -15,8 +15,8 @@ use Rattle.office.specs.Outcome.{mostRefusal, packedWriting, Packable, F
 refusal-le : (t : Typed) (room : List ℕ) → writeRefusal t room ≤ mostRefusal
 unfolding writeRefusal
 refusal-le t room =
-    first-le 2 _ _ (omega arith) (first-le 5 _ _ (omega arith) (first-le 12 _ _ (omega arith) (first-le 16 _ _ (omega arith)
-    (first-none mostRefusal))))
+    first-le 11 _ _ (omega arith) (first-le 2 _ _ (omega arith) (first-le 5 _ _ (omega arith) (first-le 12 _ _ (omega arith)
+    (first-le 16 _ _ (omega arith) (first-none mostRefusal)))))
 
 pub packable : (t : Typed) (room : List ℕ) → Packable (writingOf t room)
 unfolding writingOf

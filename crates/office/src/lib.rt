@@ -15,16 +15,17 @@ fn pack(writing: Writing) -> u64
     }
 }
 
-// What the C program calls: `uint64_t foambeetle_write(const uint32_t *survival, size_t n, const uint16_t *weights, size_t w,
+// What the C program calls: `uint64_t foambeetle_write(uint64_t version, const uint32_t *survival, size_t n, const uint16_t *weights, size_t w,
 // const uint16_t *systems, size_t s, uint8_t *room, size_t length)`.
 #[no_mangle]
 pub extern "C" fn foambeetle_write(
+    version: u64,
     survival: &[u32],
     weights: &[u16],
     systems: &[u16],
     room: &mut [u8],
 ) -> u64
-    ensures { λ r. ⌜ Filed (typedOf (now (survival .entry)) (now (weights .entry)) (now (systems .entry))) (now (room .entry)) (now (room .exit)) r ⌝ }
+    ensures { λ r. ⌜ Filed (typedOf version (now (survival .entry)) (now (weights .entry)) (now (systems .entry))) (now (room .entry)) (now (room .exit)) r ⌝ }
 {
-    pack(writer::write_deck(survival, weights, systems, room))
+    pack(writer::write_deck(version, survival, weights, systems, room))
 }

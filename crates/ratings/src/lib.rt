@@ -17,10 +17,11 @@ fn rule_of(kind: u64, first: u64, second: u64) -> Rule
     }
 }
 
-// In C: `uint64_t foambeetle_figures(uint64_t kind, uint64_t first, uint64_t second, uint64_t a, uint64_t b,
+// In C: `uint64_t foambeetle_figures(uint64_t version, uint64_t kind, uint64_t first, uint64_t second, uint64_t a, uint64_t b,
 // const uint32_t *survival, size_t n, const uint16_t *weights, size_t weighed, const uint64_t *more, size_t further, uint64_t *table, size_t cells)`.
 #[no_mangle]
 pub extern "C" fn foambeetle_figures(
+    version: u64,
     kind: u64,
     first: u64,
     second: u64,
@@ -31,17 +32,18 @@ pub extern "C" fn foambeetle_figures(
     more: &[u64],
     table: &mut [u64],
 ) -> u64
-    ensures { λ r. ⌜ Timed (askedOf (ruleOf kind first second) a b (now (survival .entry)) (now (weights .entry)) (now (more .entry))) (now (table .entry)) (now (table .exit)) r ⌝ }
+    ensures { λ r. ⌜ Timed (askedOf version (ruleOf kind first second) a b (now (survival .entry)) (now (weights .entry)) (now (more .entry))) (now (table .entry)) (now (table .exit)) r ⌝ }
 {
     let rule = rule_of(kind, first, second);
-    loading::pack(figures::figures(rule, a, b, survival, weights, more, table))
+    loading::pack(figures::figures(version, rule, a, b, survival, weights, more, table))
 }
 
-// The worth of a fan, likewise. In C: `uint64_t foambeetle_worth_of(uint64_t kind, uint64_t first, uint64_t second, uint64_t a, uint64_t b, uint64_t fan,
+// The worth of a fan, likewise. In C: `uint64_t foambeetle_worth_of(uint64_t version, uint64_t kind, uint64_t first, uint64_t second, uint64_t a, uint64_t b, uint64_t fan,
 // const uint32_t *survival, size_t n, const uint16_t *weights, size_t weighed, const uint64_t *more, size_t further, uint64_t *table, size_t cells,
 // int64_t ends[2])`.
 #[no_mangle]
 pub extern "C" fn foambeetle_worth_of(
+    version: u64,
     kind: u64,
     first: u64,
     second: u64,
@@ -54,11 +56,11 @@ pub extern "C" fn foambeetle_worth_of(
     table: &mut [u64],
     ends: &mut [i64; 2],
 ) -> u64
-    ensures { λ r. ⌜ TimedWorth (askedOf (ruleOf kind first second) a b (now (survival .entry)) (now (weights .entry)) (now (more .entry))) fan (now (table .entry)) (now (table .exit)) (now (ends .entry)) (now (ends .exit)) r ⌝ }
+    ensures { λ r. ⌜ TimedWorth (askedOf version (ruleOf kind first second) a b (now (survival .entry)) (now (weights .entry)) (now (more .entry))) fan (now (table .entry)) (now (table .exit)) (now (ends .entry)) (now (ends .exit)) r ⌝ }
 {
     let rule = rule_of(kind, first, second);
     loading::tell(
-        worth::worth(rule, a, b, fan, survival, weights, more, table),
+        worth::worth(version, rule, a, b, fan, survival, weights, more, table),
         ends,
     )
 }

@@ -1,11 +1,15 @@
--- The figures of a deck's system are values of a memory, and stay within the unit. Assumes nothing.
-use mathlib.Core.Bool.{true, false}
+-- The figures of a deck's system are values of a memory, and stay within their decimal, which is at most 2^30. Assumes nothing.
+use mathlib.Core.Bool.{Bool, true, false}
 use mathlib.Core.List.{List}
-use Prim.Native.Nat.{ℕ}
+use Prim.Native.Nat.{ℕ, _≤_}
+use native.Mathlib.Nat.{le-trans}
 use Rattle.rules.specs.declared.Rating.the-variants.{Refused}
-use Rattle.rules.specs.Asked.{Asked}
+use Rattle.rules.specs.State.{S}
+use Rattle.rules.specs.Figure.{figure}
+use Rattle.rules.specs.Asked.{Asked, unitIn, partOf, readOf}
 use Rattle.rules.specs.Answer.{figuresOf}
 use Rattle.rules.specs.File.{systemOf}
+use Rattle.rules.proofs.Units.{unit-some, unit-most}
 use Rattle.rules.proofs.Unless.{unless-by}
 use Rattle.rules.proofs.Conditions.{figure-within}
 use Rattle.rules.proofs.Accepted.{figures-ratable}
@@ -19,7 +23,8 @@ figures-within q table =
     unless-by WithinUnit _ Refused _ tt
     (λ e.
     let units = figures-ratable q table e .2 .units in
-    (figure-within false (q .rule) _ _ units, figure-within true (q .rule) _ _ units))
+    let within : (up : Bool) → figure up (unitIn q) (q .rule) (partOf q) (readOf q) ≤ S = λ up. le-trans (figure-within up (unit-some (q .version)) (q .rule) _ _ units) (unit-most (q .version)) in
+    (within false, within true))
 
 pub answer-within : (d : Deck) (s : ℕ) → WithinUnit (answerAt d s)
 unfolding answerAt systemOf

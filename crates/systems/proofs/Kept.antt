@@ -8,7 +8,7 @@ use Rattle.rules.specs.Asked.{askedOf}
 use Rattle.rules.specs.Refusal.{cells}
 use Rattle.rules.specs.Answer.{figuresOf}
 use Rattle.rules.specs.Worth.{worthOf}
-use Rattle.rules.specs.File.{countIn, deckIn, fileRefusal, systemOf, systemWorth, answerIn, worthIn}
+use Rattle.rules.specs.File.{versionIn, countIn, deckIn, fileRefusal, systemOf, systemWorth, answerIn, worthIn}
 use Rattle.rules.proofs.Lists.{below-length}
 use Rattle.deck.specs.Read.{padded, noSystem, keptDeck}
 use Rattle.deck.proofs.Kept.{kept-survival, kept-weights, kept-system}
@@ -17,17 +17,17 @@ use Rattle.systems.specs.Arrays.{answerAt, worthAt, Held}
 
 module _ (bytes : List ℕ) (s : ℕ) where
   pub kept-answer : s < countIn bytes → answerAt (keptDeck bytes) s ≡ answerIn bytes s
-  unfolding answerAt systemOf keptDeck
+  unfolding answerAt systemOf keptDeck deckIn
   kept-answer h =
       let y = getD (keptDeck bytes .systems) s noSystem in
-      ap₂ (λ xs ws. figuresOf (askedOf (y .rule) (y .a) (y .b) xs ws []) (replicate cells 0)) (kept-survival bytes) (kept-weights bytes)
+      ap₂ (λ xs ws. figuresOf (askedOf (versionIn bytes) (y .rule) (y .a) (y .b) xs ws []) (replicate cells 0)) (kept-survival bytes) (kept-weights bytes)
       ∙ ap (systemOf (deckIn bytes)) (kept-system bytes noSystem s h)
 
   pub kept-worth : (fan : ℕ) → s < countIn bytes → worthAt (keptDeck bytes) s fan ≡ worthIn bytes s fan
-  unfolding worthAt systemWorth keptDeck
+  unfolding worthAt systemWorth keptDeck deckIn
   kept-worth fan h =
       let y = getD (keptDeck bytes .systems) s noSystem in
-      ap₂ (λ xs ws. worthOf (askedOf (y .rule) (y .a) (y .b) xs ws []) fan (replicate cells 0)) (kept-survival bytes) (kept-weights bytes)
+      ap₂ (λ xs ws. worthOf (askedOf (versionIn bytes) (y .rule) (y .a) (y .b) xs ws []) fan (replicate cells 0)) (kept-survival bytes) (kept-weights bytes)
       ∙ ap (λ z. systemWorth (deckIn bytes) z fan) (kept-system bytes noSystem s h)
 
   pub kept-held : fileRefusal bytes ≡ 0 → s < countIn bytes → Held (keptDeck bytes) s

@@ -11,6 +11,7 @@ use Rattle.deck.specs.Read.{noSystem}
 -- the first n or m entries of each array
 abbrev pub deckOf : Deck → file.Deck
 deckOf d = record {
+  version = d .version;
   survival = take (d .fans) (d .survival);
   weights = take (d .fans) (d .weights);
   systems = take (d .count) (d .systems);

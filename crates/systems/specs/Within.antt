@@ -1,4 +1,4 @@
--- An answer whose figures are within the unit.
+-- An answer whose figures are within the larger unit.
 use Prim.Native.Nat.{_≤_}
 use Rattle.rules.specs.State.{S}
 use Rattle.rules.specs.declared.Rating.{Rating}

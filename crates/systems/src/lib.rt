@@ -17,18 +17,18 @@ use rules::System;
 use rules::Worth;
 
 // A system's figures over a deck's lists, in a working table of the call's own, which nobody sees after it and nobody clears.
-fn rate_lists(system: System, survival: &[u32], weights: &[u16]) -> Rating
-    ensures { λ r. ⌜ r ≡ figuresOf (askedOf (system .rule) (system .a) (system .b) (now (survival .entry)) (now (weights .entry)) []) (replicate cells 0) ⌝ }
+fn rate_lists(version: u64, system: System, survival: &[u32], weights: &[u16]) -> Rating
+    ensures { λ r. ⌜ r ≡ figuresOf (askedOf version (system .rule) (system .a) (system .b) (now (survival .entry)) (now (weights .entry)) []) (replicate cells 0) ⌝ }
 {
     let mut table = [0u64; CELLS];
     let rule = system.rule;
     let a = system.a;
     let b = system.b;
-    let refused = figures::refusal(rule, a, b, survival, weights, &NO_MORE, &table);
+    let refused = figures::refusal(version, rule, a, b, survival, weights, &NO_MORE, &table);
     if refused != 0 {
         return Rating::Refused(refused);
     }
-    figures::rate(rule, a, b, survival, weights, &NO_MORE, &mut table)
+    figures::rate(version, rule, a, b, survival, weights, &NO_MORE, &mut table)
 }
 
 // The figures of the system at a place of a deck, counted from 0.
@@ -40,22 +40,42 @@ pub fn rate_system(deck: Deck, s: usize) -> Rating
     let survival = deck.survival;
     let weights = deck.weights;
     let system = deck.systems[s];
-    rate_lists(system, &survival[..n], &weights[..n])
+    rate_lists(deck.version, system, &survival[..n], &weights[..n])
 }
 
 // The worth of a fan over a deck's lists, likewise.
-fn weigh_lists(system: System, fan: u64, survival: &[u32], weights: &[u16]) -> Worth
-    ensures { λ r. ⌜ r ≡ worthOf (askedOf (system .rule) (system .a) (system .b) (now (survival .entry)) (now (weights .entry)) []) fan (replicate cells 0) ⌝ }
+fn weigh_lists(version: u64, system: System, fan: u64, survival: &[u32], weights: &[u16]) -> Worth
+    ensures { λ r. ⌜ r ≡ worthOf (askedOf version (system .rule) (system .a) (system .b) (now (survival .entry)) (now (weights .entry)) []) fan (replicate cells 0) ⌝ }
 {
     let mut working = [0u64; CELLS];
     let rule = system.rule;
     let a = system.a;
     let b = system.b;
-    let refused = worth::refusal(rule, a, b, fan, survival, weights, &NO_MORE, &working);
+    let refused = worth::refusal(
+        version,
+        rule,
+        a,
+        b,
+        fan,
+        survival,
+        weights,
+        &NO_MORE,
+        &working,
+    );
     if refused != 0 {
         return Worth::Refused(refused);
     }
-    worth::weigh(rule, a, b, fan, survival, weights, &NO_MORE, &mut working)
+    worth::weigh(
+        version,
+        rule,
+        a,
+        b,
+        fan,
+        survival,
+        weights,
+        &NO_MORE,
+        &mut working,
+    )
 }
 
 // The worth of a fan to the system at a place of a deck, counted from 0.
@@ -67,7 +87,13 @@ pub fn worth_system(deck: Deck, s: usize, fan: u64) -> Worth
     let survival = deck.survival;
     let weights = deck.weights;
     let system = deck.systems[s];
-    weigh_lists(system, fan, &survival[..fans], &weights[..fans])
+    weigh_lists(
+        deck.version,
+        system,
+        fan,
+        &survival[..fans],
+        &weights[..fans],
+    )
 }
 
 // The figures of the system at a place of a file that is not refused, counted from 0. Only the lists are copied from the file's bytes.
@@ -75,11 +101,12 @@ pub fn rate_in(file: &[u8], s: usize) -> Rating
     requires { ⌜ Placed (now file) s ⌝ }
     ensures { λ r. ⌜ r ≡ answerIn (now (file .entry)) s ⌝ }
 {
+    let version = deck::version_in(file);
     let n = deck::fans_in(file);
     let survival = deck::survival_in(file);
     let weights = deck::weights_in(file);
     let system = deck::system_in(file, s);
-    rate_lists(system, &survival[..n], &weights[..n])
+    rate_lists(version, system, &survival[..n], &weights[..n])
 }
 
 // The worth of a fan to it, likewise.
@@ -87,9 +114,10 @@ pub fn weigh_in(file: &[u8], s: usize, fan: u64) -> Worth
     requires { ⌜ Placed (now file) s ⌝ }
     ensures { λ r. ⌜ r ≡ worthIn (now (file .entry)) s fan ⌝ }
 {
+    let version = deck::version_in(file);
     let n = deck::fans_in(file);
     let survival = deck::survival_in(file);
     let weights = deck::weights_in(file);
     let system = deck::system_in(file, s);
-    weigh_lists(system, fan, &survival[..n], &weights[..n])
+    weigh_lists(version, system, fan, &survival[..n], &weights[..n])
 }

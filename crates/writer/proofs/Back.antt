@@ -35,6 +35,7 @@ module _ (t : Typed) (room : List ℕ) (small : Typable t) (none : writeRefusal 
   typed-bounds =
       let w = writable t room none in
       record {
+        versioned = w .versioned;
         some-fan = w .some-fan;
         most-fans = w .most-fans;
         weighed = w .weighed;
@@ -60,7 +61,7 @@ module _ (t : Typed) (room : List ℕ) (small : Typable t) (none : writeRefusal 
 
 -- a deck typed as it stands is that deck, and not refused where the room is long enough
 typed-back : (d : Deck) → deckOf (typedFrom d) ≡ d
-typed-back d = λ x. record { survival = d .survival; weights = d .weights; systems = listed-systems (d .systems) x }
+typed-back d = λ x. record { version = d .version; survival = d .survival; weights = d .weights; systems = listed-systems (d .systems) x }
 
 not-refused : (d : Deck) (room : List ℕ) → Bounds d → length (fileOf d) ≤ length room → writeRefusal (typedFrom d) room ≡ 0
 unfolding writeRefusal firstOf
@@ -69,6 +70,7 @@ not-refused d room ok fits =
     let m : count t ≡ length (d .systems) = omega (arith, numbers-length (d .systems)) in
     let whole : length (t .numbers) % perSystem ≡ 0 = omega (arith, numbers-length (d .systems)) in
     simp (
+      ok .versioned,
       le-leb _ _ (ok .some-fan),
       le-leb _ _ (ok .most-fans),
       eq-eqb _ _ (ok .weighed),

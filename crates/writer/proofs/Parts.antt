@@ -16,7 +16,7 @@ module _ (t : Typed) (room : List ℕ) (w : Writable t room) where
   abbrev n : ℕ
   n = length (t .survival)
 
-  pub file-laid : {first second third last : List ℕ} → first ≡ laid 0 (headerOf n (count t)) room
+  pub file-laid : {first second third last : List ℕ} → first ≡ laid 0 (headerOf (t .version) n (count t)) room
       → second ≡ laid survivalOffset (allBytes survivalBytes (t .survival)) first
       → third ≡ laid (weightsOffset n) (allBytes weightBytes (t .weights)) second
       → last ≡ laid (systemsOffset n) (allBytes 2 (t .numbers)) third
@@ -25,8 +25,8 @@ module _ (t : Typed) (room : List ℕ) (w : Writable t room) where
   file-laid {first} {second} {third} {last} header survival weights systems =
       let d = deckOf t in
       let m = length (d .systems) in
-      let counted : first ≡ laid 0 (headerOf n m) room = rw (count-is t) header in
+      let counted : first ≡ laid 0 (headerOf (t .version) n m) room = rw (count-is t) header in
       let listed : last ≡ laid (systemsOffset n) (allBytes 2 (systemNumbers (d .systems))) third = rw (listed-numbers (t .numbers) (w .whole)) systems in
-      let one = laid-next 0 survivalOffset room (headerOf n m) _ counted survival (omega (arith, header-length n m)) (omega arith) in
+      let one = laid-next 0 survivalOffset room (headerOf (t .version) n m) _ counted survival (omega (arith, header-length (t .version) n m)) (omega arith) in
       let two = laid-next 0 (weightsOffset n) room (toWeights d) _ one weights (omega (arith, weights-from d)) (omega arith) in
       laid-next 0 (systemsOffset n) room (toSystems d) _ two listed (omega (arith, systems-from d, w .weighed)) (omega arith)

@@ -6,6 +6,7 @@ use Prim.Native.Nat.{ℕ, _/_, _%_, _≤_}
 use lib.Dec.{eqb}
 use lib.ListN.{length}
 use borrow.Author.Tests.{ltb-false, eqb-true, not-false}
+use Rattle.rules.specs.Refusal.{badVersion}
 use Rattle.rules.specs.File.{mostFans, mostSystems, perSystem, systemsOf, fileLength}
 use Rattle.rules.specs.Writing.{Typed, deckOf, bytesFor, badFives, writeRefusal}
 use Rattle.rules.proofs.Lists.{below-length}
@@ -34,6 +35,7 @@ fives numbers e =
     (eqb-true _ _ (parts .0), systems .0, systems .1)
 
 pub record Writable (t : Typed) (room : List ℕ) : Type 0 where
+  pub versioned : badVersion (t .version) ≡ false
   pub some-fan : 1 ≤ length (t .survival)
   pub most-fans : length (t .survival) ≤ mostFans
   pub weighed : length (t .weights) ≡ length (t .survival)
@@ -45,13 +47,15 @@ pub record Writable (t : Typed) (room : List ℕ) : Type 0 where
 pub writable : (t : Typed) (room : List ℕ) → writeRefusal t room ≡ 0 → Writable t room
 unfolding writeRefusal
 writable t room e =
-    let size = none-first 1 _ _ e in
+    let version = none-first 10 _ _ e in
+    let size = none-first 1 _ _ (version .1) in
     let weights = none-first 4 _ _ (size .1) in
     let twelve = none-first 11 _ _ (weights .1) in
     let short = none-first 15 _ _ (twelve .1) in
     let fans = within-true 1 (length (t .survival)) mostFans (not-false _ (size .0)) in
     let systems = fives (length (t .numbers)) (twelve .0) in
     record {
+      versioned = version .0;
       some-fan = fans .0;
       most-fans = fans .1;
       weighed = eqb-true _ _ (not-false _ (weights .0));

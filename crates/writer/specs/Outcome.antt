@@ -1,9 +1,11 @@
 -- What the writer answers, and what it leaves in the lent room.
 use mathlib.Core.Path.{_≡_}
+use mathlib.Core.Bool.{false}
 use mathlib.Core.List.{List}
 use Prim.Native.Nat.{ℕ, _≤_}
 use lib.ListN.{length}
 use Rattle.rules.specs.declared.Writing.{Writing}
+use Rattle.rules.specs.Refusal.{badVersion}
 use Rattle.rules.specs.File.{headerLength, mostFans, mostSystems}
 use Rattle.rules.specs.Writing.{Typed, bytesFor, writeRefusal, Writes, roomWritten}
 
@@ -11,8 +13,9 @@ pub record Wrote (t : Typed) (room after : List ℕ) (r : Writing) : Type 0 wher
   pub answered : Writes r (writeRefusal t room) (length (bytesFor t))
   pub written : after ≡ roomWritten t room
 
--- a header of n fans and m systems that the room has place for
-pub record Heads (n m : ℕ) (room : List ℕ) : Type 0 where
+-- a header of a version that there is, n fans and m systems, that the room has place for
+pub record Heads (version n m : ℕ) (room : List ℕ) : Type 0 where
+  pub versioned : badVersion version ≡ false
   pub few : n ≤ mostFans
   pub fewer : m ≤ mostSystems
   pub fits : headerLength ≤ length room

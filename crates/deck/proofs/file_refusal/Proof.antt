@@ -7,7 +7,7 @@ use borrow.Author.Needs.{needs}
 use borrow.Author.Tests.{lt-ltb, le-ltb}
 use Rattle.rules.specs.Below.{within}
 use Rattle.rules.specs.Refusal.{badSize, firstOf}
-use Rattle.rules.specs.File.{fansIn, badVersion, badSystems, badLayout, fileRefusal}
+use Rattle.rules.specs.File.{fansIn, badStart, badSystems, badLayout, fileRefusal}
 use Rattle.rules.proofs.Accepted.{first-of, first-after}
 use Rattle.deck.proofs.file_refusal.Statement.{statement}
 use Rattle.deck.proofs.file_refusal.Tie as tie
@@ -23,7 +23,7 @@ abbrev from2 : List ℕ → List (ℕ × Bool)
 from2 bytes = (2, badSize (fansIn bytes)) ∷ from12 bytes
 
 abbrev from11 : List ℕ → List (ℕ × Bool)
-from11 bytes = (11, badVersion bytes) ∷ from2 bytes
+from11 bytes = (11, badStart bytes) ∷ from2 bytes
 
 -- the refusal is that of the checks that are left
 abbrev Left : (List ℕ → List (ℕ × Bool)) → List ℕ → Type 0
@@ -34,7 +34,7 @@ unfolding fileRefusal
 left11 c = first-after 10 _ _ (le-ltb _ _ (c .if1 .left))
 
 left2 : (c : tie.Else2) → Left from2 (c .before .before .before .before .args .bytes .now)
-left2 c = left11 (c .before .before) ∙ first-after 11 _ _ (sym (c .before .bad-version .ensures) ∙ c .if2 .left)
+left2 c = left11 (c .before .before) ∙ first-after 11 _ _ (sym (c .before .bad-start .ensures) ∙ c .if2 .left)
 
 size : (c : tie.After-outside) → badSize (fansIn (c .before .before .before .before .before .before .args .bytes .now)) ≡ c .outside .result
 size c = ap badSize (sym (c .before .number2 .ensures)) ∙ sym (c .outside .ensures)
@@ -53,11 +53,11 @@ returns : tie.Need-returns
 unfolding fileRefusal
 returns c = record { refusal = sym (first-of 10 _ _ (lt-ltb _ _ (c .if1 .taken))) }
 
-bad-version-requires : tie.Need-bad-version-requires
-bad-version-requires c κs = search needs
+bad-start-requires : tie.Need-bad-start-requires
+bad-start-requires c κs = search needs
 
 returns-2 : tie.Need-returns-2
-returns-2 c = record { refusal = sym (left11 (c .before .before) ∙ first-of 11 _ _ (sym (c .before .bad-version .ensures) ∙ c .if2 .taken)) }
+returns-2 c = record { refusal = sym (left11 (c .before .before) ∙ first-of 11 _ _ (sym (c .before .bad-start .ensures) ∙ c .if2 .taken)) }
 
 number2-requires : tie.Need-number2-requires
 number2-requires c κs = search needs
@@ -92,7 +92,7 @@ file-refusal-spec =
     tie.close
     (tie.spec
     returns
-    bad-version-requires
+    bad-start-requires
     returns-2
     number2-requires
     outside-requires

@@ -13,7 +13,7 @@ no-system-requires c κs = search needs
 returns : tie.Need-returns
 returns c =
     ap
-    (λ (s : System). record { fans = 0; count = 0; survival = replicate mostFans 0; weights = replicate mostFans 0; systems = replicate mostSystems s })
+    (λ (s : System). record { version = 0; fans = 0; count = 0; survival = replicate mostFans 0; weights = replicate mostFans 0; systems = replicate mostSystems s })
     (c .no-system .ensures)
 
 pub no-deck-spec : {M : Type 1} → statement M

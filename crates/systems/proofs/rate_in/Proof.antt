@@ -8,34 +8,37 @@ use borrow.Author.Needs.{needs}
 use Rattle.rules.specs.Asked.{askedOf}
 use Rattle.rules.specs.Refusal.{cells}
 use Rattle.rules.specs.Answer.{figuresOf}
-use Rattle.rules.specs.File.{systemOf}
+use Rattle.rules.specs.File.{deckIn, systemOf}
 use Rattle.deck.proofs.Sound.{sound}
 use Rattle.deck.proofs.Kept.{kept-survival, kept-weights}
 use Rattle.systems.proofs.rate_in.Statement.{statement}
 use Rattle.systems.proofs.rate_in.Tie as tie
 
+version-in-requires : tie.Need-version-in-requires
+version-in-requires c κs = c .before .pre .accepted
+
 fans-in-requires : tie.Need-fans-in-requires
-fans-in-requires c κs = c .before .pre .accepted
+fans-in-requires c κs = c .before .before .pre .accepted
 
 survival-in-requires : tie.Need-survival-in-requires
-survival-in-requires c κs = c .before .before .pre .accepted
+survival-in-requires c κs = c .before .before .before .pre .accepted
 
 weights-in-requires : tie.Need-weights-in-requires
-weights-in-requires c κs = c .before .before .before .pre .accepted
+weights-in-requires c κs = c .before .before .before .before .pre .accepted
 
 system-in-requires : tie.Need-system-in-requires
 system-in-requires c κs = search needs
 
 array-share-prefix-survival : tie.Need-array-share-prefix-survival
 array-share-prefix-survival c =
-    omega (arith, c .before .before .before .fans-in .ensures, sound _ (c .before .before .before .before .before .pre .accepted) .most-fans)
+    omega (arith, c .before .before .before .fans-in .ensures, sound _ (c .before .before .before .before .before .before .pre .accepted) .most-fans)
 
 slice-aggregate-rate-lists : tie.Need-slice-aggregate-rate-lists
 slice-aggregate-rate-lists c = sym (length-take-le _ _ (array-share-prefix-survival (c .before)))
 
 array-share-prefix-weights : tie.Need-array-share-prefix-weights
 array-share-prefix-weights c =
-    omega (arith, c .before .before .before .before .fans-in .ensures, sound _ (c .before .before .before .before .before .before .pre .accepted) .most-fans)
+    omega (arith, c .before .before .before .before .fans-in .ensures, sound _ (c .before .before .before .before .before .before .before .pre .accepted) .most-fans)
 
 slice-aggregate-rate-lists-2 : tie.Need-slice-aggregate-rate-lists-2
 slice-aggregate-rate-lists-2 c = sym (length-take-le _ _ (array-share-prefix-weights (c .before)))
@@ -44,19 +47,21 @@ rate-lists-requires : tie.Need-rate-lists-requires
 rate-lists-requires c κs = search needs
 
 returns : tie.Need-returns
-unfolding systemOf
+unfolding systemOf deckIn
 returns c =
-    let bytes = c .before .before .before .before .before .before .before .before .args .file .now in
+    let bytes = c .before .before .before .before .before .before .before .before .before .args .file .now in
+    let version = c .before .before .before .before .before .before .before .version-in .ensures in
     let n = c .before .before .before .before .before .before .fans-in .ensures in
     let survival = ap₂ take n (c .before .before .before .before .before .survival-in .ensures) ∙ kept-survival bytes in
     let weights = ap₂ take n (c .before .before .before .before .weights-in .ensures) ∙ kept-weights bytes in
     let system = c .before .before .before .system-in .ensures in
-    c .rate-lists .ensures ∙ (λ i. figuresOf (askedOf (system i .rule) (system i .a) (system i .b) (survival i) (weights i) []) (replicate cells 0))
+    c .rate-lists .ensures ∙ (λ i. figuresOf (askedOf (version i) (system i .rule) (system i .a) (system i .b) (survival i) (weights i) []) (replicate cells 0))
 
 pub rate-in-spec : {M : Type 1} → statement M
 rate-in-spec =
     tie.close
     (tie.spec
+    version-in-requires
     fans-in-requires
     survival-in-requires
     weights-in-requires

@@ -21,7 +21,7 @@ sound t room none =
 put-header-requires : tie.Need-put-header-requires
 put-header-requires c κs =
     let s = sound _ _ (c .before .before .before .before .before .pre) in
-    record { few = s .0 .most-fans; fewer = s .0 .most-systems; fits = omega (arith, s .1) }
+    record { versioned = s .0 .versioned; few = s .0 .most-fans; fewer = s .0 .most-systems; fits = omega (arith, s .1) }
 
 put-all4-requires : tie.Need-put-all4-requires
 put-all4-requires c κs = omega (arith, sound _ _ (c .before .before .before .before .before .before .before .before .before .pre) .1)
