@@ -14,22 +14,22 @@ use Rattle.decklist.specs.Lines.{endText, endRoom, ratingText, ratingRoo
 pub head-short : (n m : ℕ) → length (headText n m) ≤ headRoom
 head-short n m = simp length-append (omega (arith, decimal-short n, decimal-short m))
 
-end-short : (percent : Bool) (low high : ℕ) → length (endText percent low high) ≤ endRoom
-end-short false low high = omega arith
-end-short true low high =
-    omega (arith, length-append (rangeText low high) (text "\n"), range-short low high)
+end-short : (percent : Bool) (u low high : ℕ) → length (endText percent u low high) ≤ endRoom
+end-short false u low high = omega arith
+end-short true u low high =
+    omega (arith, length-append (rangeText u low high) (text "\n"), range-short u low high)
 
-rating-short : (percent : Bool) (r : Rating) → length (ratingText percent r) ≤ ratingRoom
-rating-short percent (Range low high) =
-    simp length-append (omega (arith, decimal-short low, decimal-short high, end-short percent low high))
-rating-short percent (Refused number) = simp length-append (omega (arith, decimal-short number))
+rating-short : (percent : Bool) (u : ℕ) (r : Rating) → length (ratingText percent u r) ≤ ratingRoom
+rating-short percent u (Range low high) =
+    simp length-append (omega (arith, decimal-short low, decimal-short high, end-short percent u low high))
+rating-short percent u (Refused number) = simp length-append (omega (arith, decimal-short number))
 
-line-short : (percent : Bool) (s : ℕ) (r : Rating) → length (lineText percent s r) ≤ lineRoom
-line-short percent s r = simp length-append (omega (arith, decimal-short s, rating-short percent r))
+line-short : (percent : Bool) (u s : ℕ) (r : Rating) → length (lineText percent u s r) ≤ lineRoom
+line-short percent u s r = simp length-append (omega (arith, decimal-short s, rating-short percent u r))
 
-pub lines-short : (percent : Bool) (m : ℕ) (answer : ℕ → Rating) → length (linesText percent m answer) ≤ lineRoom * m
+pub lines-short : (percent : Bool) (u m : ℕ) (answer : ℕ → Rating) → length (linesText percent u m answer) ≤ lineRoom * m
 unfolding linesText
-lines-short percent zero answer = omega arith
-lines-short percent (suc m) answer =
-    let line = lineText percent (suc m) (answer m) in
-    omega (arith, length-append (linesText percent m answer) line, lines-short percent m answer, line-short percent (suc m) (answer m))
+lines-short percent u zero answer = omega arith
+lines-short percent u (suc m) answer =
+    let line = lineText percent u (suc m) (answer m) in
+    omega (arith, length-append (linesText percent u m answer) line, lines-short percent u m answer, line-short percent u (suc m) (answer m))

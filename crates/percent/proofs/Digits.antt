@@ -39,8 +39,8 @@ percent-short name m = simp length-append (omega (arith, decimal-short (m / mill
 pub percent-reach : {out after : List ℕ} {at end : ℕ} (name : List ℕ) (m : ℕ) → Added (percentText name m) out at after end → end ≤ at + percentRoom name
 percent-reach name m added = omega (arith, added .ends, percent-short name m)
 
-pub range-short : (low high : ℕ) → length (rangeText low high) ≤ rangeRoom
-range-short low high =
-    let l = percentText (text " ") (percentOf false low) in
-    let h = percentText (text " to ") (percentOf true high) in
-    omega (arith, length-append l h, percent-short (text " ") (percentOf false low), percent-short (text " to ") (percentOf true high))
+pub range-short : (u low high : ℕ) → length (rangeText u low high) ≤ rangeRoom
+range-short u low high =
+    let l = percentText (text " ") (percentOf u false low) in
+    let h = percentText (text " to ") (percentOf u true high) in
+    omega (arith, length-append l h, percent-short (text " ") (percentOf u false low), percent-short (text " to ") (percentOf u true high))

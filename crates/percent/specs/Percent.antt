@@ -3,7 +3,6 @@
 use mathlib.Core.Bool.{Bool, true, false}
 use mathlib.Core.List.{List, [], _∷_, _++_}
 use Prim.Native.Nat.{ℕ, zero, suc, _+_, _*_, _/_, _%_, _^_, _≤_, _<_}
-use Rattle.rules.specs.State.{S}
 use Rattle.rules.specs.Figure.{rounded}
 use Rattle.text.specs.Decimal.{text}
 use Rattle.text.specs.Lines.{named, namedRoom}
@@ -18,9 +17,9 @@ million = 10 ^ pointDigits
 abbrev pub wholePercent : ℕ
 wholePercent = 100 * million
 
--- a figure over 2^30 in millionths of a percent, rounded down or up
-abbrev pub percentOf : (up : Bool) (figure : ℕ) → ℕ
-percentOf up figure = rounded up S (figure * wholePercent)
+-- a figure over its unit u in millionths of a percent, rounded down or up
+abbrev pub percentOf : (u : ℕ) (up : Bool) (figure : ℕ) → ℕ
+percentOf u up figure = rounded up u (figure * wholePercent)
 
 -- a number's last k digits, zeros in front where it has fewer
 unfoldable pub lastDigits : (k n : ℕ) → List ℕ
@@ -35,15 +34,15 @@ abbrev pub percentRoom : (name : List ℕ) → ℕ
 percentRoom name = namedRoom name + 1 + pointDigits + 1
 
 -- low and high
-abbrev pub rangeText : (low high : ℕ) → List ℕ
-rangeText low high = percentText (text " ") (percentOf false low) ++ percentText (text " to ") (percentOf true high)
+abbrev pub rangeText : (u low high : ℕ) → List ℕ
+rangeText u low high = percentText (text " ") (percentOf u false low) ++ percentText (text " to ") (percentOf u true high)
 
 abbrev pub rangeRoom : ℕ
 rangeRoom = percentRoom (text " ") + percentRoom (text " to ")
 
--- what the percents of low and high enclose: l / 10^6 <= 100 low / 2^30 and 100 high / 2^30 <= h / 10^6, each less than a millionth away
-pub record Enclosed (low high l h : ℕ) : Type 0 where
-  pub below-low : l * S ≤ low * wholePercent
-  pub near-low : low * wholePercent < (l + 1) * S
-  pub above-high : high * wholePercent ≤ h * S
-  pub near-high : h * S < high * wholePercent + S
+-- what the percents of low and high enclose: l / 10^6 <= 100 low / u and 100 high / u <= h / 10^6, each less than a millionth away
+pub record Enclosed (u low high l h : ℕ) : Type 0 where
+  pub below-low : l * u ≤ low * wholePercent
+  pub near-low : low * wholePercent < (l + 1) * u
+  pub above-high : high * wholePercent ≤ h * u
+  pub near-high : h * u < high * wholePercent + u

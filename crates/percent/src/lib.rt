@@ -3,9 +3,9 @@ ghost use mathlib.Core.Path.{_≡_};
 ghost use Prim.Native.Nat.{_+_, _≤_};
 ghost use lib.ListN.{length};
 ghost use Rattle.rules.specs.State.{S};
+ghost use Rattle.units.specs.Step.{whole};
 ghost use Rattle.text.specs.Added.{Added};
 ghost use Rattle.percent.specs.Percent.{pointDigits, percentOf, lastDigits, percentText, percentRoom, rangeText, rangeRoom};
-use units::UNIT;
 
 const MILLION: u64 = 1000000;
 
@@ -18,14 +18,14 @@ const POINT_DIGITS: usize = 6;
 const ZERO: u8 = 48;
 
 // A figure in millionths of a percent, rounded down or up.
-fn percent_of(up: bool, figure: u64) -> u64
+fn percent_of(decimal: bool, up: bool, figure: u64) -> u64
     requires { ⌜ figure ≤ S ⌝ }
-    ensures { λ r. ⌜ r ≡ percentOf up figure ⌝ }
+    ensures { λ r. ⌜ r ≡ percentOf (whole decimal) up figure ⌝ }
 {
     if up {
-        return (figure * WHOLE + (UNIT - 1)) / UNIT;
+        return units::over(decimal, figure * WHOLE + (units::whole(decimal) - 1));
     }
-    figure * WHOLE / UNIT
+    units::over(decimal, figure * WHOLE)
 }
 
 // A number's last six digits, zeros in front where it has fewer.
@@ -56,11 +56,11 @@ fn put_percent(name: &[u8], millionths: u64, out: &mut [u8], at: usize) -> usize
 }
 
 // ` L% to H%`, of low and high.
-pub fn put_range(low: u64, high: u64, out: &mut [u8], at: usize) -> usize
+pub fn put_range(decimal: bool, low: u64, high: u64, out: &mut [u8], at: usize) -> usize
     requires within { ⌜ (low ≤ S) × (high ≤ S) ⌝ }
     requires room { ⌜ at + rangeRoom ≤ length (now out) ⌝ }
-    ensures { λ r. ⌜ Added (rangeText low high) (now (out .entry)) at (now (out .exit)) r ⌝ }
+    ensures { λ r. ⌜ Added (rangeText (whole decimal) low high) (now (out .entry)) at (now (out .exit)) r ⌝ }
 {
-    let middle = put_percent(b" ", percent_of(false, low), out, at);
-    put_percent(b" to ", percent_of(true, high), out, middle)
+    let middle = put_percent(b" ", percent_of(decimal, false, low), out, at);
+    put_percent(b" to ", percent_of(decimal, true, high), out, middle)
 }

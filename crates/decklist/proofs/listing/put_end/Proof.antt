@@ -2,6 +2,7 @@
 use native.Mathlib.Omega.{arith}
 use borrow.Author.Tests.{not-true, not-false}
 use Rattle.text.proofs.Adding.{put-added, added-more}
+use Rattle.units.specs.Step.{whole}
 use Rattle.percent.proofs.Digits.{range-short}
 use borrow.Author.Needs.{needs}
 use Rattle.decklist.proofs.listing.put_end.Statement.{statement}
@@ -32,7 +33,7 @@ put-requires-2 : tie.Need-put-requires-2
 put-requires-2 c κs =
     let start = c .before .before .before .before .before .before .before .before in
     let range = c .before .before .before .before .put-range in
-    omega (arith, start .pre .1, range .kept, range .ensures .ends, range-short (start .args .low) (start .args .high))
+    omega (arith, start .pre .1, range .kept, range .ensures .ends, range-short (whole (start .args .decimal)) (start .args .low) (start .args .high))
 
 same-length-2 : tie.Need-same-length-2
 same-length-2 c = search needs
@@ -41,7 +42,7 @@ returns-2 : tie.Need-returns-2
 returns-2 c =
     let start = c .before .before .before .before .before .before .before .before .before .before .before in
     let range = c .before .before .before .before .before .before .before .put-range in
-    let room = range-short (start .args .low) (start .args .high) in
+    let room = range-short (whole (start .args .decimal)) (start .args .low) (start .args .high) in
     let asked = not-false (start .args .percent) (c .before .before .before .before .before .before .before .before .before .if1 .left) in
     rw asked
     (added-more (range .ensures) (put-added (omega (arith, start .pre .1, range .kept, range .ensures .ends, room)) (c .before .before .put2 .ensures)))
