@@ -1,13 +1,15 @@
-/* foambeetle.h: the loading computer's call, and the worth of one fan.
+/* foambeetle.h: the loading computer's call, the worth of one fan, and the unit of both.
  *
  * Link with libfoambeetle.a or libfoambeetle.so (x86-64), which need nothing but memcpy and memset. Each call reads a
  * deck file's bytes: foambeetle_rate rates one of its systems and answers one 64-bit number, foambeetle_worth tells what
- * one of its fans is worth to a system. A call writes nothing of the caller's but the two ends of a worth, keeps nothing
- * between calls, and may run in several threads at once. It uses up to 65,000 bytes of stack, 62,400 of them its working
- * table.
+ * one of its fans is worth to a system, foambeetle_unit what the figures of the file are parts of. A call writes nothing
+ * of the caller's but the two ends of a worth, keeps nothing between calls, and may run in several threads at once. It
+ * uses up to 65,000 bytes of stack, 62,400 of them its working table.
  *
- * Figures are parts of FOAMBEETLE_UNIT: the exact chance that the system works lies between low / 2^30 and
- * high / 2^30. So are the ends of a worth, which may be negative.
+ * Figures are parts of the file's unit, which its survival numbers are parts of too: FOAMBEETLE_UNIT (2^30) in a file of
+ * version 1, FOAMBEETLE_DECIMAL_UNIT (10^9) in one of version 2. With u for what foambeetle_unit answers of the file, the
+ * exact chance that the system works lies between low / u and high / u. So do the ends of a worth read, which may be
+ * negative: ends[0] / u and ends[1] / u.
  *
  * A refusal is a number of this table. 2 and 10 to 13 refuse the whole file, 14 the system number, 17 the fan's, and the
  * others the system alone:
@@ -15,12 +17,12 @@
  *    1  kind not 1..8
  *    2  number of fans 0 or above 64
  *    3  stretch: a = 0, b < a, or b above the number of fans
- *    4  a survival number above 2^30 in the stretch
+ *    4  a survival number above the file's unit in the stretch
  *    5  kind 2: the stretch's weights add up to more than 120
  *    6  first or second out of range; kind 6 takes a window of 2 to 64 over a stretch of any length, kind 8 a window of
  *       1 to 10 and no longer than the stretch
  *   10  file under 20 bytes
- *   11  version not 1, or the zero field not 0
+ *   11  version not 1 or 2, or the zero field not 0
  *   12  number of systems not 1..32
  *   13  an offset or the file's length differs from the layout
  *   14  system number 0 or above the file's count
@@ -39,12 +41,16 @@ extern "C" {
 /* The file VERSION. */
 #define FOAMBEETLE_VERSION "1.0.0"
 
-/* What a chance of 1 is. */
+/* What a chance of 1 is in a file of version 1, and in one of version 2. */
 #define FOAMBEETLE_UNIT 1073741824u
+#define FOAMBEETLE_DECIMAL_UNIT 1000000000u
 
-/* The figures of a system, counted from 1, of the deck file in `length` bytes from `file` on. `file` is not null, also
- * where `length` is 0. The answer is low times 2^32 plus high, or, for a refusal, (2^32 - 1) times 2^32 plus its
- * number: take it apart by the functions below. */
+/* The unit of the deck file in `length` bytes from `file` on, one of these two; 0 for a file that is refused. `file` is
+ * not null, also where `length` is 0. */
+uint64_t foambeetle_unit(const uint8_t *file, size_t length);
+
+/* The figures of a system, counted from 1, of the same file. The answer is low times 2^32 plus high, or, for a refusal,
+ * (2^32 - 1) times 2^32 plus its number: take it apart by the functions below. */
 uint64_t foambeetle_rate(const uint8_t *file, size_t length, uint64_t system);
 
 /* Is the answer a refusal? 1 or 0. */
@@ -59,7 +65,7 @@ static inline uint32_t foambeetle_refusal(uint64_t answer)
     return foambeetle_refused(answer) ? (uint32_t)(answer & 0xffffffffu) : 0u;
 }
 
-/* Low, of an answer that is no refusal: 0 to FOAMBEETLE_UNIT. */
+/* Low, of an answer that is no refusal: 0 to the file's unit. */
 static inline uint32_t foambeetle_low(uint64_t answer)
 {
     return (uint32_t)(answer >> 32);
@@ -72,9 +78,9 @@ static inline uint32_t foambeetle_high(uint64_t answer)
 }
 
 /* The worth of a fan to a system, both counted from 1, of the same file: the system's chance with that fan sure to work,
- * less its chance with it sure to fail. The exact difference lies between ends[0] / 2^30, the lower, and
- * ends[1] / 2^30, the upper; both run from -2^30 to 2^30, and they are at most 2n - 2 apart for a stretch of n fans. The
- * answer is 0 where they are written, and the refusal's number where nothing is. `ends` has room for two numbers. */
+ * less its chance with it sure to fail. With u for the file's unit, the exact difference lies between ends[0] / u, the
+ * lower, and ends[1] / u, the upper; both run from -u to u, and they are at most 2n - 2 apart for a stretch of n fans.
+ * The answer is 0 where they are written, and the refusal's number where nothing is. `ends` has room for two numbers. */
 uint64_t foambeetle_worth(const uint8_t *file, size_t length, uint64_t system, uint64_t fan, int64_t *ends);
 
 #ifdef __cplusplus

@@ -1,4 +1,4 @@
-"""Writes the sample deck files beside it: the scope document's example, and the three holds of a carrier."""
+"""Writes the sample deck files beside it: the scope document's example, and the four holds of a carrier."""
 
 import sys
 from pathlib import Path
@@ -62,7 +62,19 @@ def hold3():
     ])
 
 
-DECKS = (example, hold1, hold2, hold3)
+def hold4():
+    """12 fans of a maker who lists survival in parts per 1,000,000,000, as a file of version 2 does; the last four are of an older make."""
+    fans = [998_750_000] * 8 + [990_400_000] * 4
+    return Deck(fans, [2] * 12, [
+        System(Rule(1, 2, 0), 1, 12),
+        System(Rule(4, 2, 0), 1, 12),
+        System(Rule(7, 2, 3), 1, 12),
+        System(Rule(1, 1, 0), 9, 12),
+        System(Rule(8, 3, 5), 1, 12),
+    ], version=2)
+
+
+DECKS = (example, hold1, hold2, hold3, hold4)
 
 if __name__ == "__main__":
     for deck in DECKS:

@@ -3,6 +3,9 @@
 
 #include "foambeetle_office.h"
 
+/* Version 1, whose survival numbers are parts of FOAMBEETLE_UNIT. */
+static const uint64_t version = 1;
+
 /* Three fans, each as likely to last as not, and three systems: kind, first, second, and the first and last fan of the stretch. */
 static const uint32_t survival[] = {FOAMBEETLE_UNIT / 2, FOAMBEETLE_UNIT / 2, FOAMBEETLE_UNIT / 2};
 static const uint16_t weights[] = {0, 0, 0};
@@ -16,7 +19,7 @@ static const uint16_t systems[] = {
 
 int main(void) {
     static uint8_t file[FOAMBEETLE_LONGEST_FILE];
-    uint64_t answer = foambeetle_write(survival, COUNT(survival), weights, COUNT(weights), systems, COUNT(systems), file, sizeof file);
+    uint64_t answer = foambeetle_write(version, survival, COUNT(survival), weights, COUNT(weights), systems, COUNT(systems), file, sizeof file);
 
     if (foambeetle_refused(answer)) {
         fprintf(stderr, "refused %u\n", (unsigned)foambeetle_refusal(answer));

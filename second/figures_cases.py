@@ -1,7 +1,8 @@
 """Cases for the figures of a stretch; a whole list is its stretch 1 to n.
 
-Words of a case: call (0 the figures, 1 the worth of a fan), kind, first, second, a, b, fan (0 for the figures), room, seed, N, the survival
-numbers, W, the weights, M, the numbers of further pairs. second/worth_cases.py has the cases of call 1, which stand behind these in the same file.
+Words of a case: call (0 the figures, 1 the worth of a fan), version, kind, first, second, a, b, fan (0 for the figures), room, seed, N, the
+survival numbers, W, the weights, M, the numbers of further pairs. second/worth_cases.py has the cases of call 1, which stand behind these in the same
+file.
 """
 
 import random
@@ -9,17 +10,17 @@ from typing import NamedTuple
 
 import published
 from foambeetle import (
-    LONGEST_WINDOW, MOST_PAIRS, MOST_WEIGHT, PAIRS_KIND, SEVEN_KINDS, TABLE_CELLS, UNIT, Refusal, Rule, figures, working_table_after,
+    KINDS, LONGEST_WINDOW, MOST_PAIRS, MOST_WEIGHT, PAIRS_KIND, SEVEN_KINDS, TABLE_CELLS, UNIT, UNITS, Refusal, Rule, figures, working_table_after,
 )
 from samples import (
-    EDGE_SURVIVALS, HUGE, OVER_UNIT, all_rules, edge_rules, far_too_many_pairs, random_pairs, random_rule, random_stretch, random_survivals,
-    random_weights, rules_in_range, short_lines, two_windows, unread_more, unread_weights, weights_for, weights_of_total, wrong_further_pairs,
-    wrong_numbers_of_pairs, wrong_rules,
+    BINARY, DECIMAL, EDGE_SURVIVALS, HUGE, NO_VERSIONS, OVER_UNIT, all_rules, edge_rules, edges, far_too_many_pairs, over, random_pairs, random_rule,
+    random_stretch, random_survivals, random_weights, rule_for, rules_in_range, same_chances, short_lines, two_windows, unread_more, unread_weights,
+    weights_for, weights_of_total, wrong_further_pairs, wrong_numbers_of_pairs, wrong_rules,
 )
 from words import checksum, rubbish
 
 FIGURES = 0  # the word `call`
-ANSWERS_WANTED = {"low"} | {f"refused {number}" for number in range(1, 8)}
+ANSWERS_WANTED = {"low"} | {f"refused {number}" for number in (*range(1, 8), 11)}
 SEEDS = (0, 1, 3, 2 ** 32, 2 ** 63, 2 ** 64 - 1, 2685821657736338717)
 
 
@@ -31,13 +32,14 @@ class Case(NamedTuple):
     seed: int
     survivals: list
     weights: list
+    version: int = BINARY
 
     def words(self, call=FIGURES, fan=0):
-        return [call, *self.rule.numbers, self.a, self.b, fan, self.room, self.seed,
+        return [call, self.version, *self.rule.numbers, self.a, self.b, fan, self.room, self.seed,
                 len(self.survivals), *self.survivals, len(self.weights), *self.weights, len(self.rule.more), *self.rule.more]
 
     def answer(self):
-        return figures(self.rule, self.a, self.b, self.survivals, self.weights, self.room)
+        return figures(self.rule, self.a, self.b, self.survivals, self.weights, self.room, self.version)
 
     def line_of(self, answer, first, second):
         """The line of an answer whose two ends have these names."""
@@ -56,14 +58,14 @@ def published_cases():
     return [Case(one.rule, 1, len(one.survivals), TABLE_CELLS, SEEDS[1], one.survivals, one.weights) for one in published.FIGURES]
 
 
-def whole(rng, rule, survivals, weights):
+def whole(rng, rule, survivals, weights, version=BINARY):
     """A whole list, with a working table that is long enough."""
     room = rng.choice((TABLE_CELLS, TABLE_CELLS, 8000))
-    return Case(rule, 1, len(survivals), room, rng.choice(SEEDS), survivals, weights)
+    return Case(rule, 1, len(survivals), room, rng.choice(SEEDS), survivals, weights, version)
 
 
-def part(rng, rule, a, b, survivals, weights):
-    return whole(rng, rule, survivals, weights)._replace(a=a, b=b)
+def part(rng, rule, a, b, survivals, weights, version=BINARY):
+    return whole(rng, rule, survivals, weights, version)._replace(a=a, b=b)
 
 
 def small_cases(rng):
@@ -128,19 +130,19 @@ def weight_cases(rng):
             yield part(rng, Rule(2, 1, 0), 1, rng.randint(1, n), random_survivals(rng, n), weights)
 
 
-def stretch_case(rng, n):
+def stretch_case(rng, n, version=BINARY):
     """A stretch of a list of n fans; what stands outside must not be read."""
     # document 01, 'Stretches': "Components and weights outside it are not read"
     a, b = random_stretch(rng, n)
     kind = rng.choice(SEVEN_KINDS)
-    survivals = random_survivals(rng, n)
+    survivals = random_survivals(rng, n, UNITS[version])
     weights = random_weights(rng, n) if kind == 2 else unread_weights(rng)
     rule = random_rule(rng, kind, b - a + 1, sum(weights[a - 1:b])) or Rule(4, 1, 0)
     for outside in [*range(a - 1), *range(b, n)]:
-        survivals[outside] = rng.choice(OVER_UNIT + (7,))
+        survivals[outside] = rng.choice(over(UNITS[version]) + (7,))
         if kind == 2:
             weights[outside] = rng.choice((0, 121, 65535))
-    return part(rng, rule, a, b, survivals, weights)
+    return part(rng, rule, a, b, survivals, weights, version)
 
 
 def stretch_cases(rng):
@@ -221,9 +223,9 @@ def spoil(rng, case, damage):
     if damage == 3:
         return case._replace(a=rng.choice((0, case.b + 1)))
     if damage == 4:
-        over = list(case.survivals)
-        over[rng.randrange(n)] = rng.choice(OVER_UNIT)
-        return case._replace(survivals=over)
+        survivals = list(case.survivals)
+        survivals[rng.randrange(n)] = rng.choice(over(UNITS[case.version]))
+        return case._replace(survivals=survivals)
     if damage == 5:
         wrong = rng.choice(([], [121], [121] * n, [1] * (n + 1)))
         return case._replace(rule=Rule(2, 1, 0), weights=wrong)
@@ -349,10 +351,98 @@ def refit_cases(rng):
             yield whole(rng, rule, survivals, weights)
 
 
+def decimal_small_cases(rng):
+    """Version 2: every rule in range for n up to 3, of every kind."""
+    # document 02, request 08: "Conditions two and three read S as the file's own unit"
+    for n in range(1, 4):
+        weights = weights_of_total(rng, n, n + 1)
+        for rule in all_rules(n, sum(weights)):
+            read = weights if rule.kind == 2 else unread_weights(rng)
+            yield whole(rng, rule, random_survivals(rng, n, UNITS[DECIMAL]), read, DECIMAL)
+
+
+def decimal_long_cases(rng):
+    """Version 2: random rules for larger n, and 64 sound fans, where low and high stand well inside the range."""
+    unit = UNITS[DECIMAL]
+    for kind in KINDS:
+        for n in (rng.randint(5, 12), rng.randint(5, 12), rng.randint(13, 40)):
+            weights = weights_for(rng, kind, n)
+            yield whole(rng, rule_for(rng, kind, n, weights), random_survivals(rng, n, unit), weights, DECIMAL)
+        weights = weights_of_total(rng, 64, MOST_WEIGHT) if kind == 2 else []
+        survivals = [unit - rng.randrange(unit // 64) for _ in range(64)]
+        yield whole(rng, rules_in_range(kind, 64, MOST_WEIGHT)[3], survivals, weights, DECIMAL)
+
+
+def decimal_stretch_cases(rng):
+    """Version 2: stretches, with fans outside that only version 1's unit would let in, or neither."""
+    yield from (stretch_case(rng, rng.randint(1, 14), DECIMAL) for _ in range(30))
+
+
+def unit_cases(rng):
+    """All survival numbers at one edge of either unit, read in both versions."""
+    # document 02, request 08: "4 against the file's unit"
+    unit = UNITS[DECIMAL]
+    for kind in KINDS:
+        weights = [1, 2, 0] if kind == 2 else []
+        rule = rule_for(rng, kind, 3, weights)
+        yield from (whole(rng, rule, [survival] * 3, weights, DECIMAL) for survival in edges(unit) + over(unit))
+        yield from (whole(rng, rule, [survival] * 3, weights) for survival in (unit, unit + 1, UNIT))
+
+
+def lone_number_cases(rng):
+    """One survival number about either unit among fans sure to fail, inside or outside what is read, in both versions."""
+    for version in UNITS:
+        for survival in (more for unit in UNITS.values() for more in (unit - 1, unit, unit + 1)):
+            for place in range(3):
+                survivals = [0] * 3
+                survivals[place] = survival
+                yield part(rng, Rule(1, 2, 0), 2, 3, survivals, [], version)
+
+
+def decimal_refused_cases(rng):
+    """Version 2: one, two or three things wrong at once."""
+    for _ in range(50):
+        n = rng.choice((1, 2, 3, 5, 7))
+        a, b = random_stretch(rng, n)
+        kind = rng.choice(KINDS)
+        weights = weights_for(rng, kind, n)
+        rule = rule_for(rng, kind, b - a + 1, weights[a - 1:b])
+        case = part(rng, rule, a, b, random_survivals(rng, n, UNITS[DECIMAL]), weights, DECIMAL)
+        for damage in sorted(rng.sample(range(1, 8), rng.choice((1, 1, 2, 3))), reverse=True):
+            case = spoil(rng, case, damage)
+        yield case
+
+
+def no_version_cases(rng):
+    """Versions that there are none of: nothing else wrong, one thing, and three at once, which all come after."""
+    # document 02, request 08: "11 for versions other than 1 and 2, first where it is an input"
+    for version in NO_VERSIONS:
+        for damages in ((), *((damage,) for damage in range(1, 8)), (7, 4, 1), (7, 6, 2)):
+            case = whole(rng, Rule(1, 1, 0), random_survivals(rng, 3), [])
+            for damage in damages:
+                case = spoil(rng, case, damage)
+            yield case._replace(version=version)
+
+
+def same_chance_pairs():
+    """The same chances in version 1 and in version 2, two cases each; second/selfcheck.py sees that their answers enclose one exact sum."""
+    rng = random.Random(308)
+    for kind in KINDS:
+        for n in (2, 6, 9):
+            weights = weights_for(rng, kind, n)
+            rule = rule_for(rng, kind, n, weights)
+            yield [whole(rng, rule, survivals, weights, version) for version, survivals in same_chances(rng, n).items()]
+
+
+def same_chance_cases(rng):
+    yield from (case for pair in same_chance_pairs() for case in pair)
+
+
 def make_cases():
     rng = random.Random(303)
     makers = (small_cases, alike_cases, every_length_cases, long_cases, sound_fan_cases, weight_cases,
               stretch_cases, rule_cases, room_cases, wrong_stretch_cases, survival_cases, length_cases,
               refused_cases, short_line_cases, single_pair_cases, many_pair_cases, pair_edge_cases, pair_stretch_cases, wrong_pair_cases,
-              refused_pair_cases, unread_more_cases, refit_cases)
+              refused_pair_cases, unread_more_cases, refit_cases, decimal_small_cases, decimal_long_cases, decimal_stretch_cases, unit_cases,
+              lone_number_cases, decimal_refused_cases, no_version_cases, same_chance_cases)
     return [*published_cases(), *(case for maker in makers for case in maker(rng))]

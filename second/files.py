@@ -2,11 +2,12 @@
 
 import random
 
-from foambeetle import KINDS, Deck, Rule, System, deck_bytes
-from samples import OVER_UNIT, random_rule, random_stretch, random_survivals, random_weights
+from foambeetle import KINDS, UNITS, Deck, Rule, System, deck_bytes
+from samples import over, random_rule, random_stretch, random_survivals, random_weights
 
 # Place and size of each header field, document 01, 'Deck file and printing'
 HEADER_FIELDS = ((0, 2), (2, 2), (4, 2), (6, 2), (8, 4), (12, 4), (16, 4))
+VERSIONS = tuple(UNITS)
 
 
 def sound_system(rng, n, weights):
@@ -36,14 +37,16 @@ def spoilt_system(rng, n, system):
 def random_deck(rng):
     """A deck whose file is sound; some of its systems are to be refused."""
     n = rng.choice((1, 2, 3, 64, rng.randint(1, 12), rng.randint(1, 12), rng.randint(1, 64)))
-    survivals, weights = random_survivals(rng, n), random_weights(rng, n)
+    version = rng.choice(VERSIONS)
+    unit = UNITS[version]
+    survivals, weights = random_survivals(rng, n, unit), random_weights(rng, n)
     if rng.random() < 0.15:
-        survivals[rng.randrange(n)] = rng.choice(OVER_UNIT)
+        survivals[rng.randrange(n)] = rng.choice(over(unit))
     if rng.random() < 0.4:
         weights[rng.randrange(n)] += rng.choice((1, 60, 121, 65000))
     systems = [sound_system(rng, n, weights) for _ in range(rng.choice((1, 2, 3, 4, 8, 32)))]
     systems = [system if rng.random() < 0.7 else spoilt_system(rng, n, system) for system in systems]
-    return Deck(survivals, weights, systems)
+    return Deck(survivals, weights, systems, version)
 
 
 def with_field(data, at, size, number):
@@ -51,9 +54,10 @@ def with_field(data, at, size, number):
 
 
 def field_off_by_one(rng, data):
+    """A header's number just beside what it was; its version just beside those that there are."""
     at, size = rng.choice(HEADER_FIELDS)
     number = int.from_bytes(data[at:at + size], "little")
-    return with_field(data, at, size, number + rng.choice((-1, 1)))
+    return with_field(data, at, size, rng.choice((min(VERSIONS) - 1, max(VERSIONS) + 1) if at == 0 else (number - 1, number + 1)))
 
 
 def field_at_random(rng, data):
@@ -76,7 +80,7 @@ def run_on(rng, data):
 
 
 def wrong_version(rng, data):
-    return with_field(data, 0, 2, rng.choice((0, 2, 3, 256, 65535)))
+    return with_field(data, 0, 2, rng.choice((0, 3, 256, 257, 512, 65535)))
 
 
 def zero_field_set(rng, data):
@@ -93,7 +97,7 @@ def laid_out_wrong_count(rng, data):
     """A file that is laid out as its counts say, with a count out of range."""
     n, m = rng.choice(((0, 1), (65, 1), (70, 2), (1, 0), (3, 33), (0, 0), (65, 33), (64, 33)))
     survivals, weights = random_survivals(rng, n), [1] * n
-    return deck_bytes(Deck(survivals, weights, [System(Rule(1, 1, 0), 1, 1)] * m))
+    return deck_bytes(Deck(survivals, weights, [System(Rule(1, 1, 0), 1, 1)] * m, rng.choice(VERSIONS)))
 
 
 def two_damages(rng, data):

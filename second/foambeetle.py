@@ -12,6 +12,8 @@ from math import prod
 from typing import Any, Callable, NamedTuple
 
 UNIT = 2 ** 30  # document 01, 'What is rated': S
+# document 02, request 08: "parts per 1,000,000,000. Version 2 of the deck file has that as its unit; version 1 keeps 2^30"
+UNITS = {1: UNIT, 2: 10 ** 9}
 MOST_FANS = 64  # document 01, 'Refusal numbers', row 2
 MOST_WEIGHT = 120  # document 01, 'The seven verdicts': "their total at most 120"
 TABLE_CELLS = 7800  # document 01, 'Refusal numbers', row 7
@@ -66,6 +68,7 @@ class Deck(NamedTuple):
     survivals: list
     weights: list
     systems: list
+    version: int = 1
 
 
 # ---- verdicts ----------------------------------------------------------------
@@ -405,6 +408,11 @@ def counts_by_reading(rule, n, weights):
 # ---- refusals ----------------------------------------------------------------
 
 
+def bad_version(version):
+    # document 02, request 08: "11 for versions other than 1 and 2"
+    return version not in UNITS
+
+
 def bad_kind(rule):
     # document 01, 'Refusal numbers', row 1; document 02, request 05: "1 for kinds not 1..8"
     return rule.kind not in KINDS
@@ -426,7 +434,7 @@ def bad_stretch(a, b, n):
 
 
 def bad_survivals(rated, unit):
-    # document 01, 'Refusal numbers', row 4
+    # document 01, 'Refusal numbers', row 4; document 02, request 08: "4 against the file's unit"
     return any(survival > unit for survival in rated)
 
 
@@ -494,16 +502,19 @@ def rated_refusal(rule, a, b, survivals, weights, unit):
     return 6 if bad_rule(rule, b - a + 1, weights[a - 1:b]) else None
 
 
-def figures_refusal(rule, a, b, survivals, weights, room, unit):
-    # document 01, 'Refusal numbers': the figures' order; document 02, request 02: "3 now belongs to every figure"
+def figures_refusal(rule, a, b, survivals, weights, room, version):
+    # document 01, 'Refusal numbers': the figures' order; document 02, request 02: "3 now belongs to every figure"; request 08: 11 "first where it is
+    # an input"
     n = len(survivals)
+    if bad_version(version):
+        return 11
     if bad_kind(rule):
         return 1
     if bad_length(n):
         return 2
     if bad_stretch(a, b, n):
         return 3
-    return rated_refusal(rule, a, b, survivals, weights, unit) or (7 if room < TABLE_CELLS else None)
+    return rated_refusal(rule, a, b, survivals, weights, UNITS[version]) or (7 if room < TABLE_CELLS else None)
 
 
 def bad_fan(a, b, fan):
@@ -511,9 +522,9 @@ def bad_fan(a, b, fan):
     return not a <= fan <= b
 
 
-def worth_refusal(rule, a, b, fan, survivals, weights, room, unit):
+def worth_refusal(rule, a, b, fan, survivals, weights, room, version):
     # document 02, request 06: "as for the figures, the chosen fan's own survival number included under 4", "then 17"
-    return figures_refusal(rule, a, b, survivals, weights, room, unit) or (17 if bad_fan(a, b, fan) else None)
+    return figures_refusal(rule, a, b, survivals, weights, room, version) or (17 if bad_fan(a, b, fan) else None)
 
 
 # ---- the public calls --------------------------------------------------------
@@ -536,12 +547,12 @@ def count_table(rule, n, weights, room=TABLE_CELLS, slots=MOST_FANS + 1):
     return counts_by_words(rule, n, weights) if n <= 10 else counts_by_choice(rule, n, weights)
 
 
-def figures(rule, a, b, survivals, weights, room=TABLE_CELLS, unit=UNIT):
+def figures(rule, a, b, survivals, weights, room=TABLE_CELLS, version=1):
     # document 01, 'Stretches': "answers as a list of those components alone would, weights too"
-    number = figures_refusal(rule, a, b, survivals, weights, room, unit)
+    number = figures_refusal(rule, a, b, survivals, weights, room, version)
     if number:
         return Refusal(number)
-    return low_and_high(rule, survivals[a - 1:b], weights[a - 1:b], unit)
+    return low_and_high(rule, survivals[a - 1:b], weights[a - 1:b], UNITS[version])
 
 
 def with_fan(survivals, fan, survival):
@@ -549,14 +560,19 @@ def with_fan(survivals, fan, survival):
     return [survival if place == fan else other for place, other in enumerate(survivals, 1)]
 
 
-def worth(rule, a, b, fan, survivals, weights, room=TABLE_CELLS, unit=UNIT):
+def lower_and_upper(rule, fan, survivals, weights, unit=UNIT):
     # document 02, request 06: "the lower is the first's low less the second's high, the upper the first's high less the second's low"
-    number = worth_refusal(rule, a, b, fan, survivals, weights, room, unit)
+    first = low_and_high(rule, with_fan(survivals, fan, unit), weights, unit)
+    second = low_and_high(rule, with_fan(survivals, fan, 0), weights, unit)
+    return first[0] - second[1], first[1] - second[0]
+
+
+def worth(rule, a, b, fan, survivals, weights, room=TABLE_CELLS, version=1):
+    # document 02, request 06: "the deck's chance with that fan sure to work less its chance with it sure to fail", of the stretch as of a list
+    number = worth_refusal(rule, a, b, fan, survivals, weights, room, version)
     if number:
         return Refusal(number)
-    first = figures(rule, a, b, with_fan(survivals, fan, unit), weights, room, unit)
-    second = figures(rule, a, b, with_fan(survivals, fan, 0), weights, room, unit)
-    return first[0] - second[1], first[1] - second[0]
+    return lower_and_upper(rule, fan - a + 1, survivals[a - 1:b], weights[a - 1:b], UNITS[version])
 
 
 def working_table_after(cells, answer):
@@ -590,7 +606,7 @@ def file_refusal(data):
     # document 01, 'Refusal numbers': "A file is checked 10, 11, 2, 12, 13"
     if len(data) < HEADER_BYTES:
         return 10
-    if number_at(data, 0, 2) != 1 or number_at(data, 2, 2) != 0:
+    if bad_version(number_at(data, 0, 2)) or number_at(data, 2, 2) != 0:
         return 11
     n, m = number_at(data, 4, 2), number_at(data, 6, 2)
     if bad_length(n):
@@ -618,6 +634,7 @@ def read_deck(data):
         [number_at(data, at_survivals + 4 * place, 4) for place in range(n)],
         [number_at(data, at_weights + 2 * place, 2) for place in range(n)],
         [system_at(data, at_systems + 10 * place) for place in range(m)],
+        number_at(data, 0, 2),
     )
 
 
@@ -625,7 +642,7 @@ def deck_bytes(deck):
     # document 01, 'Deck file and printing': the header's fields in order, then the three lists
     n, m = len(deck.survivals), len(deck.systems)
     at_survivals, at_weights, at_systems, _ = layout(n, m)
-    fields = [(1, 2), (0, 2), (n, 2), (m, 2), (at_survivals, 4), (at_weights, 4), (at_systems, 4)]
+    fields = [(deck.version, 2), (0, 2), (n, 2), (m, 2), (at_survivals, 4), (at_weights, 4), (at_systems, 4)]
     fields += [(survival, 4) for survival in deck.survivals]
     fields += [(weight, 2) for weight in deck.weights]
     fields += [(number, 2) for number in system_numbers(deck.systems)]
@@ -648,9 +665,12 @@ def part_system(numbers):
     return len(numbers) % SYSTEM_NUMBERS != 0
 
 
-def write_refusal(survivals, weights, numbers, room):
-    # document 02, request 01: "Refusals: 2, weights' length not n as 5, 12 (a part system too), then 16, room too short, in that order"
+def write_refusal(version, survivals, weights, numbers, room):
+    # document 02, request 01: "Refusals: 2, weights' length not n as 5, 12 (a part system too), then 16, room too short, in that order"; request 08:
+    # 11 "first where it is an input"
     n, m = len(survivals), len(numbers) // SYSTEM_NUMBERS
+    if bad_version(version):
+        return 11
     if bad_length(n):
         return 2
     if len(weights) != n:
@@ -660,19 +680,19 @@ def write_refusal(survivals, weights, numbers, room):
     return 16 if len(room) < layout(n, m)[-1] else None
 
 
-def write_deck(survivals, weights, numbers, room):
+def write_deck(version, survivals, weights, numbers, room):
     """The length or the refusal, and the room afterwards."""
     # document 02, request 01: "bytes out into lent room, whose rest stays untouched", "nothing is written on any of them"
-    number = write_refusal(survivals, weights, numbers, room)
+    number = write_refusal(version, survivals, weights, numbers, room)
     if number:
         return Refusal(number), room
-    data = deck_bytes(Deck(survivals, weights, listed_systems(numbers)))
+    data = deck_bytes(Deck(survivals, weights, listed_systems(numbers), version))
     return len(data), data + room[len(data):]
 
 
 def rate_system(deck, system):
     # document 01, 'Refusal numbers': "only then the system's own 1 and 3 to 6"; 7 doesn't arise
-    return figures(system.rule, system.a, system.b, deck.survivals, deck.weights)
+    return figures(system.rule, system.a, system.b, deck.survivals, deck.weights, version=deck.version)
 
 
 def decklist_output(data):
@@ -692,7 +712,7 @@ def decklist_output(data):
 
 def worth_of_system(deck, system, fan):
     # document 02, request 06: "Refusals: as for the figures", "then 17"; 7 doesn't arise, as in a rating
-    return worth(system.rule, system.a, system.b, fan, deck.survivals, deck.weights)
+    return worth(system.rule, system.a, system.b, fan, deck.survivals, deck.weights, version=deck.version)
 
 
 def deckworth_output(data):
@@ -730,6 +750,13 @@ def rate(data, system):
     if bad_system(deck, system):
         return packed(Refusal(14))
     return packed(rate_system(deck, deck.systems[system - 1]))
+
+
+def unit_of_file(data):
+    """The unit of a file's figures; 0 for a file that is refused."""
+    # document 02, request 08: "Conditions two and three read S as the file's own unit"
+    deck = read_deck(data)
+    return 0 if isinstance(deck, Refusal) else UNITS[deck.version]
 
 
 def worth_of_file(data, system, fan):

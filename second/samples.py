@@ -2,11 +2,24 @@
 
 from collections.abc import Sequence
 
-from foambeetle import KINDS, LONGEST_WINDOW, MOST_FANS, MOST_PAIRS, MOST_WEIGHT, PAIRS_KIND, UNIT, Rule
+from foambeetle import KINDS, LONGEST_WINDOW, MOST_FANS, MOST_PAIRS, MOST_WEIGHT, PAIRS_KIND, UNIT, UNITS, Rule
 
 HUGE = (2 ** 16, 2 ** 32, 2 ** 63, 2 ** 64 - 1)
-OVER_UNIT = (UNIT + 1, 2 ** 31, 2 ** 32 - 1)
-EDGE_SURVIVALS = (0, 1, UNIT // 2, UNIT - 1, UNIT)
+BINARY, DECIMAL = UNITS  # the versions
+NO_VERSIONS = (0, 3, 2 ** 16 + 1, 2 ** 32 + 2, 2 ** 63 + 1, 2 ** 64 - 1)
+
+
+def over(unit):
+    """Survival numbers above the unit; above the smaller one the larger too."""
+    return unit + 1, *(number for number in (UNIT, 2 ** 31, 2 ** 32 - 1) if number > unit)
+
+
+def edges(unit):
+    return 0, 1, unit // 2, unit - 1, unit
+
+
+OVER_UNIT = over(UNIT)
+EDGE_SURVIVALS = edges(UNIT)
 
 
 class Rules(Sequence):
@@ -160,19 +173,25 @@ def random_stretch(rng, n):
     return (a, a) if manner == 1 else (a, rng.randint(a, n))
 
 
-def random_survivals(rng, n):
+def random_survivals(rng, n, unit=UNIT):
     """n survival numbers: sound fans, poor fans, edges of the range, or all alike."""
     manner = rng.choice(("any", "any", "sound", "poor", "edge", "mixed", "alike"))
     if manner == "alike":
-        return [rng.choice((UNIT // 2, 1, UNIT - 1, rng.randrange(UNIT + 1)))] * n
+        return [rng.choice((unit // 2, 1, unit - 1, rng.randrange(unit + 1)))] * n
     draw = {
-        "any": lambda: rng.randrange(UNIT + 1),
-        "sound": lambda: UNIT - rng.randrange(UNIT // 8),
+        "any": lambda: rng.randrange(unit + 1),
+        "sound": lambda: unit - rng.randrange(unit // 8),
         "poor": lambda: rng.randrange(20),
-        "edge": lambda: rng.choice(EDGE_SURVIVALS),
-        "mixed": lambda: rng.choice(EDGE_SURVIVALS + (rng.randrange(UNIT + 1),) * 5),
+        "edge": lambda: rng.choice(edges(unit)),
+        "mixed": lambda: rng.choice(edges(unit) + (rng.randrange(unit + 1),) * 5),
     }[manner]
     return [draw() for _ in range(n)]
+
+
+def same_chances(rng, n):
+    """n chances as survival numbers of each version: parts of 2^9, which are whole in both units, as 10^9 is 2^9 times 5^9."""
+    parts = [rng.choice((0, 1, 2 ** 9 - 1, 2 ** 9, *(rng.randint(1, 2 ** 9) for _ in range(12)))) for _ in range(n)]
+    return {version: [part * unit // 2 ** 9 for part in parts] for version, unit in UNITS.items()}
 
 
 def weights_of_total(rng, n, total):
@@ -197,6 +216,13 @@ def unread_weights(rng):
 
 def weights_for(rng, kind, n):
     return random_weights(rng, n) if kind == 2 else unread_weights(rng)
+
+
+def rule_for(rng, kind, n, weights):
+    """A rule of any kind, kind 8 with one to four pairs; kind 1's where these components leave the kind no rule at all."""
+    if kind == PAIRS_KIND:
+        return random_pairs(rng, n, rng.randint(1, MOST_PAIRS))
+    return random_rule(rng, kind, n, sum(weights)) or Rule(1, 1, 0)
 
 
 def spoil_rule(rng, case, damage, sizes):

@@ -6,37 +6,47 @@ Each group yields pairs: what was found, and what it must equal.
 import random
 import sys
 from fractions import Fraction
+from functools import wraps
 from math import factorial
 
+import figures_cases
 import published
 import sources
 import words
 from files import DAMAGES, random_deck, random_files
 from foambeetle import (
-    DEAD, KINDS, LONGEST_WINDOW, MOST_PAIRS, PAIRS_KIND, SEVEN_KINDS, TABLE_CELLS, UNIT, WORKS, Deck, Fails, Refusal, Rule, System, bad_rule,
-    count_slots_after, count_table, counts_by_choice, counts_by_reading, counts_by_words, deck_bytes,
-    decklist_output, deckworth_output, exact_sum, exact_sum_by_words, fails, figures, file_refusal, line_windows, listed_systems, low_and_high,
-    low_and_high_by_words, pascal_row, rate, read_deck, row_of, system_numbers, verdict, working_table_after, worth, worth_of_file, write_deck,
+    DEAD, KINDS, LONGEST_WINDOW, MOST_PAIRS, PAIRS_KIND, SEVEN_KINDS, TABLE_CELLS, UNIT, UNITS, WORKS, Deck, Fails, Refusal, Rule, System, bad_rule,
+    count_slots_after, count_table, counts_by_choice, counts_by_reading, counts_by_words, deck_bytes, decklist_output, deckworth_output, exact_sum,
+    exact_sum_by_words, fails, figures, file_refusal, line_windows, listed_systems, low_and_high, low_and_high_by_words, lower_and_upper,
+    pascal_row, rate, read_deck, row_of, system_numbers, unit_of_file, verdict, working_table_after, worth, worth_of_file, write_deck,
 )
 from published import DECK_FILE, DECK_LINES
 from samples import (
-    all_rules, longer_windows, random_pairs, random_rule, random_survivals, random_weights, rules_in_range, short_lines, two_windows, unread_more,
-    wrong_further_pairs, wrong_numbers_of_pairs, wrong_rules,
+    NO_VERSIONS, all_rules, longer_windows, random_pairs, random_rule, random_survivals, random_weights, rule_for, rules_in_range,
+    same_chances, short_lines, two_windows, unread_more, wrong_further_pairs, wrong_numbers_of_pairs, wrong_rules,
 )
 
 SMALL_WEIGHTS = ([], [3], [2, 1], [2, 1, 1], [0, 3, 1, 2], [1, 0, 4, 0, 2], [1, 2, 0, 1, 3, 1],
                  [1, 1, 1, 1, 1, 1, 1], [2, 0, 1, 3, 0, 1, 1, 2], [1, 3, 0, 0, 2, 1, 1, 0, 2])
 
 
-def random_systems(seed, count, most):
+def in_either_version(group):
+    """The group's checks for each version and its unit."""
+    @wraps(group)
+    def checks():
+        for version, unit in UNITS.items():
+            yield from group(version, unit)
+    return checks
+
+
+def random_systems(seed, count, most, unit=UNIT):
     """Systems of every kind by turns, kind 8 with one to four pairs: rule, survival numbers, weights."""
     rng = random.Random(seed)
     for place in range(count):
         kind = KINDS[place % len(KINDS)]
         n = rng.randint(2, most)
         weights = random_weights(rng, n)
-        rule = random_pairs(rng, n, rng.randint(1, MOST_PAIRS)) if kind == PAIRS_KIND else random_rule(rng, kind, n, sum(weights))
-        yield rule, random_survivals(rng, n), weights
+        yield rule_for(rng, kind, n, weights), random_survivals(rng, n, unit), weights
 
 
 def small_systems(most):
@@ -291,14 +301,15 @@ def better_lists():
     yield low_and_high(Rule(3, 1, 1), [UNIT // 4, UNIT // 2], []), (536870912, 536870912)
 
 
-def figures_two_ways():
+@in_either_version
+def figures_two_ways(version, unit):
     rng = random.Random(5)
     for rule, n, weights in small_systems(6):
-        survivals = random_survivals(rng, n)
-        yield low_and_high(rule, survivals, weights), low_and_high_by_words(rule, survivals, weights)
-    for rule, survivals, weights in random_systems(6, 70, 10):
-        yield low_and_high(rule, survivals, weights), low_and_high_by_words(rule, survivals, weights)
-        yield exact_sum(rule, survivals, weights), exact_sum_by_words(rule, survivals, weights)
+        survivals = random_survivals(rng, n, unit)
+        yield figures(rule, 1, n, survivals, weights, version=version), low_and_high_by_words(rule, survivals, weights, unit)
+    for rule, survivals, weights in random_systems(6, 70, 10, unit):
+        yield figures(rule, 1, len(survivals), survivals, weights, version=version), low_and_high_by_words(rule, survivals, weights, unit)
+        yield exact_sum(rule, survivals, weights, unit), exact_sum_by_words(rule, survivals, weights, unit)
 
 
 def lines_no_longer_than_the_window():
@@ -397,15 +408,16 @@ def rules_accepted():
                     yield bad_rule(rule, n, weights), rule not in listed
 
 
-def refusals_of_calls():
+@in_either_version
+def refusals_of_calls(version, unit):
     # document 01, 'Refusal numbers': "The lowest number that applies is given"
-    over = [UNIT, UNIT + 1, UNIT]
+    over = [unit, unit + 1, unit]
     three = [1, 1, 1]
     whole = (
-        (Rule(0, 9, 9), [UNIT + 1] * 65, [], 0, 1), (Rule(9, 1, 1), three, [], 7800, 1), (Rule(8, 1, 0), three, [], 7800, 6),
+        (Rule(0, 9, 9), [unit + 1] * 65, [], 0, 1), (Rule(9, 1, 1), three, [], 7800, 1), (Rule(8, 1, 0), three, [], 7800, 6),
         (Rule(8, 1, 1, (1,)), [], [], 0, 2), (Rule(8, 1, 1, (1,)), over, [], 0, 4), (Rule(8, 1, 1, (1,)), three, [], 0, 6),
         (Rule(8, 1, 1, (1, 1)), three, [], 7799, 7),
-        (Rule(1, 0, 0), [], [], 0, 2), (Rule(2, 0, 0), [UNIT + 1] * 65, [], 0, 2),
+        (Rule(1, 0, 0), [], [], 0, 2), (Rule(2, 0, 0), [unit + 1] * 65, [], 0, 2),
         (Rule(2, 0, 0), over, [], 0, 4), (Rule(2, 0, 0), three, [121, 0], 0, 5),
         (Rule(2, 1, 0), three, three + [1], 7800, 5), (Rule(2, 1, 0), three, [60, 60, 1], 7800, 5),
         (Rule(2, 1, 0), three, [0, 0, 0], 7800, 6),
@@ -413,7 +425,7 @@ def refusals_of_calls():
         (Rule(1, 1, 0), three, [], 7799, 7), (Rule(6, 3, 3), three, [], 7800, 6),
     )
     for rule, survivals, weights, room, number in whole:
-        yield figures(rule, 1, len(survivals), survivals, weights, room), Refusal(number)
+        yield figures(rule, 1, len(survivals), survivals, weights, room, version), Refusal(number)
     parts = (
         (Rule(9, 0, 0), 0, 0, [], [], 0, 1), (Rule(2, 0, 0), 0, 0, [], [], 0, 2),
         (Rule(2, 0, 0), 0, 2, over, [], 0, 3), (Rule(1, 1, 0), 3, 2, over, [], 0, 3),
@@ -425,7 +437,7 @@ def refusals_of_calls():
         (Rule(1, 1, 0), 3, 3, over, [], 7799, 7),
     )
     for rule, a, b, survivals, weights, room, number in parts:
-        yield figures(rule, a, b, survivals, weights, room), Refusal(number)
+        yield figures(rule, a, b, survivals, weights, room, version), Refusal(number)
 
 
 def refusals_of_states_and_counts():
@@ -467,7 +479,7 @@ def worths_by_words():
             survivals = [p * unit // UNIT for p in survivals]
             n = len(survivals)
             for fan in range(1, n + 1):
-                lower, upper = worth(rule, 1, n, fan, survivals, weights, unit=unit)
+                lower, upper = lower_and_upper(rule, fan, survivals, weights, unit)
                 works, failing = (sure(survivals, fan, p) for p in (unit, 0))
                 exact = exact_sum_by_words(rule, works, weights, unit) - exact_sum_by_words(rule, failing, weights, unit)
                 yield lower * unit ** (n - 1) <= exact <= upper * unit ** (n - 1), True
@@ -484,17 +496,19 @@ def between_others(rng, survivals, weights, most):
     return before, longer, [65535] * before + weights + [65535] * after
 
 
-def worths_of_parts():
+@in_either_version
+def worths_of_parts(version, unit):
     """A stretch's worths are those of a list of its fans alone, and the fan's own number changes none of them."""
     # document 01, 'Stretches': "answers as a list of those components alone would"
     rng = random.Random(15)
-    for rule, survivals, weights in random_systems(16, 70, 8):
+    for rule, survivals, weights in random_systems(16, 70, 8, unit):
         before, longer, heavier = between_others(rng, survivals, weights, 4)
         a, b = before + 1, before + len(survivals)
         for fan in range(1, len(survivals) + 1):
-            alone = worth(rule, 1, len(survivals), fan, survivals, weights)
-            yield worth(rule, a, b, before + fan, longer, heavier), alone
-            yield worth(rule, 1, len(survivals), fan, sure(survivals, fan, rng.randrange(UNIT + 1)), weights), alone
+            alone = worth(rule, 1, len(survivals), fan, survivals, weights, version=version)
+            yield worth(rule, a, b, before + fan, longer, heavier, version=version), alone
+            replaced = sure(survivals, fan, rng.randrange(unit + 1))
+            yield worth(rule, 1, len(survivals), fan, replaced, weights, version=version), alone
 
 
 def plain_worths():
@@ -521,9 +535,10 @@ def plain_worths():
         yield worth(rule, 1, others + 1, fan, longer, lighter), (low - high, high - low)
 
 
-def refusals_of_worths():
+@in_either_version
+def refusals_of_worths(version, unit):
     # document 02, request 06: "as for the figures, the chosen fan's own survival number included under 4 where the fan is in the stretch, then 17"
-    three, over = [1, 1, 1], [1, UNIT + 1, 1]
+    three, over = [1, 1, 1], [1, unit + 1, 1]
     cases = (
         (Rule(9, 0, 9), 0, 9, 0, [], [], 0, 1), (Rule(2, 0, 0), 0, 9, 0, [], [], 0, 2), (Rule(2, 0, 0), 2, 1, 9, over, [], 0, 3),
         (Rule(2, 0, 0), 1, 3, 9, over, [], 0, 4), (Rule(2, 0, 0), 1, 3, 0, three, [], 0, 5), (Rule(1, 4, 0), 1, 3, 0, three, [], 0, 6),
@@ -535,8 +550,8 @@ def refusals_of_worths():
         (Rule(1, 1, 0), 1, 1, 2, over, [], 7800, 17), (Rule(1, 1, 0), 3, 3, 2, over, [], 7800, 17),
     )
     for rule, a, b, fan, survivals, weights, room, number in cases:
-        yield worth(rule, a, b, fan, survivals, weights, room), Refusal(number)
-    yield worth(Rule(1, 1, 0), 2, 2, 2, [2 ** 32 - 1, UNIT, 2 ** 32 - 1], []), (UNIT, UNIT)
+        yield worth(rule, a, b, fan, survivals, weights, room, version), Refusal(number)
+    yield worth(Rule(1, 1, 0), 2, 2, 2, [2 ** 32 - 1, unit, 2 ** 32 - 1], [], version=version), (unit, unit)
 
 
 def worths_of_files():
@@ -563,13 +578,65 @@ def worths_of_files():
     yield seen, {0, 1, 3, 4, 5, 6, 17}
 
 
-def stretches_read_inside_only():
+def chance_by_words(rule, survivals, weights, unit):
+    """The exact sum over all states as a chance."""
+    return Fraction(exact_sum_by_words(rule, survivals, weights, unit), unit ** len(survivals))
+
+
+def same_chances_in_either_version():
+    """Where the chances are the same, so is the exact sum, and both versions' figures and worths enclose it."""
+    # document 02, request 08: "Conditions two and three read S as the file's own unit"
+    rng = random.Random(42)
+    asked = [(rule, same_chances(rng, len(survivals)), weights) for rule, survivals, weights in random_systems(43, 96, 9)]
+    # those of the case files, which the proved program runs
+    asked += [(one.rule, {case.version: case.survivals for case in (one, other)}, one.weights) for one, other in figures_cases.same_chance_pairs()]
+    for rule, lists, weights in asked:
+        chances = []
+        for version, survivals in lists.items():
+            n, unit = len(survivals), UNITS[version]
+            exact = chance_by_words(rule, survivals, weights, unit)
+            low, high = figures(rule, 1, n, survivals, weights, version=version)
+            yield Fraction(low, unit) <= exact <= Fraction(high, unit) and high - low < n, True
+            works, failing = (chance_by_words(rule, sure(survivals, n, number), weights, unit) for number in (unit, 0))
+            lower, upper = worth(rule, 1, n, n, survivals, weights, version=version)
+            yield Fraction(lower, unit) <= works - failing <= Fraction(upper, unit), True
+            chances.append((exact, works, failing))
+        yield chances[0], chances[1]
+
+
+def refusals_of_versions():
+    # document 02, request 08: "11 for versions other than 1 and 2, first where it is an input; 4 against the file's unit"
+    decimal = UNITS[2]
+    for version in NO_VERSIONS:
+        for rule, a, b, survivals, room in ((Rule(9, 0, 0), 0, 9, [], 0), (Rule(1, 1, 0), 1, 1, [UNIT + 1], 7800), (Rule(1, 1, 0), 1, 1, [0], 7800)):
+            yield figures(rule, a, b, survivals, [], room, version), Refusal(11)
+            yield worth(rule, a, b, 0, survivals, [], room, version), Refusal(11)
+    for survival, version, refused in ((decimal, 2, False), (decimal + 1, 2, True), (UNIT, 2, True), (decimal + 1, 1, False), (UNIT, 1, False),
+                                       (UNIT + 1, 1, True)):
+        answer = Refusal(4) if refused else (survival, survival)
+        yield figures(Rule(1, 1, 0), 1, 1, [survival], [], version=version), answer
+        yield worth(Rule(1, 1, 0), 1, 1, 1, [survival], [], version=version), Refusal(4) if refused else (UNITS[version],) * 2
+        data = deck_bytes(Deck([survival], [0], [System(Rule(1, 1, 0), 1, 1)], version))
+        yield rate(data, 1), 2 ** 64 - 2 ** 32 + 4 if refused else survival * 2 ** 32 + survival
+        yield read_deck(data).version, version
+
+
+def units_of_files():
+    """A file's unit by its first two bytes, and 0 where it is refused."""
+    # document 02, request 08: "both are read for good"
+    for data in random_files(44, 120):
+        unit = {b"\1\0": 2 ** 30, b"\2\0": 1000000000}.get(data[:2])
+        yield unit_of_file(data), 0 if file_refusal(data) else unit
+
+
+@in_either_version
+def stretches_read_inside_only(version, unit):
     # document 01, 'Stretches': what stands outside changes no answer
     rng = random.Random(7)
-    for rule, survivals, weights in random_systems(8, 140, 8):
+    for rule, survivals, weights in random_systems(8, 140, 8, unit):
         before, longer, heavier = between_others(rng, survivals, weights, 5)
         a, b = before + 1, before + len(survivals)
-        yield figures(rule, a, b, longer, heavier), low_and_high_by_words(rule, survivals, weights)
+        yield figures(rule, a, b, longer, heavier, version=version), low_and_high_by_words(rule, survivals, weights, unit)
 
 
 def deck_files():
@@ -612,8 +679,8 @@ def decks_written():
         yield listed_systems(numbers), deck.systems
         for more in (0, 1, rng.randrange(900)):
             room = bytes(rng.randrange(256) for _ in range(len(data) + more))
-            yield write_deck(deck.survivals, deck.weights, numbers, room), (len(data), data + room[len(data):])
-        yield write_deck(deck.survivals, deck.weights, numbers, room[:len(data) - 1]), (Refusal(16), room[:len(data) - 1])
+            yield write_deck(deck.version, deck.survivals, deck.weights, numbers, room), (len(data), data + room[len(data):])
+        yield write_deck(deck.version, deck.survivals, deck.weights, numbers, room[:len(data) - 1]), (Refusal(16), room[:len(data) - 1])
 
 
 def refusals_of_writing():
@@ -627,15 +694,18 @@ def refusals_of_writing():
         ([0], [1], five, short, 16), ([0], [1], five, b"", 16), ([0], [1], five * 2, room + b"\7" * 9, 16),
     )
     for survivals, weights, numbers, lent, number in cases:
-        yield write_deck(survivals, weights, numbers, lent), (Refusal(number), lent)
+        yield [write_deck(version, survivals, weights, numbers, lent) for version in UNITS], [(Refusal(number), lent)] * 2
+        # document 02, request 08: 11 "first where it is an input"
+        yield [write_deck(version, survivals, weights, numbers, lent) for version in NO_VERSIONS], [(Refusal(11), lent)] * len(NO_VERSIONS)
     # "It doesn't judge rules or survival numbers"
-    yield write_deck([2 ** 32 - 1], [65535], [65535] * 5, room)[0], 36
-    yield write_deck([0] * 64, [0] * 64, five * 32, b"\7" * 724)[0], 724
+    yield [write_deck(version, [2 ** 32 - 1], [65535], [65535] * 5, room)[0] for version in UNITS], [36] * 2
+    yield [write_deck(version, [0] * 64, [0] * 64, five * 32, b"\7" * 724)[0] for version in UNITS], [724] * 2
+    yield [write_deck(version, [0], [1], five, room)[0] for version in NO_VERSIONS], [Refusal(11)] * len(NO_VERSIONS)
 
 
 def header_damage():
     # document 01, 'Refusal numbers': "A file is checked 10, 11, 2, 12, 13", the earlier wins
-    order = ((0, 2, 11), (2, 1, 11), (4, 0, 2), (4, 65, 2), (6, 0, 12), (6, 33, 12), (8, 21, 13),
+    order = ((0, 3, 11), (2, 1, 11), (4, 0, 2), (4, 65, 2), (6, 0, 12), (6, 33, 12), (8, 21, 13),
              (9, 1, 13), (12, 33, 13), (13, 1, 13), (16, 39, 13), (19, 1, 13))
     for at, number, refused in order:
         data = bytearray(DECK_FILE)
@@ -673,7 +743,8 @@ GROUPS = (
     counts_three_ways, enclosure, better_lists, figures_two_ways, lines_no_longer_than_the_window, pairs_by_states, pairs_alike, pairs_refused,
     further_numbers_unread, rules_accepted, refusals_of_calls,
     refusals_of_states_and_counts, stretches_read_inside_only, deck_files, printed_and_packed,
-    decks_written, refusals_of_writing, header_damage, lent_tables, worths_by_words, worths_of_parts, plain_worths, refusals_of_worths, worths_of_files,
+    decks_written, refusals_of_writing, header_damage, lent_tables, worths_by_words, worths_of_parts, plain_worths, refusals_of_worths,
+    worths_of_files, same_chances_in_either_version, refusals_of_versions, units_of_files,
 )
 
 

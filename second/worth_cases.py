@@ -4,16 +4,18 @@ import random
 from typing import NamedTuple
 
 from figures_cases import Case as Asked
-from figures_cases import part, refused_pair_case, spoil, stretch_case, unread_more_case, whole
-from foambeetle import LONGEST_WINDOW, MOST_PAIRS, MOST_WEIGHT, PAIRS_KIND, SEVEN_KINDS, TABLE_CELLS, UNIT, Rule, worth
+from figures_cases import no_version_cases as asked_of_no_version
+from figures_cases import part, refused_pair_case, same_chance_pairs, spoil, stretch_case, unread_more_case, whole
+from foambeetle import KINDS, LONGEST_WINDOW, MOST_PAIRS, MOST_WEIGHT, PAIRS_KIND, SEVEN_KINDS, TABLE_CELLS, UNIT, UNITS, Rule, worth
 from samples import (
-    EDGE_SURVIVALS, HUGE, OVER_UNIT, all_rules, edge_rules, random_pairs, random_rule, random_stretch, random_survivals, random_weights,
-    rules_in_range, short_lines, two_windows, unread_weights, weights_for, weights_of_total, wrong_numbers_of_pairs, wrong_rules,
+    DECIMAL, EDGE_SURVIVALS, HUGE, OVER_UNIT, all_rules, edge_rules, edges, over, random_pairs, random_rule, random_stretch, random_survivals,
+    random_weights, rule_for, rules_in_range, short_lines, two_windows, unread_weights, weights_for, weights_of_total, wrong_numbers_of_pairs,
+    wrong_rules,
 )
 
 WORTH = 1  # the word `call`
 OUTSIDE = 17  # the refusal of the fan
-ANSWERS_WANTED = {"lower"} | {f"refused {number}" for number in (*range(1, 8), OUTSIDE)}
+ANSWERS_WANTED = {"lower"} | {f"refused {number}" for number in (*range(1, 8), 11, OUTSIDE)}
 
 
 class Case(NamedTuple):
@@ -24,8 +26,8 @@ class Case(NamedTuple):
         return self.asked.words(WORTH, self.fan)
 
     def line(self):
-        rule, a, b, room, _, survivals, weights = self.asked
-        return self.asked.line_of(worth(rule, a, b, self.fan, survivals, weights, room), "lower", "upper")
+        rule, a, b, room, _, survivals, weights, version = self.asked
+        return self.asked.line_of(worth(rule, a, b, self.fan, survivals, weights, room, version), "lower", "upper")
 
 
 def with_number(asked, fan, survival):
@@ -209,9 +211,62 @@ def wrong_pair_cases(rng):
     yield Case(whole(rng, Rule(9, 1, 1, (1, 1)), [1] * 3, []), 0)
 
 
+def decimal_small_cases(rng):
+    """Version 2: every rule in range for n up to 3, of every kind, and every fan of n up to 2; for n = 3 one of them."""
+    for n in range(1, 4):
+        weights = weights_of_total(rng, n, n + 1)
+        for rule in all_rules(n, sum(weights)):
+            read = weights if rule.kind == 2 else unread_weights(rng)
+            asked = whole(rng, rule, random_survivals(rng, n, UNITS[DECIMAL]), read, DECIMAL)
+            yield from (Case(asked, fan) for fan in (range(1, n + 1) if n < 3 else (rng.randint(1, 3),)))
+
+
+def decimal_long_cases(rng):
+    """Version 2: random rules for larger n, and 64 sound fans."""
+    unit = UNITS[DECIMAL]
+    for kind in KINDS:
+        for n in (rng.randint(4, 9), rng.randint(4, 9), rng.randint(10, 24)):
+            weights = weights_for(rng, kind, n)
+            asked = whole(rng, rule_for(rng, kind, n, weights), random_survivals(rng, n, unit), weights, DECIMAL)
+            yield Case(asked, rng.choice((1, n, rng.randint(1, n))))
+        weights = weights_of_total(rng, 64, MOST_WEIGHT) if kind == 2 else []
+        survivals = [unit - rng.randrange(unit // 64) for _ in range(64)]
+        yield Case(whole(rng, rules_in_range(kind, 64, MOST_WEIGHT)[1], survivals, weights, DECIMAL), rng.choice((1, 33, 64)))
+
+
+def decimal_stretch_cases(rng):
+    """Version 2: stretches, with the fans at both ends of each and those just outside."""
+    for _ in range(12):
+        asked = stretch_case(rng, rng.randint(1, 9), DECIMAL)
+        yield from (Case(asked, fan) for fan in sorted({asked.a, asked.b, asked.a - 1, asked.b + 1}))
+
+
+def decimal_own_number_cases(rng):
+    """Version 2: the chosen fan's number at every edge of the unit, and above it, up to version 1's unit and past it."""
+    unit = UNITS[DECIMAL]
+    for kind in KINDS:
+        weights = [1, 2, 0] if kind == 2 else []
+        asked = whole(rng, rule_for(rng, kind, 3, weights), random_survivals(rng, 3, unit), weights, DECIMAL)
+        fan = rng.randint(1, 3)
+        yield from (Case(with_number(asked, fan, survival), fan) for survival in edges(unit) + over(unit))
+
+
+def no_version_cases(rng):
+    """Versions that there are none of, with other things wrong or none, and a fan in the stretch or outside."""
+    yield from (Case(asked, rng.choice((0, 1, 3, 4))) for asked in list(asked_of_no_version(rng))[::3])
+
+
+def same_chance_cases(rng):
+    """The same chances in version 1 and in version 2, and one fan."""
+    for pair in same_chance_pairs():
+        fan = rng.randint(1, len(pair[0].survivals))
+        yield from (Case(asked, fan) for asked in pair)
+
+
 def make_cases():
     rng = random.Random(606)
     makers = (small_cases, own_number_cases, long_cases, sound_fan_cases, no_weight_cases, harmful_fan_cases, stretch_cases, outside_cases,
               room_cases, rule_cases, length_cases, refused_cases, short_line_cases, pair_cases, long_pair_cases, pair_stretch_cases,
-              wrong_pair_cases)
+              wrong_pair_cases, decimal_small_cases, decimal_long_cases, decimal_stretch_cases, decimal_own_number_cases, no_version_cases,
+              same_chance_cases)
     return [case for maker in makers for case in maker(rng)]

@@ -15,7 +15,7 @@ from common import (
     LIBRARIES, OFFICE, SAMPLES, SHIP, WRITER, build, compare, compare_example, compare_samples, decks, make, root, run, sample, static, tools,
 )
 
-from foambeetle import Refusal, rate, read_deck, system_numbers, worth_of_file, write_deck
+from foambeetle import UNITS, Refusal, rate, read_deck, system_numbers, unit_of_file, worth_of_file, write_deck
 
 LIBRARY = root / "target/lib"
 NEEDED = {"memcpy", "memset"}
@@ -81,6 +81,12 @@ def rated_by_ctypes(library, data, system):
     return call(data, len(data), system)
 
 
+def unit_by_ctypes(library, data):
+    call = library.foambeetle_unit
+    call.argtypes, call.restype = [ctypes.c_char_p, ctypes.c_size_t], ctypes.c_uint64
+    return call(data, len(data))
+
+
 def worth_by_ctypes(library, data, system, fan):
     """The two ends or the refusal; a refusal must leave the ends as they were."""
     pair, before = ctypes.c_int64 * 2, (2 ** 62, -2 ** 62)
@@ -90,21 +96,21 @@ def worth_by_ctypes(library, data, system, fan):
     return Refusal(refusal) if refusal and tuple(ends) == before else tuple(ends)
 
 
-def written_by_ctypes(library, survivals, weights, numbers, room):
+def written_by_ctypes(library, version, survivals, weights, numbers, room):
     """The answer, and the room afterwards."""
     lists = (ctypes.c_uint32, survivals), (ctypes.c_uint16, weights), (ctypes.c_uint16, numbers), (ctypes.c_uint8, room)
     lent = [(kind * len(values))(*values) for kind, values in lists]
     call = library.foambeetle_write
-    call.argtypes, call.restype = [word for one in lent for word in (type(one), ctypes.c_size_t)], ctypes.c_uint64
-    answer = call(*(word for one in lent for word in (one, len(one))))
+    call.argtypes, call.restype = [ctypes.c_uint64, *(word for one in lent for word in (type(one), ctypes.c_size_t))], ctypes.c_uint64
+    answer = call(version, *(word for one in lent for word in (one, len(one))))
     return answer, bytes(lent[-1])
 
 
 def python_written():
-    """The sample decks, written again."""
+    """The sample decks, written again in either version."""
     library = ctypes.CDLL(str(shared(OFFICE)))
     found = [read_deck(deck.read_bytes()) for deck in decks()]
-    typed = [(deck.survivals, deck.weights, system_numbers(deck.systems), b"\7" * 800) for deck in found]
+    typed = [(version, deck.survivals, deck.weights, system_numbers(deck.systems), b"\7" * 800) for deck in found for version in UNITS]
     return compare("decks written through ctypes", [written_by_ctypes(library, *one) for one in typed], [write_deck(*one) for one in typed])
 
 
@@ -112,6 +118,8 @@ def python_answers():
     library = ctypes.CDLL(str(shared(SHIP)))
     asked = [(deck.read_bytes(), system) for deck in decks() for system in range(len(read_deck(deck.read_bytes()).systems) + 2)]
     good = compare("answers through ctypes", [rated_by_ctypes(library, *one) for one in asked], [rate(*one) for one in asked])
+    files = [b"", *(deck.read_bytes() for deck in decks())]
+    good &= compare("units through ctypes", [unit_by_ctypes(library, data) for data in files], [unit_of_file(data) for data in files])
     fans = [(data, system, fan) for data, system in asked for fan in (0, 1, len(read_deck(data).survivals), 2 ** 64 - 1)]
     return good & compare("worths through ctypes", [worth_by_ctypes(library, *one) for one in fans], [worth_of_file(*one) for one in fans])
 

@@ -1,12 +1,12 @@
 /* Makes the library's calls on every deck file of standard input and prints a line for each system that is asked for: its number, what
- * foambeetle_rate answers, in hex, the fan that is asked for with it, and what foambeetle_worth answers. The input has for each file its length in 4
- * bytes, its bytes, the number of systems in 4 bytes, and for each its number and the fan's in 8 bytes, all lowest byte first.
+ * foambeetle_rate answers, in hex, the fan that is asked for with it, what foambeetle_worth answers, and the unit. The input has for each file its
+ * length in 4 bytes, its bytes, the number of systems in 4 bytes, and for each its number and the fan's in 8 bytes, all lowest byte first.
  *
  * Every call is made twice, with what it is lent ending at a page that may not be touched and beginning behind another, so that a step past either
  * end stops the program. The two answers must be one, the file's bytes as they were, and the ends untouched where the call refuses.
  *
  * Each call has a stack of its own, of just the bytes that the older ship's loading computer grants, above a page that may not be touched either. The
- * last two lines are the deepest that each call went. */
+ * last three lines are the deepest that each call went. */
 #define _GNU_SOURCE
 #include <inttypes.h>
 #include <ucontext.h>
@@ -29,7 +29,7 @@ struct stack {
     uint8_t *bytes, *top;
 };
 
-static struct stack of_rate, of_worth;
+static struct stack of_rate, of_worth, of_unit;
 
 /* What is asked of a file, and what is answered. */
 struct asked {
@@ -37,7 +37,7 @@ struct asked {
 };
 
 struct answer {
-    uint64_t rated, refused;
+    uint64_t rated, refused, unit;
     int64_t ends[2];
 };
 
@@ -47,7 +47,7 @@ static struct {
     size_t length;
     struct asked asked;
     int64_t *ends;
-    uint64_t rated, refused;
+    uint64_t rated, refused, unit;
 } call;
 
 static void run_rate(void) {
@@ -58,6 +58,11 @@ static void run_rate(void) {
 static void run_worth(void) {
     of_worth.top = __builtin_frame_address(0);
     call.refused = foambeetle_worth(call.file, call.length, call.asked.system, call.asked.fan, call.ends);
+}
+
+static void run_unit(void) {
+    of_unit.top = __builtin_frame_address(0);
+    call.unit = foambeetle_unit(call.file, call.length);
 }
 
 static void make_stack(struct stack *stack) {
@@ -91,9 +96,10 @@ static void make_calls(const uint8_t *file, size_t length, struct asked asked, u
     call.ends = (int64_t *)ends;
     run_on(&of_rate, run_rate);
     run_on(&of_worth, run_worth);
+    run_on(&of_unit, run_unit);
 }
 
-/* Both calls with what they are lent at these places, and `beside` next to the ends: the answer, and nothing else changed. */
+/* All calls with what they are lent at these places, and `beside` next to the ends: the answer, and nothing else changed. */
 static struct answer answer_at(uint8_t *at, uint8_t *ends, const uint8_t *beside, const uint8_t *file, size_t length, struct asked asked) {
     struct answer answer;
 
@@ -108,6 +114,7 @@ static struct answer answer_at(uint8_t *at, uint8_t *ends, const uint8_t *beside
         stop("the ends were written on a refusal");
     answer.rated = call.rated;
     answer.refused = call.refused;
+    answer.unit = call.unit;
     memcpy(answer.ends, ends, ENDS);
     return answer;
 }
@@ -126,9 +133,10 @@ static struct answer answer_of(const uint8_t *file, size_t length, struct asked 
 static void print_answer(struct asked asked, struct answer answer) {
     printf("system %" PRIu64 " %" PRIx64 " fan %" PRIu64, asked.system, answer.rated, asked.fan);
     if (answer.refused)
-        printf(" refused %" PRIu64 "\n", answer.refused);
+        printf(" refused %" PRIu64, answer.refused);
     else
-        printf(" lower %" PRId64 " upper %" PRId64 "\n", answer.ends[0], answer.ends[1]);
+        printf(" lower %" PRId64 " upper %" PRId64, answer.ends[0], answer.ends[1]);
+    printf(" unit %" PRIu64 "\n", answer.unit);
 }
 
 /* The answers to all that is asked of a file. */
@@ -152,11 +160,12 @@ int main(void) {
     ends_page = make_pages(1);
     make_stack(&of_rate);
     make_stack(&of_worth);
+    make_stack(&of_unit);
     while (read_number(4, &length)) {
         if (length > PAGE)
             stop("a file is longer than a page");
         print_file(length);
     }
-    printf("foambeetle_rate %zu\nfoambeetle_worth %zu\n", deepest(&of_rate), deepest(&of_worth));
+    printf("foambeetle_rate %zu\nfoambeetle_worth %zu\nfoambeetle_unit %zu\n", deepest(&of_rate), deepest(&of_worth), deepest(&of_unit));
     return 0;
 }

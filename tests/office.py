@@ -1,8 +1,8 @@
 """The office's call against the second program, byte for byte.
 
-2,000 random decks, each typed into a room that just suffices, one a byte longer and one a byte shorter, and with one thing wrong by turns, or two, so that
-the order of the refusals shows, go through a C program linked with libfoambeetle_office.a, with guard pages on either side of what it lends. What is
-written reads back as the deck that was typed.
+2,000 random decks of either version, each typed into a room that just suffices, one a byte longer and one a byte shorter, and with one thing wrong by
+turns, or two, so that the order of the refusals shows, go through a C program linked with libfoambeetle_office.a, with guard pages on either side of
+what it lends. What is written reads back as the deck that was typed.
 """
 
 import random
@@ -12,7 +12,7 @@ import sys
 from common import OFFICE, compare, make, root, run, static
 
 from files import random_deck
-from foambeetle import Refusal, listed_systems, packed, read_deck, system_numbers, write_deck
+from foambeetle import Deck, Refusal, listed_systems, packed, read_deck, system_numbers, write_deck
 
 DECKS = 2000
 PAINT = b"\xa5"  # of tests/pages.h
@@ -21,36 +21,40 @@ WORD = 2 ** 16
 
 
 def at_random(rng, deck):
-    """A deck's lists: as they are, or with numbers that a rating would refuse, since a writer judges none."""
-    typed = deck.survivals, deck.weights, system_numbers(deck.systems)
+    """A deck's version and lists: as they are, or with numbers that a rating would refuse, since a writer judges none."""
+    lists = deck.survivals, deck.weights, system_numbers(deck.systems)
     if rng.random() < 0.5:
-        return typed
-    return tuple([rng.randrange(most) for _ in numbers] for most, numbers in zip((2 ** 32, WORD, WORD), typed))
+        return deck.version, *lists
+    return deck.version, *([rng.randrange(most) for _ in numbers] for most, numbers in zip((2 ** 32, WORD, WORD), lists))
 
 
-def wrong_fans(rng, survivals, weights, numbers):
-    return rng.choice(([], survivals[:1] * 65, survivals[:1] * 70)), weights, numbers
+def wrong_version(rng, version, survivals, weights, numbers):
+    return rng.choice((0, 3, WORD + version, 2 ** 32 + version, 2 ** 63 + version, 2 ** 64 - 1)), survivals, weights, numbers
 
 
-def wrong_fans_and_weights(rng, survivals, weights, numbers):
+def wrong_fans(rng, version, survivals, weights, numbers):
+    return version, rng.choice(([], survivals[:1] * 65, survivals[:1] * 70)), weights, numbers
+
+
+def wrong_fans_and_weights(rng, version, survivals, weights, numbers):
     n = rng.choice((0, 65, 1000, WORD + len(survivals)))
-    return survivals[:1] * n, weights[:1] * n, numbers
+    return version, survivals[:1] * n, weights[:1] * n, numbers
 
 
-def wrong_weights(rng, survivals, weights, numbers):
-    return survivals, rng.choice((weights[1:], weights + [1], [], weights[:1] * (WORD + len(weights)))), numbers
+def wrong_weights(rng, version, survivals, weights, numbers):
+    return version, survivals, rng.choice((weights[1:], weights + [1], [], weights[:1] * (WORD + len(weights)))), numbers
 
 
-def wrong_systems(rng, survivals, weights, numbers):
-    return survivals, weights, rng.choice(([], FIVE * 33, FIVE * 64, FIVE[:1] * (5 * WORD + 5)))
+def wrong_systems(rng, version, survivals, weights, numbers):
+    return version, survivals, weights, rng.choice(([], FIVE * 33, FIVE * 64, FIVE[:1] * (5 * WORD + 5)))
 
 
-def part_systems(rng, survivals, weights, numbers):
+def part_systems(rng, version, survivals, weights, numbers):
     left = rng.choice(([1], FIVE[:4]))
-    return survivals, weights, rng.choice((FIVE[:4], FIVE + [1], numbers + left, FIVE * 32 + left))
+    return version, survivals, weights, rng.choice((FIVE[:4], FIVE + [1], numbers + left, FIVE * 32 + left))
 
 
-DAMAGES = (wrong_fans, wrong_fans_and_weights, wrong_weights, wrong_systems, part_systems)
+DAMAGES = (wrong_version, wrong_fans, wrong_fans_and_weights, wrong_weights, wrong_systems, part_systems)
 
 
 def damaged(rng, typed):
@@ -65,7 +69,7 @@ def cases():
     rng = random.Random(41)
     for _ in range(DECKS):
         typed = at_random(rng, random_deck(rng))
-        length = 20 + 6 * len(typed[0]) + 2 * len(typed[2])
+        length = 20 + 6 * len(typed[1]) + 2 * len(typed[3])
         for more in (0, 1, -1, rng.randint(-length, 100)):
             yield typed, length + more
         yield damaged(rng, typed), rng.choice((0, length - 1, length, 9999))
@@ -73,9 +77,9 @@ def cases():
 
 def to_write(typed, length):
     """A case as tests/office_test.c reads it."""
-    survivals, weights, numbers = typed
-    sizes = *map(len, typed), length
-    return struct.pack(f"<4I{len(survivals)}I{len(weights)}H{len(numbers)}H", *sizes, *survivals, *weights, *numbers)
+    version, *lists = typed
+    n, w, s = map(len, lists)
+    return struct.pack(f"<Q4I{n}I{w}H{s}H", version, n, w, s, length, *(number for numbers in lists for number in numbers))
 
 
 def told(typed, length):
@@ -87,7 +91,7 @@ def told(typed, length):
 def back(line):
     """The deck that the second program's reader finds in what was written."""
     length, room = line.split(" ")
-    return tuple(read_deck(bytes.fromhex(room)[:int(length, 16)]))
+    return read_deck(bytes.fromhex(room)[:int(length, 16)])
 
 
 def refused(line):
@@ -97,14 +101,15 @@ def refused(line):
 def compare_read(asked, said):
     """Every file that was written, read: the lists that were typed, so that writing them again is the same call."""
     pairs = [(typed, back(line)) for (typed, _), line in zip(asked, said) if not refused(line)]
-    return compare("decks read back", [deck for _, deck in pairs], [(*typed[:2], listed_systems(typed[2])) for typed, _ in pairs])
+    wanted = [Deck(survivals, weights, listed_systems(numbers), version) for (version, survivals, weights, numbers), _ in pairs]
+    return compare("decks read back", [deck for _, deck in pairs], wanted)
 
 
 def seen(said):
     """Every refusal was met."""
     numbers = {int(line.split(" ")[0][8:], 16) for line in said if refused(line)}
     print(f"refusals met: {sorted(numbers)}")
-    return numbers == {2, 5, 12, 16}
+    return numbers == {2, 5, 11, 12, 16}
 
 
 def main():

@@ -1,6 +1,6 @@
 /* Writes every deck of standard input by the office's call and prints a line for each: the answer in hex, and the bytes of the room afterwards. The
- * input has for each the numbers of survival numbers, of weights and of the systems' numbers and the length of the room, in 4 bytes each, then the
- * survival numbers in 4 bytes each and the others in 2, all lowest byte first.
+ * input has for each the version in 8 bytes, the numbers of survival numbers, of weights and of the systems' numbers and the length of the room, in 4
+ * bytes each, then the survival numbers in 4 bytes each and the others in 2, all lowest byte first.
  *
  * Every call is made twice, with the lists and the room ending at a page that may not be touched and beginning behind another, so that a step past
  * either end stops the program. The room is painted before. The two answers and the two rooms must be one, the lists as they were, and the bytes
@@ -39,13 +39,14 @@ static void see_unchanged(const struct list *list, const uint8_t *at) {
 }
 
 /* One call with what it is lent at the end of its pages or at their beginning. */
-static uint64_t answer_at(int last, size_t length) {
+static uint64_t answer_at(int last, uint64_t version, size_t length) {
     uint8_t *p = lend(&survival, last), *w = lend(&weights, last), *s = lend(&systems, last);
     uint8_t *room = last ? room_page + PAGE - length : room_page, *beside = last ? room - BESIDE : room + length;
     uint64_t answer;
 
     memset(room_page, PAINT, PAGE);
-    answer = foambeetle_write((uint32_t *)p, survival.bytes / 4, (uint16_t *)w, weights.bytes / 2, (uint16_t *)s, systems.bytes / 2, room, length);
+    answer = foambeetle_write(version, (uint32_t *)p, survival.bytes / 4, (uint16_t *)w, weights.bytes / 2, (uint16_t *)s, systems.bytes / 2, room,
+                              length);
     see_unchanged(&survival, p);
     see_unchanged(&weights, w);
     see_unchanged(&systems, s);
@@ -57,13 +58,13 @@ static uint64_t answer_at(int last, size_t length) {
     return answer;
 }
 
-static void print_answer(size_t length) {
+static void print_answer(uint64_t version, size_t length) {
     static uint8_t first[PAGE];
-    uint64_t upper = answer_at(1, length), lower;
+    uint64_t upper = answer_at(1, version, length), lower;
     size_t at;
 
     memcpy(first, written, length);
-    lower = answer_at(0, length);
+    lower = answer_at(0, version, length);
     if (upper != lower || memcmp(first, written, length))
         stop("the two places are answered differently");
     printf("%" PRIx64 " ", lower);
@@ -97,7 +98,7 @@ static void make_list(struct list *list) {
 }
 
 int main(void) {
-    uint64_t length;
+    uint64_t version, length;
 
     make_list(&survival);
     make_list(&weights);
@@ -106,13 +107,13 @@ int main(void) {
     written = malloc(PAGE);
     if (!written)
         stop("no memory for the room");
-    while (read_size(&survival, 4)) {
-        if (!read_size(&weights, 2) || !read_size(&systems, 2) || !read_number(4, &length) || length > PAGE - BESIDE)
+    while (read_number(8, &version)) {
+        if (!read_size(&survival, 4) || !read_size(&weights, 2) || !read_size(&systems, 2) || !read_number(4, &length) || length > PAGE - BESIDE)
             stop("a case is cut short, or its room longer than a page");
         read_list(&survival);
         read_list(&weights);
         read_list(&systems);
-        print_answer(length);
+        print_answer(version, length);
     }
     return 0;
 }

@@ -8,12 +8,12 @@ import sys
 from common import PROGRAMS, compare, decks, held, prove, root, run, started
 
 from files import random_files
-from foambeetle import UNIT, Deck, Rule, System, deck_bytes, decklist_output
+from foambeetle import UNITS, Deck, Rule, System, deck_bytes, decklist_output
 
 SAMPLE = root / "samples/hold1.deck"
 FILES = 60
 MILLION = 10 ** 6
-NEAR = (0, 1, 10, 11, 107, 108, 1073, 1074, 10737419, UNIT // 2, UNIT - 1, UNIT)  # percents that begin or end in zeros, or just round
+NEAR = (0, 1, 10, 11, 107, 108, 1073, 1074, 10737419)  # percents that begin or end in zeros, or just round
 # The words that have a program print a deck, beside none at all; every program takes --help and --version.
 WORDS = {"decklist": ["--percent"], "deckworth": []}
 WRONG = (["--percents"], ["--percen"], [""], ["-h"], ["x" * 5000], ["--percent", "--percent"], ["--help", "x"], ["", ""])
@@ -30,24 +30,27 @@ def percent(millionths):
     return f"{millionths // MILLION}.{millionths % MILLION:06d}%"
 
 
-def with_percents(text):
-    """The lines with each low rounded down and each high rounded up, in percent."""
+def with_percents(data):
+    """The lines of a file with each low rounded down and each high rounded up, in percent of its own unit."""
+    unit = UNITS.get(int.from_bytes(data[:2], "little"))  # where there is none, no line has figures
+
     def more(match):
         low, high = (int(number) * 100 * MILLION for number in match.groups())
-        return f"{match[0]} {percent(low // UNIT)} to {percent(-(-high // UNIT))}"
-    return re.sub(r"low (\d+) high (\d+)$", more, text, flags=re.M)
+        return f"{match[0]} {percent(low // unit)} to {percent(-(-high // unit))}"
+    return re.sub(r"low (\d+) high (\d+)$", more, decklist_output(data), flags=re.M)
 
 
-def near():
+def near(version):
     """A fan for each figure, and a system for each fan, so that low and high are that figure."""
-    each = range(1, len(NEAR) + 1)
-    return deck_bytes(Deck(list(NEAR), [0] * len(NEAR), [System(Rule(1, 1, 0), place, place) for place in each]))
+    unit = UNITS[version]
+    fans = [*NEAR, unit // 2, unit - 1, unit]
+    return deck_bytes(Deck(fans, [0] * len(fans), [System(Rule(1, 1, 0), place, place) for place in range(1, len(fans) + 1)], version))
 
 
 def percents():
-    inputs = [deck.read_bytes() for deck in decks()] + [near(), b""] + list(random_files(31, FILES))
+    inputs = [deck.read_bytes() for deck in decks()] + [*map(near, UNITS), b""] + list(random_files(31, FILES))
     printed = [run(started("decklist", "--percent"), data).decode() for data in inputs]
-    return compare("inputs through decklist --percent", printed, [with_percents(decklist_output(data)) for data in inputs])
+    return compare("inputs through decklist --percent", printed, [with_percents(data) for data in inputs])
 
 
 def told(program, *words, what="", **streams):

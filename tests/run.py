@@ -1,9 +1,9 @@
 """The library's calls, decklist and deckworth against the second program, byte for byte.
 
-5,200 random deck files, sound and damaged by turns, one of lines shorter than their window and one of pairs go through a C program linked with
-libfoambeetle.a, which rates their systems and asks for the worth of a fan under each, with guard pages on either side of what it lends and a stack
-that shows how deep a call goes; some of them, and inputs of odd lengths, through the programs; the samples through the programs and through the C
-samples.
+5,200 random deck files of either version, sound and damaged by turns, one of lines shorter than their window, one of pairs, and two whose fans stand
+about the units, go through a C program linked with libfoambeetle.a, which rates their systems, asks for the worth of a fan under each and for the
+file's unit, with guard pages on either side of what it lends and a stack that shows how deep a call goes; some of them, and inputs of odd lengths,
+through the programs; the samples through the programs and through the C samples.
 """
 
 import random
@@ -13,13 +13,14 @@ import sys
 from common import PROGRAMS, SAMPLES, compare, compare_samples, make, prove, root, run, sample, started, static
 
 from files import random_files
-from foambeetle import Deck, Refusal, Rule, System, deck_bytes, rate, worth_of_file
+from foambeetle import UNITS, Deck, Refusal, Rule, System, deck_bytes, rate, unit_of_file, worth_of_file
 
 FILES = 5200
 PRINTED = 150  # a process each, so fewer
 MOST_ASKED = 33
 HUGE = (2 ** 63, 2 ** 64 - 1)
 MOST_STACK = 70000  # of which the working table takes 62,400
+CALLS = 3  # of the library
 
 
 def count_at(data, at):
@@ -43,7 +44,7 @@ def answered(data, system, fan):
     """The line that tests/loading_test.c prints."""
     worth = worth_of_file(data, system, fan)
     text = f"refused {worth.number}" if isinstance(worth, Refusal) else f"lower {worth[0]} upper {worth[1]}"
-    return f"system {system} {rate(data, system):x} fan {fan} {text}"
+    return f"system {system} {rate(data, system):x} fan {fan} {text} unit {unit_of_file(data)}"
 
 
 def largest():
@@ -67,12 +68,19 @@ def pairs():
     return deck_bytes(Deck(fans, [65535] * 12, [*systems, System(Rule(9, 1, 1), 1, 12), System(Rule(8, 1, 1), 0, 12)]))
 
 
+def about_units(version):
+    """A file whose fans stand just below, at and just above either unit, with a system for each."""
+    # document 02, request 08: "4 against the file's unit"
+    fans = [unit + more for unit in UNITS.values() for more in (-1, 0, 1)]
+    return deck_bytes(Deck(fans, [0] * len(fans), [System(Rule(1, 1, 0), fan, fan) for fan in range(1, len(fans) + 1)], version))
+
+
 def odd_inputs():
     """Empty input, input that stops early, and files, sound or not, with more behind them than any file has."""
     sound = next(random_files(11, 1))
     yield from (sound[:length] for length in (0, 1, 7, 19, 20, 21, len(sound) - 1))
     full = largest()
-    no_version, too_many = b"\2" + full[1:], full[:6] + b"\x21\0" + full[8:]
+    no_version, too_many = b"\3" + full[1:], full[:6] + b"\x21\0" + full[8:]
     for front in (sound, full, no_version, too_many):
         yield from (front[:length] + b"\0" * (length - len(front)) for length in (723, 724, 725, 1023, 1024, 1025, 4096, 70000))
 
@@ -84,13 +92,21 @@ def compare_stacks(lines):
     return max(depths.values()) <= MOST_STACK
 
 
+def units_seen(lines):
+    """Files of either version and refused ones were met, by the unit that is answered."""
+    met = {int(line.rpartition(" ")[2]) for line in lines}
+    print(f"units met: {sorted(met)}")
+    return met == {0, *UNITS.values()}
+
+
 def compare_calls(files):
     """Every file through the C program."""
     rng = random.Random(6)
     pairs = [(data, list(asked(rng, data))) for data in files]
     said = run(static(root / "tests/loading_test.c", "loading_test"), b"".join(to_ask(*pair) for pair in pairs)).decode().splitlines()
-    good = compare_stacks(said[-2:])
-    return good & compare(f"calls on {len(files)} files", said[:-2], [answered(data, *one) for data, asks in pairs for one in asks])
+    lines, stacks = said[:-CALLS], said[-CALLS:]
+    good = compare_stacks(stacks) & units_seen(lines)
+    return good & compare(f"calls on {len(files)} files", lines, [answered(data, *one) for data, asks in pairs for one in asks])
 
 
 def compare_stored():
@@ -103,7 +119,7 @@ def compare_stored():
 def main():
     make("lib")
     prove()
-    files = [short_lines(), pairs(), *random_files(2026, FILES)]
+    files = [short_lines(), pairs(), *map(about_units, UNITS), *random_files(2026, FILES)]
     good = compare_stored() & compare_calls(files)
     inputs = files[:PRINTED] + list(odd_inputs())
     for program, output in PROGRAMS.items():

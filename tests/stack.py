@@ -11,7 +11,7 @@ from functools import lru_cache
 from common import make, reported, root, run, tools
 
 MOST_STACK = 70000  # document 02, request 07
-CALLS = ("foambeetle_rate", "foambeetle_worth")
+CALLS = ("foambeetle_rate", "foambeetle_worth", "foambeetle_unit")
 OUTSIDE = {"memcpy": 256, "memset": 256}  # of a C library, whose own code is not ours to read
 RED_ZONE = 128  # what a function that calls nothing may use below its frame
 WORD = 8

@@ -7,10 +7,10 @@ use Rattle.figures_cases.specs.declared.Sizes.{Sizes}
 
 -- the words before the survival numbers, and those of a case beside its lists
 abbrev pub headWords : ℕ
-headWords = 10
+headWords = 11
 
 abbrev pub otherWords : ℕ
-otherWords = 12
+otherWords = 13
 
 abbrev pub mostCells : ℕ
 mostCells = 8000

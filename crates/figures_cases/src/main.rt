@@ -1,7 +1,7 @@
 // Runs the cases of standard input and writes an answer and the checksum of the lent table a line. All of the input is words of 64 bits, lowest
-// byte first: the number of cases, then each case: the call (1 the worth of a fan, else the figures), kind, first, second, a, b, the fan, room, seed,
-// the number of survival numbers, the survival numbers, the number of weights, the weights, how many numbers the further pairs have, these. A case
-// that is cut short ends the run.
+// byte first: the number of cases, then each case: the call (1 the worth of a fan, else the figures), the version, kind, first, second, a, b, the fan,
+// room, seed, the number of survival numbers, the survival numbers, the number of weights, the weights, how many numbers the further pairs have,
+// these. A case that is cut short ends the run.
 mod size; // size.rt: how long a case is
 
 ghost use Prim.Native.Nat.{_+_, _≤_};
@@ -18,29 +18,31 @@ use rules::Rating;
 use rules::Worth;
 use text::lines;
 
-// Where a case has its call, rule, a, b, the fan, the cells of the table, the seed and the number of survival numbers.
+// Where a case has its call, version, rule, a, b, the fan, the cells of the table, the seed and the number of survival numbers.
 const CALL: usize = 0;
 
-const RULE: usize = 1;
+const VERSION: usize = 1;
 
-const A: usize = 4;
+const RULE: usize = 2;
 
-const B: usize = 5;
+const A: usize = 5;
 
-const FAN: usize = 6;
+const B: usize = 6;
 
-const CELLS: usize = 7;
+const FAN: usize = 7;
 
-const SEED: usize = 8;
+const CELLS: usize = 8;
 
-const FANS: usize = 9;
+const SEED: usize = 9;
+
+const FANS: usize = 10;
 
 // The words before the survival numbers; with the number of weights; and with the number of the further pairs' numbers, all of a case beside its lists.
-const HEAD: usize = 10;
+const HEAD: usize = 11;
 
-const WEIGHED: usize = 11;
+const WEIGHED: usize = 12;
 
-const OTHERS: usize = 12;
+const OTHERS: usize = 13;
 
 // The call for the worth of a fan.
 const WORTH: u64 = 1;
@@ -77,14 +79,25 @@ fn asked(
 ) -> Answer
     requires { ⌜ at + headWords ≤ length (now bytes) ⌝ }
 {
+    let version = words::word(bytes, at + VERSION);
     let rule = cases::rule_at(bytes, at + RULE);
     let a = words::word(bytes, at + A);
     let b = words::word(bytes, at + B);
     if words::word(bytes, at + CALL) == WORTH {
         let fan = words::word(bytes, at + FAN);
-        return Answer::Weighed(worth::worth(rule, a, b, fan, survival, weights, more, table));
+        return Answer::Weighed(worth::worth(
+            version,
+            rule,
+            a,
+            b,
+            fan,
+            survival,
+            weights,
+            more,
+            table,
+        ));
     }
-    Answer::Rated(figures::figures(rule, a, b, survival, weights, more, table))
+    Answer::Rated(figures::figures(version, rule, a, b, survival, weights, more, table))
 }
 
 // The same, with the lists read from the case.
