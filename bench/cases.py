@@ -14,6 +14,7 @@ KINDS = SEVEN_KINDS  # kind 8 has peers of its own
 # Read from the last component on, these give as many memories as a total of 120 can: 1, 2, 4, .. 64, then 120.
 WEIGHTS = (1, 2, 4, 8, 16, 32, 57)
 HEAVIEST = 120
+DECIMAL = 10 ** 9
 
 
 class Case(NamedTuple):
@@ -24,6 +25,10 @@ class Case(NamedTuple):
     def line(self):
         more = self.rule.more
         return " ".join(map(str, (*self.rule.numbers, len(self.survivals), *self.survivals, *self.weights, len(more), *more)))
+
+    def in_decimal(self):
+        """The same chances in version 2's unit, as near as it comes."""
+        return self._replace(survivals=tuple(p * DECIMAL // UNIT for p in self.survivals))
 
     def with_middle(self, survival):
         """The same with another survival number of the middle fan, whose worth is asked for (bench/peers/worth.c)."""

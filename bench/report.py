@@ -8,11 +8,14 @@ from datetime import date
 from typing import NamedTuple
 
 from cases import (
-    KINDS, PAIRS_KIND, SIZES, UNIT, agreed_cases, agreed_windows, count_cases, living, longest_cases, steps, weights, window_cases, worst_cases,
+    DECIMAL, KINDS, PAIRS_KIND, SIZES, UNIT, agreed_cases, agreed_windows, count_cases, living, longest_cases, steps, weights, window_cases, worst_cases,
 )
 
 # A double that has gone through n rounded steps is this near, in units of 2^-30.
 NEAR = 0.001
+# How far apart a chance may be in the two units, and how much dearer a rating may be in the second.
+NEAR_UNITS = 1e-6
+DEARER = 1.6
 # The instructions of the loop that the driver runs first.
 KNOWN = 2001
 # The instructions of clearing a working table, which a count table's peers do not do.
@@ -119,6 +122,7 @@ class Results:
         self.measure_figure1()
         self.measure_dearest()
         self.measure_windows()
+        self.measure_units()
         self.measure_worths()
         self.measure_counts()
 
@@ -161,6 +165,15 @@ class Results:
         single = [place for place, case in enumerate(self.windows) if not case.rule.more]  # as a deck file has them
         self.dearest_window = max(single, key=self.window_costs["library"].__getitem__)
         self.whole_window = counted(self.room, "whole", [self.windows[self.dearest_window]]).costs[0] if "whole" in self.ways else None
+
+    def measure_units(self):
+        """The longest of the first table, the dearest, and kind 8, in either unit."""
+        cases = [self.cases[self.at[kind, SIZES[-1]]] for kind in KINDS] + self.dearest + self.windows
+        ours, decimal = counted(self.room, "library", cases), counted(self.room, "decimal", [case.in_decimal() for case in cases])
+        for case, one, other in zip(cases, ours.answers, decimal.answers):
+            if any(abs(a / UNIT - b / DECIMAL) > NEAR_UNITS for a, b in zip(one, other)):
+                fail("the two units give", one, other, "of", case.line())
+        self.units = list(zip(cases, ours.costs, decimal.costs))
 
     def measure_worths(self):
         """Each worth beside the two ratings whose difference it is, with the fan sure to work and with it sure to fail."""
@@ -224,6 +237,10 @@ class Results:
                          ratio(ours, peers[0]), f"{ours / work:.1f}"])
         return table(["at least", "living", "steps", "library", *WINDOW_NAMES.values(), "library / (e)", "library a step"], rows)
 
+    def units_table(self):
+        rows = [[str(case.rule.kind), asked(case.rule) + laid(case), comma(one), comma(two), f"{two / one:.3f}"] for case, one, two in self.units]
+        return table(["kind", "rule", "version 1", "version 2", "version 2 / version 1"], rows)
+
     def wholes(self):
         """Of each kind, the whole call and the rating in it."""
         for kind in KINDS:
@@ -267,6 +284,8 @@ class Results:
             yield f"the same at its dearest rule, {asked(case.rule)}", ours, 2 * steps(case.rule, case.weights) * self.a_step()
         for case, ours, listed in zip(self.windows, self.window_costs["library"], self.window_costs["listed"]):
             yield f"kind 8, at least {asked(case.rule)}: no more than (e)", ours, listed
+        for case, one, two in self.units:
+            yield f"kind {case.rule.kind}, {asked(case.rule)}{laid(case)}: version 2 at most {DEARER} times version 1", two, DEARER * one
         for kind, whole, library in self.wholes() if "whole" in self.ways else ():
             yield f"kind {kind}: whole call 20,000 over the rating", whole - library, 20000
         for rule, (worth, works, fails) in self.worths.items():
@@ -299,6 +318,8 @@ class Results:
             self.dearest_table(),
             "Kind 8 at n = 64, by how many of how many in a row must work:\n",
             self.windows_table(),
+            "Either unit, at n = 64: the rules of the first table, the dearest, and kind 8:\n",
+            self.units_table(),
             "The whole call from a file's bytes, at n = 64:\n",
             self.whole_table(),
             "The worth of fan 32, at n = 64:\n",
