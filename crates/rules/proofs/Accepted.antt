@@ -16,7 +16,7 @@ use Rattle.rules.specs.Below.{total, within}
 use Rattle.rules.specs.State.{besideOf}
 use Rattle.rules.specs.Stretch.{stretch}
 use Rattle.rules.specs.Asked.{Asked, unitIn, lengthOf, sizeOf, partOf, weightsOf, readOf, lowOf, highOf, ThirdOf}
-use Rattle.rules.specs.Refusal.{most, badKind, badSize, badStretch, heaviest, weightsOut, badWeights, rangeOne, rangeTwo, rangePairs, ranged, inRange, firstOf, figuresRefusal}
+use Rattle.rules.specs.Refusal.{most, badKind, badSize, badStretch, heaviest, weightsOut, badWeights, rangeOne, rangeTwo, rangePairs, ranged, inRange, firstOf, after, figuresRefusal}
 use Rattle.rules.specs.Accepted.{Accepted, One, Two, Ratable}
 use Rattle.rules.specs.Answer.{unless, figuresOf}
 use Rattle.rules.proofs.Tests.{by-test, both, neither}
@@ -37,6 +37,16 @@ first-of n b cs e = rw e
 pub first-after : (n : ℕ) (b : Bool) (cs : List (ℕ × Bool)) → b ≡ false → firstOf ((n, b) ∷ cs) ≡ firstOf cs
 unfolding firstOf
 first-after n b cs e = rw e
+
+-- the first conditions of a list by themselves, then those after them
+pub first-more : (n : ℕ) (b : Bool) (cs ds : List (ℕ × Bool)) (next : ℕ) → firstOf ds ≡ after (firstOf cs) next → firstOf ((suc n, b) ∷ ds) ≡ after (firstOf ((suc n, b) ∷ cs)) next
+unfolding firstOf after
+first-more n true cs ds next h = refl
+first-more n false cs ds next h = h
+
+pub first-rest : (ds : List (ℕ × Bool)) → firstOf ds ≡ after (firstOf []) (firstOf ds)
+unfolding firstOf after
+first-rest ds = refl
 
 -- a refusal of a list of conditions is 0 or one of the list's numbers
 pub first-le : {most : ℕ} (n : ℕ) (b : Bool) (cs : List (ℕ × Bool)) → n ≤ most → firstOf cs ≤ most → firstOf ((n, b) ∷ cs) ≤ most

@@ -1,6 +1,6 @@
 -- Request 09: a better fan never spoils the figure. A kind's row respects an order of its memories (`Orders`), so a list in which no survival number is
--- lower has no lower figure, rounded down or up; the same of what is asked and of what is answered. A fan sure to work is better than one sure to
--- fail, so the upper end of its worth is not below 0. Assumes nothing.
+-- lower has no lower figure, rounded down or up, and no lower exact sum; the same of what is asked and of what is answered. A fan sure to work is better
+-- than one sure to fail, so the upper end of its worth is not below 0. Assumes nothing.
 use mathlib.Core.Path.{_≡_, refl, sym, _∙_}
 use mathlib.Core.Bool.{Bool, true, false, false≢true}
 use mathlib.Core.List.{List, [], _∷_}
@@ -17,20 +17,22 @@ use Rattle.rules.specs.declared.Worth.the-variants.{Ends}
 use Rattle.rules.specs.Below.{within}
 use Rattle.rules.specs.State.{ruleOf, numberOf}
 use Rattle.rules.specs.Pairs.{pairsOf}
-use Rattle.rules.specs.Memory.{live, Row, machineOf, readingOf, row1, row4, row5, row6, row7, row8}
-use Rattle.rules.specs.Figure.{figureOf, figure}
+use Rattle.rules.specs.Verdict.{works}
+use Rattle.rules.specs.Memory.{run, live, machineOf, Reading, reading, readingOf, row1, row4, row5, row6, row7, row8}
+use Rattle.rules.specs.Figure.{figureOf, figure, exactIf, exact}
 use Rattle.rules.specs.Stretch.{stretch}
 use Rattle.rules.specs.Asked.{Asked, askedOf, unitIn, sizeOf, partOf, readOf, lowOf, highOf}
-use Rattle.rules.specs.Refusal.{figuresRefusal}
+use Rattle.rules.specs.Refusal.{inRange, figuresRefusal}
 use Rattle.rules.specs.Answer.{figuresOf}
 use Rattle.rules.specs.Worth.{working, failing, worthOf}
 use Rattle.rules.specs.Better.{NoLower, rising, Better}
 use Rattle.rules.proofs.Tests.{both, by-both}
-use Rattle.rules.proofs.Monotone.{value-raise}
+use Rattle.rules.proofs.Split.{exact-same}
+use Rattle.rules.proofs.Monotone.{value-raise, exact-raise}
 use Rattle.rules.proofs.Orders.{Worse, Respects, row-ordered, More, Longer, Owing, row1-respects, row4-respects, row5-respects, row6-respects, row7-respects, MoreDown, row8-respects}
 use Rattle.rules.proofs.EachKind.{each-kind, within-true}
 use Rattle.rules.proofs.Units.{unit-some}
-use Rattle.rules.proofs.Conditions.{below-unit}
+use Rattle.rules.proofs.Conditions.{reading-is-verdict, below-unit}
 use Rattle.rules.proofs.Answer.{rates}
 use Rattle.rules.proofs.Accepted.{stretch-get, figures-ratable}
 use Rattle.rules.proofs.Differences.{less-le, less-none}
@@ -38,7 +40,7 @@ use Rattle.rules.proofs.Sure.{after-first, weighs, sure-accepted, sure-
 
 -- ---- better lists
 
-numbers : (xs ys : List ℕ) → NoLower xs ys → (i : ℕ) → numberOf xs i ≤ numberOf ys i
+pub numbers : (xs ys : List ℕ) → NoLower xs ys → (i : ℕ) → numberOf xs i ≤ numberOf ys i
 unfolding numberOf
 numbers xs ys better zero = le-refl 0
 numbers xs ys better (suc i) = better .no-lower i
@@ -67,35 +69,54 @@ pub asked-better : (version : ℕ) (rule : Rule) (a b : ℕ) {xs ys : List ℕ} 
     → Better (askedOf version rule a b xs weights more) (askedOf version rule a b ys weights more)
 asked-better version rule a b weights more better = record { version = refl; rule = refl; from = refl; to = refl; weights = refl; more = refl; survival = stretch-better a b better }
 
--- ---- their figures, of any unit
+-- ---- what holds of every row that respects an order holds of the row of every kind of which it is claimed
 
-module _ (up : Bool) (u : ℕ) (some : 0 < u) (xs ys beside : List ℕ) (better : NoLower xs ys) (units : (i : ℕ) → getD ys i 0 ≤ u) where
-  row-better : {A : Type 0} (R : Row A) (W : A → A → Type 0) → Respects R W → figureOf R up u xs ≤ figureOf R up u ys
-  row-better R W r =
-      rw (better .same-length)
-      (value-raise (machineOf R) (Worse W) (row-ordered R W r) up u some (length ys) (numberOf xs) (numberOf ys)
-      (λ i l. below-unit ys units i) (λ i l. numbers xs ys better i) (live (R .start)))
-
-  abbrev NotBelow : (first second kind : ℕ) → Type 0
-  NotBelow first second kind = rising kind ≡ true → figure up u (ruleOf kind first second) xs beside ≤ figure up u (ruleOf kind first second) ys beside
-
-  by-kind : (first second kind : ℕ) → 1 ≤ kind → kind ≤ 8 → NotBelow first second kind
+module _ (P : Reading → Type 0) (by-order : (R : Reading) (W : R .Live → R .Live → Type 0) → Respects (R .row) W → P R) (beside : List ℕ) where
+  by-kind : (first second kind : ℕ) → 1 ≤ kind → kind ≤ 8 → rising kind ≡ true → P (readingOf (ruleOf kind first second) beside)
   unfolding readingOf
   by-kind first second =
-      each-kind (NotBelow first second)
-      (λ e. row-better (row1 first (λ i. 1)) More (row1-respects first (λ i. 1)))
-      (λ e. row-better (row1 first (numberOf beside)) More (row1-respects first (numberOf beside)))
+      each-kind (λ kind. rising kind ≡ true → P (readingOf (ruleOf kind first second) beside))
+      (λ e. by-order (reading (row1 first (λ i. 1))) More (row1-respects first (λ i. 1)))
+      (λ e. by-order (reading (row1 first (numberOf beside))) More (row1-respects first (numberOf beside)))
       (λ e. absurd (false≢true e))
-      (λ e. row-better (row4 first) More (row4-respects first))
-      (λ e. row-better (row5 first) Longer (row5-respects first))
-      (λ e. row-better (row6 second) More (row6-respects second))
-      (λ e. row-better (row7 second) (Owing second) (row7-respects second))
-      (λ e. row-better (row8 (pairsOf first second beside)) MoreDown (row8-respects (pairsOf first second beside)))
+      (λ e. by-order (reading (row4 first)) More (row4-respects first))
+      (λ e. by-order (reading (row5 first)) Longer (row5-respects first))
+      (λ e. by-order (reading (row6 second)) More (row6-respects second))
+      (λ e. by-order (reading (row7 second)) (Owing second) (row7-respects second))
+      (λ e. by-order (reading (row8 (pairsOf first second beside))) MoreDown (row8-respects (pairsOf first second beside)))
 
-  pub better-figure : (rule : Rule) → rising (rule .kind) ≡ true → figure up u rule xs beside ≤ figure up u rule ys beside
-  better-figure rule e =
+  by-rising : (rule : Rule) → rising (rule .kind) ≡ true → P (readingOf rule beside)
+  by-rising rule e =
       let k = within-true 1 (rule .kind) 8 (both (within 1 (rule .kind) 8) _ e .0) in
       by-kind (rule .first) (rule .second) (rule .kind) (k .0) (k .1) e
+
+-- ---- their figures and their exact sums, of any unit
+
+module _ (u : ℕ) (xs ys beside : List ℕ) (better : NoLower xs ys) (units : (i : ℕ) → getD ys i 0 ≤ u) where
+  module _ (up : Bool) (some : 0 < u) where
+    row-figure : (R : Reading) (W : R .Live → R .Live → Type 0) → Respects (R .row) W → figureOf (R .row) up u xs ≤ figureOf (R .row) up u ys
+    row-figure R W r =
+        rw (better .same-length)
+        (value-raise (machineOf (R .row)) (Worse W) (row-ordered (R .row) W r) up u some (length ys) (numberOf xs) (numberOf ys)
+        (λ i l. below-unit ys units i) (λ i l. numbers xs ys better i) (live (R .row .start)))
+
+    pub better-figure : (rule : Rule) → rising (rule .kind) ≡ true → figure up u rule xs beside ≤ figure up u rule ys beside
+    better-figure = by-rising (λ R. figureOf (R .row) up u xs ≤ figureOf (R .row) up u ys) row-figure beside
+
+  -- as a reading gives them
+  abbrev readSum : Reading → List ℕ → ℕ
+  readSum R zs = exactIf (run (machineOf (R .row)) (length ys) (live (R .row .start))) u (numberOf zs) (length ys)
+
+  row-exact : (R : Reading) (W : R .Live → R .Live → Type 0) → Respects (R .row) W → readSum R xs ≤ readSum R ys
+  row-exact R W r =
+      exact-raise (machineOf (R .row)) (Worse W) (row-ordered (R .row) W r) u (length ys) (numberOf xs) (numberOf ys)
+      (λ i l. below-unit ys units i) (λ i l. numbers xs ys better i) (live (R .row .start))
+
+  pub better-exact : (rule : Rule) → rising (rule .kind) ≡ true → inRange rule (length ys) beside ≡ true → exact u rule xs beside ≤ exact u rule ys beside
+  better-exact rule kind range =
+      let read : (zs : List ℕ) → readSum (readingOf rule beside) zs ≡ exactIf (works rule (length ys) beside) u (numberOf zs) (length ys)
+      = λ zs. exact-same _ _ u (numberOf zs) (length ys) (λ w l. reading-is-verdict rule (length ys) beside w range l) in
+      rw (better .same-length, ← (read xs), ← (read ys)) (by-rising (λ R. readSum R xs ≤ readSum R ys) row-exact beside rule kind)
 
 -- ---- of what is asked and answered. That the second is accepted is enough: its numbers are within the unit.
 
@@ -107,8 +128,8 @@ module _ (q q' : Asked) (better : Better q q') (kind : rising (q .rule .kind) �
       go up =
           let read : readOf q ≡ readOf q' = rw (better .rule, better .weights, better .more, better .from, better .to) in
           rw (← read, ← (better .rule), ← (better .version))
-          (better-figure up (unitIn q) (unit-some (q .version)) (partOf q) (partOf q') (readOf q) (better .survival)
-          (rw (← (better .version)) at (figures-ratable q' table none .2 .units)) (q .rule) kind)
+          (better-figure (unitIn q) (partOf q) (partOf q') (readOf q) (better .survival) (rw (← (better .version)) at (figures-ratable q' table none .2 .units))
+          up (unit-some (q .version)) (q .rule) kind)
 
   pub better-answers : (table table' : List ℕ) (l h l' h' : ℕ) → figuresOf q table ≡ Range l h → figuresOf q' table' ≡ Range l' h'
       → (l ≤ l') × (h ≤ h')

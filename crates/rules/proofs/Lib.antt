@@ -9,6 +9,7 @@ pub mod Split
 pub mod Rounding
 pub mod Enclosure
 pub mod Monotone
+pub mod Near
 pub mod Units
 pub mod Unless
 pub mod Answer
@@ -35,3 +36,8 @@ pub mod Differences
 pub mod Sure
 pub mod Lowest
 pub mod Better
+pub mod Grid
+pub mod Scaling
+pub mod Finer
+pub mod Doubles
+pub mod DoubleExamples

@@ -23,7 +23,7 @@ unfolding product
 product-above u P zero a w = refl
 product-above u P (suc i) a w = rw (bit-above a i w, shift a i, product-above u P i (a * 2) w)
 
-cond-mul : (b : Bool) (c x : ℕ) → cond b (c * x) 0 ≡ c * cond b x 0
+pub cond-mul : (b : Bool) (c x : ℕ) → cond b (c * x) 0 ≡ c * cond b x 0
 cond-mul true c x = refl
 cond-mul false c x = omega arith
 

@@ -45,7 +45,7 @@ part-within u p a b j xs h s i =
     rw (stretch-get a b (set xs j p) i)
     (by-test (λ x. x ≤ u) (ltb i (suc b - a)) _ _ (λ l. set-within u p h xs j (a - 1 + i) (rw (stretch-get a b xs i, l) at (s i))) (λ l. zero-le))
 
-none-above : (u : ℕ) (xs : List ℕ) → ((i : ℕ) → getD xs i 0 ≤ u) → aboveUnit u xs ≡ false
+pub none-above : (u : ℕ) (xs : List ℕ) → ((i : ℕ) → getD xs i 0 ≤ u) → aboveUnit u xs ≡ false
 unfolding aboveUnit
 none-above u xs s = some-none (λ i. ltb u (getD xs i 0)) (length xs) .1 (λ i l e. true≢false (sym e ∙ le-ltb u (getD xs i 0) (s i)))
 

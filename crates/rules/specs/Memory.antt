@@ -158,7 +158,7 @@ pub record Reading : Type 1 where
   pub Live : Type 0
   pub row : Row Live
 
-abbrev reading : {A : Type 0} → Row A → Reading
+abbrev pub reading : {A : Type 0} → Row A → Reading
 reading {A} R = record { Live = A; row = R }
 
 abbrev pub row0 : Row ℕ
