@@ -1,5 +1,5 @@
--- The refusal of the figures, as the code works it out: 1 to 4, then 5 and 6 over the weights that are rated and the further pairs, then 7; and where there
--- is none, the part can be rated. A list that the kind does not read changes nothing. Assumes nothing.
+-- The refusal of the figures, as the code works it out: 11, then 1 to 3, then 4, then 5 and 6 over the weights that are rated and the further pairs, then 7;
+-- and where there is none, the part can be rated. A list that the kind does not read changes nothing. Assumes nothing.
 use Prim.Native.Nat.{ℕ, suc, _-_, _≤_}
 use mathlib.Core.Path.{_≡_, refl, sym, ap, _∙_}
 use mathlib.Core.Bool.{Bool, true, false, cond, not}
@@ -18,10 +18,10 @@ use Rattle.rules.specs.Asked.{Asked, unitIn, lengthOf, sizeOf, partOf, weightsO
 use Rattle.rules.specs.Refusal.{after, firstOf, badVersion, badKind, badSize, badStretch, aboveUnit, weightsOut, badWeights, ranged, inRange, shortTable, figuresRefusal}
 use Rattle.rules.specs.Accepted.{Ratable}
 use Rattle.rules.proofs.Tests.{by-test}
-use Rattle.rules.proofs.Accepted.{first-same, first-after, in-stretch, figures-ratable, weights-accepted}
+use Rattle.rules.proofs.Accepted.{none-first, first-same, first-after, first-more, first-rest, in-stretch, figures-ratable, weights-accepted}
 use Rattle.rules.proofs.Unread.{Unread, accepted-unread, unread-total, beside-range, unread-figure}
 use Rattle.refusals.specs.Shared.{ratedRefusal}
-use Rattle.figures.specs.Outcome.{ratedOf}
+use Rattle.figures.specs.Outcome.{ratedOf, placeRefusal, partRefusal}
 
 -- the part as the code takes it
 pub part-is : (a b n : ℕ) (xs : List ℕ) → badStretch a b n ≡ false → take (b - (a - 1)) (drop (a - 1) xs) ≡ stretch a b xs
@@ -70,11 +70,32 @@ module _ (rule : Rule) (n : ℕ) (ws : List ℕ) (a b : ℕ) where
       (λ _. by-test (λ xs. length xs ≤ length ws) (eqb (length ws) n) (stretch a b ws) [] (λ _. simp (length-take, length-drop) (omega arith)) (λ _. omega arith))
       (λ _. omega arith)
 
-seven-after : (b c d : Bool) → firstOf ((5, b) ∷ (6, c) ∷ (7, d) ∷ []) ≡ after (firstOf ((5, b) ∷ (6, c) ∷ [])) (cond d 7 0)
-unfolding firstOf after
-seven-after true c d = refl
-seven-after false true d = refl
-seven-after false false d = refl
+-- ---- 1, 2 and 3, and 5 and 6, with the conditions that come after them
+
+pub place-first : (rule : Rule) (a b n : ℕ) (rest : List (ℕ × Bool))
+    → firstOf ((1, badKind rule) ∷ (2, badSize n) ∷ (3, badStretch a b n) ∷ rest) ≡ after (placeRefusal rule a b n) (firstOf rest)
+unfolding placeRefusal
+place-first rule a b n rest = first-more 0 _ _ _ _ (first-more 1 _ _ _ _ (first-more 2 _ [] rest _ (first-rest rest)))
+
+pub part-first : (rule : Rule) (a b n : ℕ) (weights more : List ℕ) (rest : List (ℕ × Bool))
+    → firstOf ((5, badWeights rule n weights (stretch a b weights)) ∷ (6, not (inRange rule (suc b - a) (besideOf rule (stretch a b weights) more))) ∷ rest)
+    ≡ after (partRefusal rule a b n weights more) (firstOf rest)
+unfolding partRefusal
+part-first rule a b n weights more rest = first-more 4 _ _ _ _ (first-more 5 _ [] rest _ (first-rest rest))
+
+pub record Placed (rule : Rule) (a b n : ℕ) : Type 0 where
+  pub kind : badKind rule ≡ false
+  pub size : badSize n ≡ false
+  pub inside : badStretch a b n ≡ false
+  pub fits : (1 ≤ a) × (a ≤ b) × (b ≤ n)
+
+pub placed : (rule : Rule) (a b n : ℕ) → placeRefusal rule a b n ≡ 0 → Placed rule a b n
+unfolding placeRefusal
+placed rule a b n e =
+    let one = none-first 0 _ _ e in
+    let two = none-first 1 _ _ (one .1) in
+    let three = none-first 2 _ _ (two .1) in
+    record { kind = one .0; size = two .0; inside = three .0; fits = in-stretch a b n (three .0) }
 
 -- the weights that the code hands on, and what is read with the rule then
 abbrev handed : Asked → List ℕ
@@ -83,21 +104,18 @@ handed q = ratedOf (q .rule) (lengthOf q) (q .weights) (q .a) (q .b)
 abbrev read : Asked → List ℕ
 read q = besideOf (q .rule) (handed q) (q .more)
 
-module _ (q : Asked) (table : List ℕ) where
-  -- 5, 6 and 7 once 11 and 1 to 4 are past
-  pub rest-is : badVersion (q .version) ≡ false → badKind (q .rule) ≡ false → badSize (lengthOf q) ≡ false → badStretch (q .a) (q .b) (lengthOf q) ≡ false → aboveUnit (unitIn q) (partOf q) ≡ false
-      → {own : ℕ} {rated : List ℕ} → own ≡ ratedRefusal (q .rule) (lengthOf q) (length (q .weights)) (q .b - (q .a - 1)) (total rated) (q .more) → rated ≡ handed q
-      → figuresRefusal q table ≡ after own (cond (shortTable table) 7 0)
-  unfolding figuresRefusal
-  rest-is eleven one two three four e d =
-      let h = in-stretch (q .a) (q .b) (lengthOf q) three in
-      let m : sizeOf q ≡ q .b - (q .a - 1) = omega arith in
-      first-after 11 _ _ eleven ∙ first-after 1 _ _ one ∙ first-after 2 _ _ two ∙ first-after 3 _ _ three ∙ first-after 4 _ _ four
-      ∙ seven-after _ _ _
-      ∙ ap (λ r. after r (cond (shortTable table) 7 0))
-      (sym (e ∙ ap (λ xs. ratedRefusal (q .rule) (lengthOf q) (length (q .weights)) (q .b - (q .a - 1)) (total xs) (q .more)) d
-      ∙ own-is (q .rule) (lengthOf q) (q .weights) (q .a) (q .b) (q .b - (q .a - 1)) (q .more)
-      ∙ ap (λ x. firstOf ((5, badWeights (q .rule) (lengthOf q) (q .weights) (weightsOf q)) ∷ (6, not (inRange (q .rule) x (readOf q))) ∷ [])) (sym m)))
+-- what is left past 4, and past 11 before 1 to 3
+abbrev pub from5 : Asked → (table : List ℕ) → List (ℕ × Bool)
+from5 q table =
+    (5, badWeights (q .rule) (lengthOf q) (q .weights) (weightsOf q))
+    ∷ (6, not (inRange (q .rule) (sizeOf q) (readOf q)))
+    ∷ (7, shortTable table)
+    ∷ []
+
+pub past-version : (q : Asked) (table : List ℕ) → badVersion (q .version) ≡ false
+    → figuresRefusal q table ≡ after (placeRefusal (q .rule) (q .a) (q .b) (lengthOf q)) (firstOf ((4, aboveUnit (unitIn q) (partOf q)) ∷ from5 q table))
+unfolding figuresRefusal
+past-version q table eleven = first-after 11 _ _ eleven ∙ place-first (q .rule) (q .a) (q .b) (lengthOf q) _
 
 -- no refusal: the part can be rated, and its figures are those asked for
 module _ (q : Asked) (table : List ℕ) (none : figuresRefusal q table ≡ 0) where

@@ -5,7 +5,7 @@ ghost use Prim.Native.Nat.{_≤_};
 ghost use Rattle.rules.specs.State.{S};
 ghost use Rattle.rules.specs.Asked.{askedOf};
 ghost use Rattle.rules.specs.Refusal.{badStretch, aboveUnit, figuresRefusal};
-ghost use Rattle.figures.specs.Outcome.{ratedOf, Worked, Ranged, Rated};
+ghost use Rattle.figures.specs.Outcome.{ratedOf, placeRefusal, partRefusal, Worked, Ranged, Rated};
 use cells::CELLS;
 use places::Ends;
 use rules::Rating;
@@ -57,6 +57,40 @@ fn rated_weights(rule: Rule, n: usize, weights: &[u16], a: u64, b: u64) -> &[u16
     &weights[from..upto]
 }
 
+// Refusals 1, 2 and 3 of a list of n, the first that applies; 0 for none.
+pub fn place_refusal(rule: Rule, a: u64, b: u64, n: u64) -> u64
+    ensures { λ r. ⌜ r ≡ placeRefusal rule a b n ⌝ }
+{
+    if refusals::kind_out(rule) {
+        return 1;
+    }
+    if refusals::size_out(n) {
+        return 2;
+    }
+    if stretch_out(a, b, n) {
+        return 3;
+    }
+    0
+}
+
+// Refusals 5 and 6 of a stretch that lies in a list of n.
+pub fn part_refusal(rule: Rule, a: u64, b: u64, n: usize, weights: &[u16], more: &[u64]) -> u64
+    requires { ⌜ placeRefusal rule a b n ≡ 0 ⌝ }
+    ensures { λ r. ⌜ r ≡ partRefusal rule a b n (now (weights .entry)) (now (more .entry)) ⌝ }
+{
+    let from = a as usize - 1;
+    let upto = b as usize;
+    let rated = rated_weights(rule, n, weights, a, b);
+    refusals::rated_refusal(
+        rule,
+        n as u64,
+        weights.len() as u64,
+        (upto - from) as u64,
+        rated,
+        more,
+    )
+}
+
 // Refusals 11, then 1 to 7, the first that applies; 0 for none.
 pub fn refusal(
     version: u64,
@@ -73,34 +107,22 @@ pub fn refusal(
     if refusals::version_out(version) {
         return 11;
     }
-    let decimal = units::is_decimal(version);
-    let all = units::whole(decimal);
-    if refusals::kind_out(rule) {
-        return 1;
-    }
     let n = survival.len();
-    if refusals::size_out(n as u64) {
-        return 2;
-    }
-    if stretch_out(a, b, n as u64) {
-        return 3;
+    let place = place_refusal(rule, a, b, n as u64);
+    if place != 0 {
+        return place;
     }
     let from = a as usize - 1;
     let upto = b as usize;
-    if above_unit(all, &survival[from..upto]) {
+    if above_unit(
+        units::whole(units::is_decimal(version)),
+        &survival[from..upto],
+    ) {
         return 4;
     }
-    let rated = rated_weights(rule, n, weights, a, b);
-    let own = refusals::rated_refusal(
-        rule,
-        n as u64,
-        weights.len() as u64,
-        (upto - from) as u64,
-        rated,
-        more,
-    );
-    if own != 0 {
-        return own;
+    let part = part_refusal(rule, a, b, n, weights, more);
+    if part != 0 {
+        return part;
     }
     if table.len() < CELLS {
         return 7;
