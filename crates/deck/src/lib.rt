@@ -7,6 +7,7 @@ ghost use mathlib.Core.Path.{_≡_};
 ghost use Prim.Native.Nat.{_≤_};
 ghost use lib.ListN.{length};
 ghost use Rattle.rules.specs.File.{headerLength, versionIn, fansIn, countIn, systemIn, badStart, badLayout, fileRefusal};
+ghost use Rattle.rules.specs.Doubles.{otherRefusal};
 ghost use Rattle.deck.specs.Read.{noDeck, keptDeck};
 ghost use Rattle.deck.specs.Outcome.{Checked, Handed, Placed};
 use crate::layout::MOST_FANS;
@@ -78,6 +79,19 @@ pub fn file_refusal(bytes: &[u8]) -> u64
     }
     if bad_layout(bytes) {
         return 13;
+    }
+    0
+}
+
+// The refusal of a file that is not of version 1: 10 where it has none, 11 where it has another; 0 for version 1, whatever follows.
+pub fn other_refusal(bytes: &[u8]) -> u64
+    ensures { λ r. ⌜ r ≡ otherRefusal (now (bytes .entry)) ⌝ }
+{
+    if bytes.len() < layout::HEADER_LENGTH {
+        return 10;
+    }
+    if number::number2(bytes, layout::VERSION_FIELD) != 1 {
+        return 11;
     }
     0
 }

@@ -1,4 +1,3 @@
--- The laws of the loading computer's calls: each answer of a file, that one number carries its figures, and the ends of a worth.
-pub mod Answers
+-- The laws of the loading computer's calls: that one number carries every answer, and the ends of a worth.
 pub mod Packed
 pub mod Told

@@ -1,3 +1,2 @@
--- What the loading computer's call cites: its outcome, and the answers that one number can carry.
+-- What the loading computer's calls cite: their outcomes.
 pub mod Outcome
-pub mod Packing

@@ -1,15 +1,13 @@
 -- What the loading computer's calls answer: the number of the file's system; the worth of one of its fans, and the ends afterwards.
 use mathlib.Core.Path.{_≡_}
-use mathlib.Core.Bool.{cond}
 use mathlib.Core.List.{List, [], _∷_}
 use Prim.Native.Nat.{ℕ}
 use lib.IntN.{ℤ}
 use Rattle.rules.specs.declared.Worth.{Worth}
 use Rattle.rules.specs.declared.Worth.the-variants.{Ends, Refused}
 use Rattle.rules.specs.State.{unitOf}
-use Rattle.rules.specs.Refusal.{after}
 use Rattle.rules.specs.Answer.{unless}
-use Rattle.rules.specs.File.{versionIn, fileRefusal, badNumber, packed, loadingOf, worthLoadingOf}
+use Rattle.rules.specs.File.{versionIn, fileRefusal, packed, loadingOf, worthLoadingOf}
 
 pub record Answered (file : List ℕ) (system r : ℕ) : Type 0 where
   pub number : r ≡ packed (loadingOf file system)
@@ -33,7 +31,3 @@ partsOf file = unless (fileRefusal file) (λ r. 0) (unitOf (versionIn file))
 
 pub record Parted (file : List ℕ) (r : ℕ) : Type 0 where
   pub number : r ≡ partsOf file
-
--- a file's own refusal, then 14
-unfoldable pub openRefusal : List ℕ → ℕ → ℕ
-openRefusal bytes s = after (fileRefusal bytes) (cond (badNumber bytes s) 14 0)

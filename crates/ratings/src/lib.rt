@@ -35,7 +35,7 @@ pub extern "C" fn foambeetle_figures(
     ensures { λ r. ⌜ Timed (askedOf version (ruleOf kind first second) a b (now (survival .entry)) (now (weights .entry)) (now (more .entry))) (now (table .entry)) (now (table .exit)) r ⌝ }
 {
     let rule = rule_of(kind, first, second);
-    loading::pack(figures::figures(version, rule, a, b, survival, weights, more, table))
+    packing::pack(figures::figures(version, rule, a, b, survival, weights, more, table))
 }
 
 // The worth of a fan, likewise. In C: `uint64_t foambeetle_worth_of(uint64_t version, uint64_t kind, uint64_t first, uint64_t second, uint64_t a, uint64_t b, uint64_t fan,

@@ -1,13 +1,12 @@
-// The refusals that several calls share: 11, 1, 2, 5 and 6 of document 01's table; and how a refusal stands in the one number that C gets.
+// The refusals that several calls share: 11, 1, 2, 5 and 6 of document 01's table.
 mod pairs; // pairs.rt: kind 8's pairs
 
 ghost use mathlib.Core.Bool.{not};
 ghost use mathlib.Core.Path.{_≡_};
-ghost use Prim.Native.Nat.{_≤_, _<_};
+ghost use Prim.Native.Nat.{_≤_};
 ghost use lib.ListN.{length};
 ghost use Rattle.rules.specs.Below.{total, within};
 ghost use Rattle.rules.specs.Refusal.{most, badVersion, badKind, badSize, rangeOne, rangeTwo, ranged};
-ghost use Rattle.rules.specs.File.{halfWord, packedRefusal};
 ghost use Rattle.refusals.specs.Shared.{ratedRefusal, ruleRefusal};
 use rules::Rule;
 
@@ -18,11 +17,6 @@ const LAST_VERSION: u64 = 2;
 const MOST: u64 = 64;
 
 const HEAVIEST: u64 = 120;
-
-// The numbers that half of a packed answer holds, and what a refusal's number is added to.
-pub const HALF_WORD: u64 = 4294967296;
-
-const REFUSED: u64 = (HALF_WORD - 1) * HALF_WORD;
 
 // Is x outside a range, whose ends belong to it?
 pub fn outside(low: u64, x: u64, high: u64) -> bool
@@ -148,12 +142,4 @@ pub fn rule_refusal(rule: Rule, n: u64, weights: &[u16], more: &[u64]) -> u64
         return 2;
     }
     rated_refusal(rule, n, weights.len() as u64, n, weights, more)
-}
-
-// A refusal packed into one number: (2^32 - 1) times 2^32 plus its own.
-pub fn packed(number: u64) -> u64
-    requires { ⌜ number < halfWord ⌝ }
-    ensures { λ r. ⌜ r ≡ packedRefusal number ⌝ }
-{
-    REFUSED + number
 }

@@ -1,4 +1,4 @@
--- The figures of a deck's system are values of a memory, and stay within their decimal, which is at most 2^30. Assumes nothing.
+-- The figures of a deck's system are values of a memory, and stay within their unit, which is at most 2^30. Assumes nothing.
 use mathlib.Core.Bool.{Bool, true, false}
 use mathlib.Core.List.{List}
 use Prim.Native.Nat.{ℕ, _≤_}
@@ -8,8 +8,9 @@ use Rattle.rules.specs.State.{S}
 use Rattle.rules.specs.Figure.{figure}
 use Rattle.rules.specs.Asked.{Asked, unitIn, partOf, readOf}
 use Rattle.rules.specs.Answer.{figuresOf}
-use Rattle.rules.specs.File.{systemOf}
+use Rattle.rules.specs.File.{systemOf, badNumber, loadingOf}
 use Rattle.rules.proofs.Units.{unit-some, unit-most}
+use Rattle.rules.proofs.Tests.{by-test}
 use Rattle.rules.proofs.Unless.{unless-by}
 use Rattle.rules.proofs.Conditions.{figure-within}
 use Rattle.rules.proofs.Accepted.{figures-ratable}
@@ -29,3 +30,7 @@ figures-within q table =
 pub answer-within : (d : Deck) (s : ℕ) → WithinUnit (answerAt d s)
 unfolding answerAt systemOf
 answer-within d s = figures-within _ _
+
+pub loading-within : (bytes : List ℕ) (s : ℕ) → WithinUnit (loadingOf bytes s)
+unfolding loadingOf systemOf
+loading-within bytes s = unless-by WithinUnit _ Refused _ tt (λ e. by-test WithinUnit (badNumber bytes s) _ _ (λ b. tt) (λ b. figures-within _ _))

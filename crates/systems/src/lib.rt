@@ -6,9 +6,10 @@ ghost use Rattle.rules.specs.Asked.{askedOf};
 ghost use Rattle.rules.specs.Refusal.{cells};
 ghost use Rattle.rules.specs.Answer.{figuresOf};
 ghost use Rattle.rules.specs.Worth.{worthOf};
-ghost use Rattle.rules.specs.File.{answerIn, worthIn};
+ghost use Rattle.rules.specs.File.{answerIn, worthIn, loadingOf, worthLoadingOf};
 ghost use Rattle.deck.specs.Outcome.{Placed};
 ghost use Rattle.systems.specs.Arrays.{answerAt, worthAt, Held};
+ghost use Rattle.systems.specs.Opened.{openRefusal};
 use cells::CELLS;
 use deck::Deck;
 use rules::NO_MORE;
@@ -120,4 +121,40 @@ pub fn weigh_in(file: &[u8], s: usize, fan: u64) -> Worth
     let weights = deck::weights_in(file);
     let system = deck::system_in(file, s);
     weigh_lists(version, system, fan, &survival[..n], &weights[..n])
+}
+
+// The file's own refusal, then 14 for a system that it does not have; 0 for none.
+fn refusal(file: &[u8], system: u64) -> u64
+    ensures { λ r. ⌜ r ≡ openRefusal (now (file .entry)) system ⌝ }
+{
+    let own = deck::file_refusal(file);
+    if own != 0 {
+        return own;
+    }
+    if refusals::outside(1, system, deck::count_in(file) as u64) {
+        return 14;
+    }
+    0
+}
+
+// The answer for a file's system, counted from 1: the file's refusal, then 14, then the system's own.
+pub fn rate_file(file: &[u8], system: u64) -> Rating
+    ensures { λ r. ⌜ r ≡ loadingOf (now (file .entry)) system ⌝ }
+{
+    let refused = refusal(file, system);
+    if refused != 0 {
+        return Rating::Refused(refused);
+    }
+    rate_in(file, (system - 1) as usize)
+}
+
+// The worth of a fan to it, likewise, then 17.
+pub fn weigh_file(file: &[u8], system: u64, fan: u64) -> Worth
+    ensures { λ r. ⌜ r ≡ worthLoadingOf (now (file .entry)) system fan ⌝ }
+{
+    let refused = refusal(file, system);
+    if refused != 0 {
+        return Worth::Refused(refused);
+    }
+    weigh_in(file, (system - 1) as usize, fan)
 }

@@ -3,7 +3,7 @@ use mathlib.Core.Path.{ap, _∙_}
 use borrow.Author.Needs.{needs}
 use Rattle.rules.specs.File.{packed}
 use Rattle.figures.proofs.Outcome.{figures-are}
-use Rattle.loading.proofs.Packed.{figures-packable}
+use Rattle.packing.proofs.Packed.{figures-packable}
 use Rattle.ratings.proofs.foambeetle_figures.Statement.{statement}
 use Rattle.ratings.proofs.foambeetle_figures.Tie as tie
 

@@ -1,4 +1,4 @@
--- Answers that one number carries: figures within the unit, and the table's refusal numbers.
+-- Answers that one number carries: figures within 2^30, and the documents' refusal numbers.
 use Prim.Native.Nat.{ℕ, _≤_}
 use Rattle.rules.specs.State.{S}
 use Rattle.rules.specs.declared.Rating.{Rating}
@@ -6,7 +6,7 @@ use Rattle.rules.specs.declared.Rating.the-variants.{Range, Refused}
 
 -- the highest number of the refusals
 abbrev pub mostRefusal : ℕ
-mostRefusal = 14
+mostRefusal = 19
 
 abbrev pub Packable : Rating → Type 0
 Packable (Range low high) = (low ≤ S) × (high ≤ S)

@@ -1,11 +1,11 @@
--- `loading::refusal` meets its contract: the file's own refusal, then 14. Assumes nothing.
+-- `systems::refusal` meets its contract: the file's own refusal, then 14. Assumes nothing.
 use mathlib.Core.Path.{sym, ap, _∙_}
 use mathlib.Core.Bool.{cond}
 use borrow.Author.Needs.{needs}
 use Rattle.rules.proofs.Unless.{after-none, after-some}
-use Rattle.loading.specs.Outcome.{openRefusal}
-use Rattle.loading.proofs.refusal.Statement.{statement}
-use Rattle.loading.proofs.refusal.Tie as tie
+use Rattle.systems.specs.Opened.{openRefusal}
+use Rattle.systems.proofs.refusal.Statement.{statement}
+use Rattle.systems.proofs.refusal.Tie as tie
 
 file-refusal-requires : tie.Need-file-refusal-requires
 file-refusal-requires c κs = search needs

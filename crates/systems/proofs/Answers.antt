@@ -11,7 +11,7 @@ use Rattle.rules.specs.Answer.{unless}
 use Rattle.rules.specs.File.{countIn, fileRefusal, badNumber}
 use Rattle.deck.specs.Outcome.{Placed}
 use Rattle.rules.proofs.EachKind.{within-true}
-use Rattle.loading.specs.Outcome.{openRefusal}
+use Rattle.systems.specs.Opened.{openRefusal}
 
 both-refusals : {A : Type 0} (refused : ℕ → A) (answer : A) (r : ℕ) (b : Bool)
     → unless r refused (cond b (refused 14) answer) ≡ unless (after r (cond b 14 0)) refused answer

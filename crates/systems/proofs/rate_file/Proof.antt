@@ -1,13 +1,13 @@
--- `loading::rate_file` meets its contract: past the refusals the number is that of one of the file's systems. Assumes nothing.
+-- `systems::rate_file` meets its contract: past the refusals the number is that of one of the file's systems. Assumes nothing.
 use mathlib.Core.Path.{sym, ap, _∙_}
 use native.Mathlib.Omega.{arith}
 use borrow.Author.Needs.{needs}
 use Rattle.rules.specs.declared.Rating.the-variants.{Refused}
 use Rattle.rules.specs.File.{loadingOf}
 use Rattle.rules.proofs.Unless.{unless-none, unless-some}
-use Rattle.loading.proofs.Answers.{opened-answer, numbered}
-use Rattle.loading.proofs.rate_file.Statement.{statement}
-use Rattle.loading.proofs.rate_file.Tie as tie
+use Rattle.systems.proofs.Answers.{opened-answer, numbered}
+use Rattle.systems.proofs.rate_file.Statement.{statement}
+use Rattle.systems.proofs.rate_file.Tie as tie
 
 refusal-requires : tie.Need-refusal-requires
 refusal-requires c κs = search needs

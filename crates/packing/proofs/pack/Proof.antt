@@ -1,8 +1,8 @@
--- `loading::pack` meets its contract: each half stays below 2^32. Assumes nothing.
+-- `pack` meets its contract: each half stays below 2^32. Assumes nothing.
 use native.Mathlib.Omega.{arith}
 use borrow.Author.Needs.{needs}
-use Rattle.loading.proofs.pack.Statement.{statement}
-use Rattle.loading.proofs.pack.Tie as tie
+use Rattle.packing.proofs.pack.Statement.{statement}
+use Rattle.packing.proofs.pack.Tie as tie
 
 enum-known-rating : tie.Need-enum-known-rating
 enum-known-rating c = search needs
@@ -16,14 +16,14 @@ add-result c = omega (arith, rw (c .before .rating .given .1) at (c .before .bef
 enum-known-rating-2 : tie.Need-enum-known-rating-2
 enum-known-rating-2 c = search needs
 
-packed-requires : tie.Need-packed-requires
-packed-requires c κs = omega (arith, rw (c .before .rating2 .given .1) at (c .before .before .before .pre))
+refused-requires : tie.Need-refused-requires
+refused-requires c κs = omega (arith, rw (c .before .rating2 .given .1) at (c .before .before .before .pre))
 
 returns : tie.Need-returns
 returns c = rw (c .before .rating .given .1)
 
 returns-2 : tie.Need-returns-2
-returns-2 c = rw (c .before .before .rating2 .given .1) (c .packed .ensures)
+returns-2 c = rw (c .before .before .rating2 .given .1) (c .refused .ensures)
 
 pub pack-spec : {M : Type 1} → statement M
 pack-spec =
@@ -33,6 +33,6 @@ pack-spec =
     mul-result
     add-result
     enum-known-rating-2
-    packed-requires
+    refused-requires
     returns
     returns-2)

@@ -1,0 +1,2 @@
+-- That every rating can be packed, and that the number tells it.
+pub mod Packed

@@ -1,0 +1,2 @@
+-- The answers that one number carries.
+pub mod Packing
