@@ -1,0 +1,2 @@
+-- What is answered of the figures that go out.
+pub mod Outcome

@@ -1,0 +1,3 @@
+-- What the call's proofs share, and its outcome.
+pub mod Stretches
+pub mod Outcome
