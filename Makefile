@@ -16,7 +16,7 @@ libraries := foambeetle foambeetle_office
 crate_of_foambeetle := loading
 about_foambeetle := How likely it is that a deck's fans last the voyage
 crate_of_foambeetle_office := office
-about_foambeetle_office := Writes the deck file that the ship reads
+about_foambeetle_office := Deck files written ashore, chances and ratings in doubles
 archives := $(libraries:%=target/lib/lib%.a)
 shared := $(libraries:%=target/lib/lib%.so.$(version))
 headers := $(libraries:%=target/lib/%.h)

@@ -1,17 +1,10 @@
-/* foambeetle_office.h: the deck file's writer, for the office ashore.
+/* foambeetle_office.h: for the office ashore: the deck file's writer, a deck's chances as doubles, ratings asked in doubles.
  *
  * Link with libfoambeetle_office.a or libfoambeetle_office.so (x86-64), which need nothing but memcpy and memset; the
- * ship's libfoambeetle is not wanted for it. The call keeps nothing between calls and may run in several threads at once.
+ * ship's libfoambeetle is not wanted for it. The calls keep nothing between calls and may run in several threads at once.
+ * Those over doubles use up to 65,000 bytes of stack, 62,400 of them a working table.
  *
- * A refusal is a number of this table, the first of its lines that applies:
- *
- *   11  version not 1 or 2
- *    2  number of fans 0 or above 64
- *    5  not as many weights as fans
- *   12  number of systems not 1..32, or the last one has fewer than five numbers
- *   16  room too short
- *
- * Rules and survival numbers are not judged here: the ship refuses them, system by system.
+ * A refusal is a number of the table above its call, the first of its lines that applies.
  */
 #ifndef FOAMBEETLE_OFFICE_H
 #define FOAMBEETLE_OFFICE_H
@@ -26,7 +19,15 @@ extern "C" {
 /* The length of the longest file. */
 #define FOAMBEETLE_LONGEST_FILE 724
 
-/* Writes the deck file of n fans into the front of the room, which has `length` bytes; the rest of it stays untouched.
+/* 11  version not 1 or 2
+ *  2  number of fans 0 or above 64
+ *  5  not as many weights as fans
+ * 12  number of systems not 1..32, or the last one has fewer than five numbers
+ * 16  room too short
+ *
+ * Rules and survival numbers are not judged here: the ship refuses them, system by system.
+ *
+ * Writes the deck file of n fans into the front of the room, which has `length` bytes; the rest of it stays untouched.
  * `version` is the file's, 1 or 2, and says what the survival numbers are parts of: 2^30 in version 1, 1,000,000,000 in
  * version 2. `w` and `s` are how many numbers `weights` and `systems` have: n, and five for each system, its kind,
  * first, second, and the first and last fan of its stretch. No pointer is null, also where its list is empty, and the
@@ -34,6 +35,37 @@ extern "C" {
  * nothing is written. */
 uint64_t foambeetle_write(uint64_t version, const uint32_t *survival, size_t n, const uint16_t *weights, size_t w,
                           const uint16_t *systems, size_t s, uint8_t *room, size_t length);
+
+/* 10  file under 20 bytes
+ * 11  version not 1, or the zero field not 0
+ *  2, 12, 13, then 14, then 1 and 3 to 6, as the ship's call has them (foambeetle.h)
+ *
+ * The chance that a system of a version 1 deck file, counted from 1, works: it lies between ends[0] and ends[1], which
+ * are low and high of foambeetle_rate, each divided by 2^30. That is exact: ends[0] * 1073741824.0 is low again. `file`
+ * is not null, also where `length` is 0, and `ends` has room for two doubles. The answer is 0 where they are written, and
+ * the refusal's number where nothing is. */
+uint64_t foambeetle_chance(const uint8_t *file, size_t length, uint64_t system, double *ends);
+
+/*  1  kind not 1..8
+ *  2  number of fans 0 or above 64
+ *  3  stretch: a = 0, b < a, or b above the number of fans
+ * 18  a chance of the stretch is a NaN, below 0 or above 1
+ *  5  kind 2: not as many weights as fans, or the stretch's weights add up to more than 120
+ *  6  first, second or a further pair out of range, more than three further pairs, or half a one
+ * 19  kind 3: a chance of the stretch times 2^30 is no whole number
+ *
+ * Rates the stretch of n fans from a to b under the rule of kind, first and second. `survival` has each fan's chance to
+ * last, a double from 0 to 1; negative zero is 0. `more` has kind 8's further pairs, two numbers each, `pairs` numbers in
+ * all; no other kind reads them, only kind 2 reads `weights`, and nothing outside the stretch is read. No pointer is null,
+ * also where its list is empty.
+ *
+ * Each chance times 2^30 becomes the whole number just below and the one just above; low comes from the lower ones and
+ * high from the upper. The exact chance over the doubles' own values lies between low / 2^30 and high / 2^30, which are
+ * at most 2(b - a) + 1 parts of 2^30 apart. The answer is low times 2^32 plus high, or, for a refusal, (2^32 - 1) times
+ * 2^32 plus its number: take it apart by the functions of foambeetle.h. */
+uint64_t foambeetle_rate_doubles(uint64_t kind, uint64_t first, uint64_t second, const uint64_t *more, size_t pairs,
+                                 uint64_t a, uint64_t b, const double *survival, size_t n, const uint16_t *weights,
+                                 size_t weighed);
 
 #ifdef __cplusplus
 }

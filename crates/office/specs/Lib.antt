@@ -1,2 +1,2 @@
--- What the office's call cites: its outcome.
+-- What the office's calls cite: their outcomes.
 pub mod Outcome

@@ -1,11 +1,21 @@
--- What the office's call answers, and what it leaves in the lent room: the length, or "(2^32 - 1) times 2^32 plus its number" as the rating's answer.
+-- What the office's calls answer, and what they leave in what they are lent: of the writer the length, or "(2^32 - 1) times 2^32 plus its number" as the
+-- rating's answer; of a chance both ends; of a rating asked in doubles the rating's answer.
 use mathlib.Core.Path.{_≡_}
-use mathlib.Core.List.{List}
+use mathlib.Core.List.{List, [], _∷_}
 use Prim.Native.Nat.{ℕ, _≤_}
+use lib.ListN.{length, getD, replicate}
+use lib.Ieee.{Float, nan}
+use Rattle.rules.specs.declared.Rating.{Rating}
+use Rattle.rules.specs.declared.Rating.the-variants as rating
 use Rattle.rules.specs.declared.Writing.{Writing}
 use Rattle.rules.specs.declared.Writing.the-variants.{Written, Refused}
-use Rattle.rules.specs.File.{mostFans, mostSystems, packedRefusal, fileLength}
+use Rattle.rules.specs.Refusal.{cells}
+use Rattle.rules.specs.File.{mostFans, mostSystems, packedRefusal, packed, fileLength}
 use Rattle.rules.specs.Writing.{Typed, writingOf, roomWritten}
+use Rattle.rules.specs.Doubles.{Planned, plannedRating, exportOf}
+use Rattle.doubles.specs.Floats.{Over}
+use Rattle.export.specs.declared.Chance.{Chance}
+use Rattle.export.specs.declared.Chance.the-variants as chance
 
 abbrev pub packedWriting : Writing → ℕ
 packedWriting (Written size) = size
@@ -25,3 +35,24 @@ Packable (Refused number) = number ≤ mostRefusal
 pub record Filed (t : Typed) (room after : List ℕ) (r : ℕ) : Type 0 where
   pub number : r ≡ packedWriting (writingOf t room)
   pub written : after ≡ roomWritten t room
+
+-- request 10, a chance for C: 0 and both ends, or the refusal's number and the ends as they were
+abbrev pub numberOf : Chance → ℕ
+numberOf (chance.Range e) = 0
+numberOf (chance.Refused number) = number
+
+abbrev pub endsAfter : Chance → List Float → List Float
+endsAfter (chance.Range e) ends = e .low ∷ e .high ∷ []
+endsAfter (chance.Refused number) ends = ends
+
+-- "a pair of floats, or the refusal with no floats": low and high divided by 2^30
+abbrev pub Handed : Rating → (before after : List Float) (r : ℕ) → Type 0
+Handed (rating.Range low high) before after r = (r ≡ 0) × (length after ≡ 2) × Over low (getD after 0 nan) × Over high (getD after 1 nan)
+Handed (rating.Refused number) before after r = (r ≡ number) × (after ≡ before)
+
+pub record Told (file : List ℕ) (system : ℕ) (before after : List Float) (r : ℕ) : Type 0 where
+  pub answer : Handed (exportOf file system) before after r
+
+-- a rating asked in doubles, "over a working table that the caller brings"
+pub record Answered (q : Planned) (r : ℕ) : Type 0 where
+  pub number : r ≡ packed (plannedRating q (replicate cells 0))
