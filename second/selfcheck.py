@@ -9,6 +9,7 @@ from fractions import Fraction
 from functools import wraps
 from math import factorial
 
+import doubles_checks
 import figures_cases
 import published
 import sources
@@ -744,7 +745,7 @@ GROUPS = (
     further_numbers_unread, rules_accepted, refusals_of_calls,
     refusals_of_states_and_counts, stretches_read_inside_only, deck_files, printed_and_packed,
     decks_written, refusals_of_writing, header_damage, lent_tables, worths_by_words, worths_of_parts, plain_worths, refusals_of_worths,
-    worths_of_files, same_chances_in_either_version, refusals_of_versions, units_of_files,
+    worths_of_files, same_chances_in_either_version, refusals_of_versions, units_of_files, *doubles_checks.GROUPS,
 )
 
 

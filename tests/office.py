@@ -1,4 +1,4 @@
-"""The office's call against the second program, byte for byte.
+"""The office's writer against the second program, byte for byte.
 
 2,000 random decks of either version, each typed into a room that just suffices, one a byte longer and one a byte shorter, and with one thing wrong by
 turns, or two, so that the order of the refusals shows, go through a C program linked with libfoambeetle_office.a, with guard pages on either side of

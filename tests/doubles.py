@@ -1,0 +1,107 @@
+"""The office's calls over doubles against the second program, bit for bit.
+
+Out: 1,600 random deck files of either version, sound and damaged, and the samples, each asked for its systems and for some that it has not. In: every
+edge of the doubles, the grid's points and their neighbours, one fan each; 6,000 random lists under every kind; and 2,560 with every choice of things wrong,
+so that the order of the refusals shows. All of it through a C program linked with libfoambeetle_office.a, with guard pages on either side of what it
+lends.
+"""
+
+import random
+import struct
+import subprocess
+import sys
+
+from common import OFFICE, compare, decks, make, root, run, sample, static
+
+from doubles import bits_of, chance, planned
+from doubles_samples import CHANCES, NO_CHANCES, about_grid, grid_points, random_plan, wrong_plans
+from files import random_files
+from foambeetle import Refusal, Rule, packed, read_deck
+
+FILES, LISTS, WRONG, GRID = 1600, 6000, 2560, 1500
+HUGE = (2 ** 32 + 1, 2 ** 63, 2 ** 64 - 1)
+OUT, IN = 0, 1
+NO_SUCH_SYSTEM = 14
+
+
+def files():
+    """Deck files, and the systems that are asked for."""
+    for data in (*(deck.read_bytes() for deck in decks()), *random_files(61, FILES)):
+        count = min(int.from_bytes(data[6:8], "little"), 33) if len(data) >= 8 else 1
+        yield data, (*range(count + 2), *HUGE)
+
+
+def to_tell(data, systems):
+    """A file as tests/doubles_test.c reads it."""
+    return struct.pack(f"<QI{len(data)}sI{len(systems)}Q", OUT, len(data), data, len(systems), *systems)
+
+
+def told(data, system):
+    """The line that tests/doubles_test.c prints."""
+    answer = chance(data, system)
+    if isinstance(answer, Refusal):
+        return f"system {system} refused {answer.number}"
+    return f"system {system} " + " ".join(f"{bits_of(float(end)):016x}" for end in answer)
+
+
+def single(rng):
+    """One fan under the rule that it may not fail: low is the whole number just below its chance, high the one just above."""
+    near = [bits for whole in grid_points(rng, GRID) for bits in about_grid(whole)]
+    for bits in (*CHANCES, *NO_CHANCES, *near):
+        yield Rule(1, 1, 0), 1, 1, [bits], []
+        yield Rule(3, 0, 0), 1, 1, [bits], []  # answered on the grid alone
+        yield Rule(1, 1, 0), 2, 2, [NO_CHANCES[-1], bits, NO_CHANCES[0]], []  # what stands beside it is not read
+
+
+def plans():
+    rng = random.Random(62)
+    yield from single(rng)
+    yield from (random_plan(rng) for _ in range(LISTS))
+    yield from wrong_plans(rng, WRONG)
+
+
+def to_rate(rule, a, b, doubles, weights):
+    """What is asked, as tests/doubles_test.c reads it."""
+    more, n, w = len(rule.more), len(doubles), len(weights)
+    return struct.pack(f"<6Q3I{more}Q{n}Q{w}H", IN, *rule.numbers, a, b, more, n, w, *rule.more, *doubles, *weights)
+
+
+def printed(data):
+    """What samples/chance.c prints of a file."""
+    refusal = chance(data, 0).number
+    if refusal != NO_SUCH_SYSTEM:
+        return f"file refused {refusal}\n"
+    answers = [(system, chance(data, system)) for system in range(1, len(read_deck(data).systems) + 1)]
+    return "".join(f"system {system} " + (f"refused {ends.number}" if isinstance(ends, Refusal) else "from {:.17g} to {:.17g}".format(*map(float, ends)))
+                   + "\n" for system, ends in answers)
+
+
+def samples_agree():
+    """The two C samples, built with the archive; the deck files are told by their names."""
+    program = static(sample("chance"), "chance_static", OFFICE)
+    got = [subprocess.run([*program, deck], stdout=subprocess.PIPE).stdout.decode() for deck in decks()]
+    good = compare("samples through chance", got, [printed(deck.read_bytes()) for deck in decks()])
+    low, high = planned(Rule(4, 2, 0), 1, 6, [bits_of(number) for number in (0.985,) * 4 + (0.998,) * 2], [])
+    return good & compare("the list of plan", [run(static(sample("plan"), "plan_static", OFFICE)).decode()], [f"low {low} high {high}\n"])
+
+
+def refused(line):
+    return int(line[8:], 16) if line.startswith("ffffffff") else None
+
+
+def main():
+    make("lib")
+    lent, asked = list(files()), list(plans())
+    program = static(root / "tests/doubles_test.c", "doubles_test", OFFICE)
+    out = run(program, b"".join(to_tell(*one) for one in lent)).decode().splitlines()
+    good = compare("chances through the office's call", out, [told(data, system) for data, systems in lent for system in systems])
+    said = run(program, b"".join(to_rate(*one) for one in asked)).decode().splitlines()
+    good &= compare("ratings asked in doubles", said, [f"{packed(planned(*one)):x}" for one in asked])
+    met = {line.split("refused ")[1] if "refused" in line else "0" for line in out}, {refused(line) for line in said}
+    print(f"refusals met: {sorted(map(int, met[0]))}, {sorted(number or 0 for number in met[1])}")
+    good &= met[0] >= set("0 1 2 3 4 5 6 10 11 12 13 14".split()) and met[1] == {None, 1, 2, 3, 5, 6, 18, 19}
+    return 0 if good & samples_agree() else 1
+
+
+if __name__ == "__main__":
+    sys.exit(main())
