@@ -1,7 +1,7 @@
 -- What an answer that is no refusal tells: every condition of the call's list failed, so the rule is accepted, and the figures are those of the
 -- definitions, so the third condition holds of them. Assumes nothing.
 use mathlib.Core.Path.{_≡_, refl, _∙_}
-use mathlib.Core.Bool.{Bool, true, false, cond, not}
+use mathlib.Core.Bool.{Bool, true, false, cond, not, _&&_, _||_, false≢true}
 use mathlib.Core.List.{List, [], _∷_}
 use Prim.Native.Nat.{ℕ, zero, suc, _+_, _-_, _≤_}
 use native.Mathlib.Omega.{arith}
@@ -14,15 +14,17 @@ use Rattle.rules.specs.declared.Rating.{Rating}
 use Rattle.rules.specs.declared.Rating.the-variants.{Range, Refused}
 use Rattle.rules.specs.Below.{total, within}
 use Rattle.rules.specs.State.{besideOf}
+use Rattle.rules.specs.Boards.{hasBoards, boardsRead}
 use Rattle.rules.specs.Stretch.{stretch}
-use Rattle.rules.specs.Asked.{Asked, unitIn, lengthOf, sizeOf, partOf, weightsOf, readOf, lowOf, highOf, ThirdOf}
-use Rattle.rules.specs.Refusal.{most, badKind, badSize, badStretch, heaviest, weightsOut, badWeights, rangeOne, rangeTwo, rangePairs, ranged, inRange, firstOf, after, figuresRefusal}
-use Rattle.rules.specs.Accepted.{Accepted, One, Two, Ratable}
+use Rattle.rules.specs.Asked.{Asked, unitIn, lengthOf, sizeOf, partOf, weightsOf, readOf, boardsOf, boardSurvivalOf, lowOf, highOf, ThirdOf}
+use Rattle.rules.specs.Refusal.{most, mostBoards, badBoards, misplaced, someAbove, badKind, badSize, badStretch, heaviest, weightsOut, badWeights, rangeOne, rangeTwo, rangePairs, ranged, inRange, firstOf, after, figuresRefusal}
+use Rattle.rules.specs.Accepted.{Accepted, One, Two, Boarded, Ratable}
 use Rattle.rules.specs.Answer.{unless, figuresOf}
 use Rattle.rules.proofs.Tests.{by-test, both, neither}
 use Rattle.rules.proofs.EachKind.{within-true}
 use Rattle.rules.proofs.Units.{unit-some}
-use Rattle.rules.proofs.Conditions.{units-in, third}
+use Rattle.rules.proofs.Conditions.{none-above}
+use Rattle.rules.proofs.Boards.{third-boards}
 
 -- no refusal: the first condition fails, and so do those after it
 pub none-first : (n : ℕ) (b : Bool) (cs : List (ℕ × Bool)) → firstOf ((suc n, b) ∷ cs) ≡ 0 → (b ≡ false) × (firstOf cs ≡ 0)
@@ -176,6 +178,26 @@ stretch-get a b xs i =
     (λ l. getD-take m rest i 0 (ltb-true i m l) ∙ getD-drop (a - 1) xs i 0)
     (λ l. List·getD-eq-default (take m rest) 0 {n = i} (omega (arith, ltb-false i m l, length-take m rest)))
 
+-- 20, 21 and 4 not given: as many board numbers as fans, and boards that can be combined. A version without boards has none.
+pub boards-accepted : (version u n : ℕ) (listed boards boardSurvival : List ℕ) → badBoards version (length (boardsRead version boardSurvival)) ≡ false
+    → misplaced version n (length (boardsRead version boardSurvival)) listed (boardsRead version boards) ≡ false → someAbove u (boardsRead version boardSurvival) ≡ false
+    → (hasBoards version ≡ true → length listed ≡ n) × Boarded u (boardsRead version boards) (boardsRead version boardSurvival)
+boards-accepted version u n listed boards boardSurvival = go (hasBoards version)
+  where
+    go : (b : Bool) → b && not (within 1 (length (cond b boardSurvival [])) mostBoards) ≡ false
+        → b && (not (eqb (length listed) n) || someAbove (length (cond b boardSurvival [])) (cond b boards [])) ≡ false → someAbove u (cond b boardSurvival []) ≡ false
+        → (b ≡ true → length listed ≡ n) × Boarded u (cond b boards []) (cond b boardSurvival [])
+    go true count list units =
+        let h = neither (not (eqb (length listed) n)) _ list in (
+          λ e. eqb-true (length listed) n (not-false _ (h .0)),
+          record {
+            few = within-true 1 (length boardSurvival) mostBoards (not-false _ count) .1;
+            units = none-above u boardSurvival units;
+            placed = none-above (length boardSurvival) boards (h .1);
+          },
+        )
+    go false count list units = (λ e. absurd (false≢true e), record { few = omega arith; units = λ i. omega arith; placed = λ i. omega arith })
+
 -- no refusal, so the stretch can be rated
 module _ (q : Asked) (table : List ℕ) where
   pub figures-ratable : figuresRefusal q table ≡ 0
@@ -186,7 +208,9 @@ module _ (q : Asked) (table : List ℕ) where
       let v = none-first 0 _ _ (i .1) in
       let w = none-first 1 _ _ (v .1) in
       let t = none-first 2 _ _ (w .1) in
-      let c = none-first 3 _ _ (t .1) in
+      let g = none-first 19 _ _ (t .1) in
+      let p = none-first 20 _ _ (g .1) in
+      let c = none-first 3 _ _ (p .1) in
       let d = none-first 4 _ _ (c .1) in
       let f = none-first 5 _ _ (d .1) in
       let n = lengthOf q in
@@ -199,10 +223,22 @@ module _ (q : Asked) (table : List ℕ) where
         λ two. weights-accepted (q .rule) n (length (q .weights)) _ (d .0) two .0,
         record {
           accepted = rw size (rule-accepted (q .rule) (sizeOf q) n (q .weights) _ (q .more) (v .0) in-size (d .0) as-many (f .0));
-          units = units-in (unitIn q) (partOf q) (c .0);
+          units = none-above (unitIn q) (partOf q) (neither _ _ (c .0) .0);
           room = ltb-false _ _ (none-first 6 _ _ (f .1) .0);
         },
       )
+
+  -- and its boards can be combined
+  pub figures-boarded : figuresRefusal q table ≡ 0
+      → (hasBoards (q .version) ≡ true → length (q .boards) ≡ lengthOf q) × Boarded (unitIn q) (boardsOf q) (boardSurvivalOf q)
+  unfolding figuresRefusal
+  figures-boarded e =
+      let t = none-first 2 _ _ (none-first 1 _ _ (none-first 0 _ _ (none-first 10 _ _ e .1) .1) .1) in
+      let g = none-first 19 _ _ (t .1) in
+      let p = none-first 20 _ _ (g .1) in
+      let c = none-first 3 _ _ (p .1) in
+      boards-accepted (q .version) (unitIn q) (lengthOf q) (q .boards) (stretch (q .a) (q .b) (q .boards)) (q .boardSurvival) (g .0) (p .0)
+      (neither (someAbove (unitIn q) (partOf q)) _ (c .0) .1)
 
   -- the third condition of every range that the figures answer, n the stretch's length
   pub figures-third : (l h : ℕ) → figuresOf q table ≡ Range l h → ThirdOf q l h
@@ -213,7 +249,9 @@ module _ (q : Asked) (table : List ℕ) where
       let size = stretch-length (q .a) (q .b) (q .survival) (s .0) in
       let low-is : lowOf q ≡ l = cc (v .1) in
       let high-is : highOf q ≡ h = cc (v .1) in
-      rw (← low-is, ← high-is, ← size) (third (unit-some (q .version)) (q .rule) (partOf q) (readOf q) (s .2 .accepted .size-low) (s .2 .units) (s .2 .accepted .in-range))
+      rw (← low-is, ← high-is, ← size)
+      (third-boards (unitIn q) (unit-some (q .version)) (q .rule) (partOf q) (readOf q) (boardsOf q) (boardSurvivalOf q) (s .2 .units)
+      (figures-boarded (v .0) .1 .units) (s .2 .accepted .size-low) (s .2 .accepted .in-range))
 
 -- a stretch from 1 to the end is the list
 pub stretch-all : (xs : List ℕ) (n : ℕ) → length xs ≡ n → stretch 1 n xs ≡ xs

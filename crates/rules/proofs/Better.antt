@@ -1,7 +1,8 @@
 -- Request 09: a better fan never spoils the figure. A kind's row respects an order of its memories (`Orders`), so a list in which no survival number is
--- lower has no lower figure, rounded down or up, and no lower exact sum; the same of what is asked and of what is answered. A fan sure to work is better
--- than one sure to fail, so the upper end of its worth is not below 0. Assumes nothing.
-use mathlib.Core.Path.{_≡_, refl, sym, _∙_}
+-- lower has no lower figure, rounded down or up, and no lower exact sum; behind boards too no lower figure, since a set of failed boards has no lower list than a
+-- larger one (`FewerOut`); the same of what is asked and of what is answered. A fan sure to work is better than one sure to fail, so the upper end of its worth is
+-- not below 0. Assumes nothing.
+use mathlib.Core.Path.{_≡_, refl, sym, ap, _∙_}
 use mathlib.Core.Bool.{Bool, true, false, false≢true}
 use mathlib.Core.List.{List, [], _∷_}
 use Prim.Native.Nat.{ℕ, zero, suc, _+_, _-_, _≤_, _<_, zero-le}
@@ -15,13 +16,14 @@ use Rattle.rules.specs.declared.Rule.{Rule}
 use Rattle.rules.specs.declared.Rating.the-variants.{Range}
 use Rattle.rules.specs.declared.Worth.the-variants.{Ends}
 use Rattle.rules.specs.Below.{within}
-use Rattle.rules.specs.State.{ruleOf, numberOf}
+use Rattle.rules.specs.State.{unitOf, ruleOf, numberOf}
 use Rattle.rules.specs.Pairs.{pairsOf}
 use Rattle.rules.specs.Verdict.{works}
 use Rattle.rules.specs.Memory.{run, live, machineOf, Reading, reading, readingOf, row1, row4, row5, row6, row7, row8}
 use Rattle.rules.specs.Figure.{figureOf, figure, exactIf, exact}
+use Rattle.rules.specs.Boards.{figureBehind}
 use Rattle.rules.specs.Stretch.{stretch}
-use Rattle.rules.specs.Asked.{Asked, askedOf, unitIn, sizeOf, partOf, readOf, lowOf, highOf}
+use Rattle.rules.specs.Asked.{Asked, askedOf, unitIn, partsOf, partOf, readOf, boardsOf, boardSurvivalOf, roundedOf, lowOf, highOf}
 use Rattle.rules.specs.Refusal.{inRange, figuresRefusal}
 use Rattle.rules.specs.Answer.{figuresOf}
 use Rattle.rules.specs.Worth.{working, failing, worthOf}
@@ -33,8 +35,10 @@ use Rattle.rules.proofs.Orders.{Worse, Respects, row-ordered, More, Lon
 use Rattle.rules.proofs.EachKind.{each-kind, within-true}
 use Rattle.rules.proofs.Units.{unit-some}
 use Rattle.rules.proofs.Conditions.{reading-is-verdict, below-unit}
+use Rattle.rules.proofs.Boards.{behind-units}
 use Rattle.rules.proofs.Answer.{rates}
-use Rattle.rules.proofs.Accepted.{stretch-get, figures-ratable}
+use Rattle.rules.proofs.Accepted.{stretch-get, figures-ratable, figures-boarded}
+use Rattle.rules.proofs.FewerOut.{same-out, behind-better, combined-better}
 use Rattle.rules.proofs.Differences.{less-le, less-none}
 use Rattle.rules.proofs.Sure.{after-first, weighs, sure-accepted, sure-third}
 
@@ -65,9 +69,19 @@ set-better xs j p p' h = record { same-length = length-set xs j p ∙ sym (lengt
     go (x ∷ xs) (suc j) (suc i) = go xs j i
 
 -- a better list asked the same
-pub asked-better : (version : ℕ) (rule : Rule) (a b : ℕ) {xs ys : List ℕ} (weights more : List ℕ) → NoLower xs ys
-    → Better (askedOf version rule a b xs weights more) (askedOf version rule a b ys weights more)
-asked-better version rule a b weights more better = record { version = refl; rule = refl; from = refl; to = refl; weights = refl; more = refl; survival = stretch-better a b better }
+pub asked-better : (version : ℕ) (rule : Rule) (a b : ℕ) {xs ys : List ℕ} (weights more boards boardSurvival : List ℕ) → NoLower xs ys
+    → Better (askedOf version rule a b xs weights more boards boardSurvival) (askedOf version rule a b ys weights more boards boardSurvival)
+asked-better version rule a b weights more boards boardSurvival better = record {
+  version = refl;
+  rule = refl;
+  from = refl;
+  to = refl;
+  weights = refl;
+  more = refl;
+  boards = refl;
+  survival = stretch-better a b better;
+  boardSurvival = record { same-length = refl; no-lower = λ i. le-refl _ };
+}
 
 -- ---- what holds of every row that respects an order holds of the row of every kind of which it is claimed
 
@@ -118,18 +132,34 @@ module _ (u : ℕ) (xs ys beside : List ℕ) (better : NoLower xs ys) (units : (
       = λ zs. exact-same _ _ u (numberOf zs) (length ys) (λ w l. reading-is-verdict rule (length ys) beside w range l) in
       rw (better .same-length, ← (read xs), ← (read ys)) (by-rising (λ R. readSum R xs ≤ readSum R ys) row-exact beside rule kind)
 
+-- ---- behind boards: no lower list for a set of failed boards than for a larger one, and a larger number on the larger figure
+
+module _ (up : Bool) (u : ℕ) (some : 0 < u) (rule : Rule) (kind : rising (rule .kind) ≡ true) (beside boards : List ℕ) where
+  pub better-behind : (xs ys qs qs' : List ℕ) → NoLower xs ys → NoLower qs qs' → ((i : ℕ) → getD ys i 0 ≤ u) → ((i : ℕ) → getD qs' i 0 ≤ u)
+      → figureBehind up u rule xs beside boards qs ≤ figureBehind up u rule ys beside boards qs'
+  better-behind xs ys qs qs' better boards-better units board-units =
+      combined-better up u some qs qs' boards-better board-units _ _
+      (λ out. better-figure u _ _ beside (behind-better boards out out xs ys (same-out out) better) (behind-units boards out ys units) up some rule kind)
+      (λ out out' fewer.
+      better-figure u _ _ beside (behind-better boards out out' ys ys fewer (record { same-length = refl; no-lower = λ i. le-refl _ }))
+      (behind-units boards out' ys units) up some rule kind)
+
 -- ---- of what is asked and answered. That the second is accepted is enough: its numbers are within the unit.
 
 module _ (q q' : Asked) (better : Better q q') (kind : rising (q .rule .kind) ≡ true) where
   pub better-asked : (table : List ℕ) → figuresRefusal q' table ≡ 0 → (lowOf q ≤ lowOf q') × (highOf q ≤ highOf q')
   better-asked table none = (go false, go true)
     where
-      go : (up : Bool) → figure up (unitIn q) (q .rule) (partOf q) (readOf q) ≤ figure up (unitIn q') (q' .rule) (partOf q') (readOf q')
+      go : (up : Bool) → roundedOf up q ≤ roundedOf up q'
       go up =
           let read : readOf q ≡ readOf q' = rw (better .rule, better .weights, better .more, better .from, better .to) in
-          rw (← read, ← (better .rule), ← (better .version))
-          (better-figure (unitIn q) (partOf q) (partOf q') (readOf q) (better .survival) (rw (← (better .version)) at (figures-ratable q' table none .2 .units))
-          up (unit-some (q .version)) (q .rule) kind)
+          let unit : unitIn q ≡ unitIn q' = ap unitOf (better .version) in
+          let behind : figureBehind up (unitIn q) (q .rule) (partOf q') (readOf q) (boardsOf q) (boardSurvivalOf q') ≡ roundedOf up q' =
+          λ x. figureBehind up (unit x) (better .rule x) (partOf q') (read x) (better .boards x) (boardSurvivalOf q') in
+          rw (← behind)
+          (better-behind up (unitIn q) (unit-some (q .version)) (q .rule) kind (readOf q) (boardsOf q) (partOf q) (partOf q') (boardSurvivalOf q) (boardSurvivalOf q')
+          (better .survival) (better .boardSurvival) (λ i. rw unit (figures-ratable q' table none .2 .units i))
+          (λ i. rw unit (figures-boarded q' table none .1 .units i)))
 
   pub better-answers : (table table' : List ℕ) (l h l' h' : ℕ) → figuresOf q table ≡ Range l h → figuresOf q' table' ≡ Range l' h'
       → (l ≤ l') × (h ≤ h')
@@ -145,10 +175,10 @@ module _ (q : Asked) (table : List ℕ) (fan : ℕ) (kind : rising (q .rule .kin
   -- low with the fan sure to fail, low with it sure to work, high with it sure to work
   fails-works : figuresRefusal q table ≡ 0 → lowOf (failing fan q) ≤ highOf (working fan q)
   fails-works none =
-      let better = asked-better (q .version) (q .rule) (q .a) (q .b) (q .weights) (q .more) (set-better (q .survival) (fan - 1) 0 (unitIn q) zero-le) in
+      let better = asked-better (q .version) (q .rule) (q .a) (q .b) (q .weights) (q .more) (q .boards) (q .boardSurvival) (set-better (q .survival) (fan - 1) 0 (unitIn q) zero-le) in
       let third = sure-third q table fan (unitIn q) none (le-refl _) in
       le-trans (better-asked (failing fan q) (working fan q) better kind table (sure-accepted q table fan (unitIn q) none (le-refl _)) .0)
-      (le-of-mul-le-mul-right (le-trans (third .above-low) (third .below-high)) (one-le-pow (sizeOf q - 1) (unitIn q) (unit-some (q .version))))
+      (le-of-mul-le-mul-right (le-trans (third .above-low) (third .below-high)) (one-le-pow (partsOf q - 1) (unitIn q) (unit-some (q .version))))
 
   pub worth-rising : (l h : ℤ) → worthOf q fan table ≡ Ends l h → pos 0 ≤ℤ h
   unfolding worthOf

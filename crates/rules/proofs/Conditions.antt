@@ -1,15 +1,15 @@
 -- What is owed of the definitions, put together. Reading is the verdict: for every rule in range and every word below 2^n a reading through the
 -- kind's memory ends working exactly if the verdict says that the system works. Hence the third condition, for a list and for a stretch, and the
 -- counts as a reading gives them. Assumes nothing.
-use mathlib.Core.Path.{_≡_, sym}
-use mathlib.Core.Bool.{Bool, true, false, not}
+use mathlib.Core.Path.{_≡_, sym, _∙_}
+use mathlib.Core.Bool.{Bool, true, false, not, true≢false}
 use mathlib.Core.List.{List}
 use Prim.Native.Nat.{ℕ, zero, suc, _^_, _≤_, _<_}
 use native.Mathlib.Omega.{arith}
 use lib.Dec.{eqb, ltb}
 use lib.ListN.{length, getD, List·getD-eq-default}
 use native.Mathlib.Decide.{decLt}
-use borrow.Author.Tests.{lt-ltb}
+use borrow.Author.Tests.{lt-ltb, le-ltb}
 use Rattle.rules.specs.declared.Rule.{Rule}
 use Rattle.rules.specs.Below.{some}
 use Rattle.rules.specs.State.{S, ruleOf, numberOf}
@@ -17,7 +17,7 @@ use Rattle.rules.specs.Verdict.{fails, works}
 use Rattle.rules.specs.Count.{countIf, countOf}
 use Rattle.rules.specs.Memory.{run, readingOf, machine}
 use Rattle.rules.specs.Figure.{figure, low, high, exact, Third}
-use Rattle.rules.specs.Refusal.{most, rangePairs, ranged, inRange, aboveUnit}
+use Rattle.rules.specs.Refusal.{most, rangePairs, ranged, inRange, someAbove}
 use Rattle.rules.proofs.EachKind.{each-kind, within-true, range-kind}
 use Rattle.rules.proofs.Tests.{both}
 use Rattle.rules.proofs.Windows.{some-none, not-lt}
@@ -60,14 +60,18 @@ pub count-by-reading : (rule : Rule) (n : ℕ) (weights : List ℕ) (j : ℕ) �
     → countOf rule n weights j ≡ countIf (run (machine rule weights) n (machine rule weights .start)) n j
 count-by-reading rule n weights j e = count-same _ _ n j (λ w l. sym (reading-is-verdict rule n weights w e l))
 
--- no P read is above the unit
-pub units-in : (u : ℕ) (survival : List ℕ) → aboveUnit u survival ≡ false → (i : ℕ) → getD survival i 0 ≤ u
-unfolding aboveUnit
-units-in u survival e i = go (decLt i (length survival))
+-- no number of a list is above a limit: no P read above the unit, no fan on a board that there is not
+pub none-above : (limit : ℕ) (xs : List ℕ) → someAbove limit xs ≡ false → (i : ℕ) → getD xs i 0 ≤ limit
+unfolding someAbove
+none-above limit xs e i = go (decLt i (length xs))
   where
-    go : Dec (i < length survival) → getD survival i 0 ≤ u
-    go (yes l) = not-lt _ _ (λ g. some-none (λ i. ltb u (getD survival i 0)) (length survival) .0 e i l (lt-ltb _ _ g))
-    go (no l) = rw (List·getD-eq-default survival 0 (not-lt _ _ l)) (omega arith)
+    go : Dec (i < length xs) → getD xs i 0 ≤ limit
+    go (yes l) = not-lt _ _ (λ g. some-none (λ i. ltb limit (getD xs i 0)) (length xs) .0 e i l (lt-ltb _ _ g))
+    go (no l) = rw (List·getD-eq-default xs 0 (not-lt _ _ l)) (omega arith)
+
+pub above-none : (limit : ℕ) (xs : List ℕ) → ((i : ℕ) → getD xs i 0 ≤ limit) → someAbove limit xs ≡ false
+unfolding someAbove
+above-none limit xs s = some-none (λ i. ltb limit (getD xs i 0)) (length xs) .1 (λ i l e. true≢false (sym e ∙ le-ltb limit (getD xs i 0) (s i)))
 
 pub below-unit : {u : ℕ} (survival : List ℕ) → ((i : ℕ) → getD survival i 0 ≤ u) → (i : ℕ) → numberOf survival i ≤ u
 unfolding numberOf

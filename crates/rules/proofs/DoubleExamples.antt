@@ -8,10 +8,11 @@ use lib.ListN.{replicate}
 use Rattle.rules.specs.declared.Rule.{Rule}
 use Rattle.rules.specs.declared.Rating.{Rating}
 use Rattle.rules.specs.declared.Rating.the-variants.{Range, Refused}
-use Rattle.rules.specs.Below.{some, total}
+use Rattle.rules.specs.Below.{some, listBelow, total}
 use Rattle.rules.specs.State.{S, unitOf, ruleOf, numberOf}
 use Rattle.rules.specs.Memory.{moved, ended, readingOf}
 use Rattle.rules.specs.Figure.{rounded, value}
+use Rattle.rules.specs.Boards.{boardDown, behind, combined}
 use Rattle.rules.specs.Stretch.{stretch}
 use Rattle.rules.specs.Refusal.{cells, weightsOut, ranged, firstOf}
 use Rattle.rules.specs.Answer.{unless}
@@ -73,7 +74,7 @@ pub ratings : (rated (ruleOf 1 1 0) 1 1 (halfPart ∷ []) ≡ Range 0 1)
     × (rated (ruleOf 1 2 0) 1 2 (partAndHalf ∷ partAndHalf ∷ []) ≡ Range 1 4)
     × (rated (ruleOf 1 1 0) 2 2 (notNumber ∷ half ∷ notNumber ∷ []) ≡ Range (2 ^ 29) (2 ^ 29))
     × (rated (ruleOf 3 1 1) 1 1 (half ∷ []) ≡ Range (2 ^ 29) (2 ^ 29))
-unfolding plannedRating plannedRefusal noChance someOff isChance wholeOf onGrid own spelt parts rounded value numberOf moved ended readingOf unitOf stretch some total weightsOut ranged firstOf unless
+unfolding plannedRating plannedRefusal noChance someOff isChance wholeOf onGrid own spelt parts rounded value numberOf moved ended readingOf unitOf stretch behind combined boardDown listBelow some total weightsOut ranged firstOf unless
 ratings = (refl, refl, refl, refl)
 
 -- 18 in 4's place, before 5 and 6; 19 for kind 3 alone, after 6 and before 7
@@ -86,10 +87,11 @@ pub refusals : (rated (ruleOf 1 1 0) 1 1 (notNumber ∷ []) ≡ Refused 18)
     × (rated (ruleOf 3 0 1) 1 1 (halfPart ∷ []) ≡ Refused 19)
     × (plannedRating (plannedOf (ruleOf 3 0 1) 1 1 (halfPart ∷ []) [] []) [] ≡ Refused 19)
     × (plannedRating (plannedOf (ruleOf 3 0 1) 1 1 (half ∷ []) [] []) [] ≡ Refused 7)
-unfolding plannedRating plannedRefusal noChance someOff isChance wholeOf onGrid own spelt parts rounded value numberOf moved ended readingOf unitOf stretch some total weightsOut ranged firstOf unless
+unfolding plannedRating plannedRefusal noChance someOff isChance wholeOf onGrid own spelt parts rounded value numberOf moved ended readingOf unitOf stretch behind combined boardDown listBelow some total weightsOut ranged firstOf unless
 refusals = (refl, refl, refl, refl, refl, refl, refl, refl, refl)
 
--- a file of version 1, of version 2, and one too short to have a version
-pub versions : (otherRefusal (1 ∷ 0 ∷ replicate 18 0) ≡ 0) × (otherRefusal (2 ∷ 0 ∷ replicate 18 0) ≡ 11) × (otherRefusal (2 ∷ 0 ∷ replicate 17 0) ≡ 10)
+-- a file of version 1, of version 2, of version 3 without a whole header, and one too short to have a version
+pub versions : (otherRefusal (1 ∷ 0 ∷ replicate 18 0) ≡ 0) × (otherRefusal (2 ∷ 0 ∷ replicate 18 0) ≡ 11) × (otherRefusal (3 ∷ 0 ∷ replicate 18 0) ≡ 11)
+    × (otherRefusal (2 ∷ 0 ∷ replicate 17 0) ≡ 10)
 unfolding otherRefusal firstOf numberAt
-versions = (refl, refl, refl)
+versions = (refl, refl, refl, refl)

@@ -3,8 +3,8 @@
 -- 2^1044 times the unit. Assumes nothing.
 use mathlib.Core.Path.{_≡_, refl, sym, ap, _∙_, subst}
 use mathlib.Core.Bool.{Bool, true, false, not}
-use mathlib.Core.List.{List, map}
-use Prim.Native.Nat.{ℕ, _*_, _-_, _^_, _≤_, _<_}
+use mathlib.Core.List.{List, [], map}
+use Prim.Native.Nat.{ℕ, _*_, _-_, _^_, _≤_, _<_, zero-le}
 use native.Mathlib.Omega.{arith}
 use native.Mathlib.Decide.{decLt}
 use native.Mathlib.Nat.{le-of-eq}
@@ -16,9 +16,10 @@ use Rattle.rules.specs.declared.Rule.{Rule}
 use Rattle.rules.specs.declared.Rating.the-variants.{Range}
 use Rattle.rules.specs.Below.{some, within}
 use Rattle.rules.specs.State.{S, unitOf}
-use Rattle.rules.specs.Figure.{rounded, figure, low, high, exact, Third}
+use Rattle.rules.specs.Figure.{rounded, low, high, exact, Third}
+use Rattle.rules.specs.Boards.{hasBoards}
 use Rattle.rules.specs.Stretch.{stretch}
-use Rattle.rules.specs.Asked.{askedOf, partOf, weightsOf}
+use Rattle.rules.specs.Asked.{askedOf, weightsOf, roundedOf}
 use Rattle.rules.specs.Refusal.{cells, badKind, badSize, badStretch, badWeights, inRange, firstOf, figuresRefusal}
 use Rattle.rules.specs.Better.{rising}
 use Rattle.rules.specs.Doubles.{parts, spelt, own, isChance, wholeOf, onGrid, Planned, askedIn, lowIn, highIn, floatsOf, sizeIn, readIn, exactIn, noChance, someOff, offGrid, plannedRefusal, plannedRating, widest, Spanned, SpannedOf}
@@ -26,9 +27,9 @@ use Rattle.rules.proofs.Lists.{map-stretch}
 use Rattle.rules.proofs.Tests.{by-test}
 use Rattle.rules.proofs.Windows.{some-none, not-lt}
 use Rattle.rules.proofs.Units.{unit-some}
-use Rattle.rules.proofs.Conditions.{figure-within, third}
+use Rattle.rules.proofs.Conditions.{above-none, figure-within, third}
 use Rattle.rules.proofs.Accepted.{none-first, answered, in-stretch, stretch-length, figures-ratable}
-use Rattle.rules.proofs.Sure.{none-above}
+use Rattle.rules.proofs.WithoutBoards.{rounded-before}
 use Rattle.rules.proofs.Scaling.{scaled, scaled-get, exact-scaled}
 use Rattle.rules.proofs.Grid.{cell, cell-pos, parts-is, parts-power, under, over, one-apart, small, equal-on-grid, on-grid}
 use Rattle.rules.proofs.Finer.{Finer, finer-low, finer-high, finer-width, step-low, step-high}
@@ -183,18 +184,18 @@ module _ (q : Planned) (table : List ℕ) (none : plannedRefusal q table ≡ 0) 
 
   -- a list of whole numbers that has the stretch's: the figures do not refuse it
   pub planned-accepted : (up : Bool) (xs : List ℕ) → length xs ≡ length (q .survival) → stretch (q .a) (q .b) xs ≡ map (wholeOf up) (floatsOf q)
-      → figuresRefusal (askedOf 1 (q .rule) (q .a) (q .b) xs (q .weights) (q .more)) table ≡ 0
+      → figuresRefusal (askedOf 1 (q .rule) (q .a) (q .b) xs (q .weights) (q .more) [] []) table ≡ 0
   unfolding figuresRefusal firstOf unitOf
   planned-accepted up xs long part =
       let units = units (q .rule) (floatsOf q) (readIn q) (each-chance (floatsOf q) (passed .chances)) up in
-      rw (long, passed .kind, passed .size, passed .inside, part, none-above S (map (wholeOf up) (floatsOf q)) units, passed .weighed, passed .range, le-ltb (length table) cells (passed .room))
+      rw (long, passed .kind, passed .size, passed .inside, part, above-none S (map (wholeOf up) (floatsOf q)) units, above-none S [] (λ i. zero-le), passed .weighed, passed .range, le-ltb (length table) cells (passed .room))
 
   -- both figures are within 2^30
-  pub planned-within : (up : Bool) → figure up (unitOf 1) (q .rule) (partOf (askedIn up q)) (readIn q) ≤ S
+  pub planned-within : (up : Bool) → roundedOf up (askedIn up q) ≤ S
   unfolding unitOf
   planned-within up =
       let none = planned-accepted up (map (wholeOf up) (q .survival)) (length-map (q .survival) (wholeOf up)) (sym (map-stretch (wholeOf up) (q .a) (q .b) (q .survival))) in
-      figure-within up (unit-some 1) (q .rule) _ _ (figures-ratable (askedIn up q) table none .2 .units)
+      rw (rounded-before (askedIn up q) refl up) (figure-within up (unit-some 1) (q .rule) _ _ (figures-ratable (askedIn up q) table none .2 .units))
 
   pub passed-size : length (floatsOf q) ≡ sizeIn q
   passed-size = stretch-length (q .a) (q .b) (q .survival) (passed .inside)
@@ -217,7 +218,7 @@ module _ (q : Planned) (table : List ℕ) (none : plannedRefusal q table ≡ 0) 
   pub planned-spanned : SpannedOf q (lowIn q) (highIn q)
   unfolding unitOf
   planned-spanned =
-      rw (← (map-stretch (wholeOf false) (q .a) (q .b) (q .survival)), ← (map-stretch (wholeOf true) (q .a) (q .b) (q .survival)))
+      rw (rounded-before (askedIn false q) refl false, rounded-before (askedIn true q) refl true, ← (map-stretch (wholeOf false) (q .a) (q .b) (q .survival)), ← (map-stretch (wholeOf true) (q .a) (q .b) (q .survival)))
       (subst (λ (n : ℕ). Between n (widest (q .rule) n)) passed-size by-grid)
 
 -- of every range that is answered

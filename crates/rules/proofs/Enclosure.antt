@@ -1,5 +1,6 @@
 -- The rounding argument, once, over any memory, any unit and any survival numbers: the rounded values enclose the exact sum, lie at most n - 1
--- units apart, and stay within the unit. By induction over the components left, a step of `Rounding` each. Assumes nothing.
+-- units apart, and stay within the unit. By induction over the components left, a step of `Rounding` each. And one step more, of figures that meet the
+-- third condition already. Assumes nothing.
 use mathlib.Core.Path.{_≡_}
 use mathlib.Core.Bool.{Bool, true, false, cond}
 use Prim.Native.Nat.{ℕ, zero, suc, _+_, _*_, _^_, _-_, _≤_, _<_}
@@ -7,7 +8,7 @@ use native.Mathlib.Omega.{arith}
 use native.Mathlib.Nat.{pow-suc, pow-zero, mul-le-mul-left, mul-le-mul-right, le-of-mul-le-mul-right}
 use Rattle.rules.specs.State.{failure}
 use Rattle.rules.specs.Memory.{Machine, run}
-use Rattle.rules.specs.Figure.{mixed, value, exactIf, Third}
+use Rattle.rules.specs.Figure.{rounded, mixed, value, exactIf, Third}
 use Rattle.rules.proofs.Split.{exact-zero, exact-split}
 use Rattle.rules.proofs.Rounding.{down-le, le-up, whole, step-gap, step-le}
 
@@ -70,3 +71,31 @@ module _ {M : Type 0} (K : Machine M) (u : ℕ) (P : ℕ → ℕ) (pos : 0 < u) 
   enclosed (suc n) h s m =
       let e : suc n - 1 ≡ n = omega arith in
       record { above-low = rw e (low-le n m); below-high = rw e (le-high n m); width = omega (arith, gap n s m) }
+
+-- one part more, whatever the figures are of
+pub third-step : (u k p l h e l' h' e' : ℕ) → 0 < u → 0 < k → p ≤ u → Third u k l h e → Third u k l' h' e'
+    → Third u (suc k) (rounded false u (mixed u p l l')) (rounded true u (mixed u p h h')) (p * e + failure u p * e')
+third-step u zero p l h e l' h' e' pos some s a b = absurd (omega arith)
+third-step u (suc k) p l h e l' h' e' pos some s a b =
+    let c : suc k - 1 ≡ k = omega arith in
+    let d : suc (suc k) - 1 ≡ suc k = omega arith in
+    let q = failure u p in
+    record {
+      above-low =
+          rw (d, pow-suc u k)
+          (omega (
+            arith,
+            mul-le-mul-left p (rw c at (a .above-low)),
+            mul-le-mul-left q (rw c at (b .above-low)),
+            mul-le-mul-right (u ^ k) (down-le u (mixed u p l l')),
+          ));
+      below-high =
+          rw (d, pow-suc u k)
+          (omega (
+            arith,
+            mul-le-mul-left p (rw c at (a .below-high)),
+            mul-le-mul-left q (rw c at (b .below-high)),
+            mul-le-mul-right (u ^ k) (le-up u (mixed u p h h') pos),
+          ));
+      width = omega (arith, step-gap u p k h h' l l' pos s (omega (arith, a .width)) (omega (arith, b .width)));
+    }

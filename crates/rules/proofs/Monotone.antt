@@ -22,7 +22,7 @@ cond-up true false u h = absurd (false≢true (h refl))
 cond-up false c u h = zero-le
 
 -- the larger number on the larger value
-mix-up : (u p p' a b a' b' : ℕ) → p' ≤ u → p ≤ p' → a ≤ a' → b ≤ b' → b' ≤ a' → mixed u p a b ≤ mixed u p' a' b'
+pub mix-up : (u p p' a b a' b' : ℕ) → p' ≤ u → p ≤ p' → a ≤ a' → b ≤ b' → b' ≤ a' → mixed u p a b ≤ mixed u p' a' b'
 mix-up u p p' a b a' b' t h x y z =
     let e : p' ≡ p + (p' - p) = omega arith in
     let f : u - p ≡ (u - p') + (p' - p) = omega arith in

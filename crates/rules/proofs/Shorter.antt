@@ -15,8 +15,8 @@ use Rattle.rules.specs.State.{numberOf, besideOf}
 use Rattle.rules.specs.Verdict.{someWindow, fails}
 use Rattle.rules.specs.Count.{countIf, countOf}
 use Rattle.rules.specs.Figure.{exact, exactIf}
-use Rattle.rules.specs.Asked.{Asked, unitIn, lengthOf, sizeOf, partOf, weightsOf, readOf}
-use Rattle.rules.specs.Refusal.{most, badVersion, badKind, badSize, badStretch, aboveUnit, badWeights, rangeTwo, ranged, inRange, notCounted, shortTable, shortRoom, highOne, firstOf, verdictRefusal, countRefusal, figuresRefusal}
+use Rattle.rules.specs.Asked.{Asked, unitIn, lengthOf, sizeOf, partOf, weightsOf, readOf, boardsOf, boardSurvivalOf, boardCount}
+use Rattle.rules.specs.Refusal.{most, badVersion, badKind, badSize, badStretch, badBoards, misplaced, aboveUnit, badWeights, rangeTwo, ranged, inRange, notCounted, shortTable, shortRoom, highOne, firstOf, verdictRefusal, countRefusal, figuresRefusal}
 use Rattle.rules.proofs.EachKind.{within-true}
 use Rattle.rules.proofs.Tests.{both}
 use Rattle.rules.proofs.Split.{exact-same, count-same}
@@ -103,13 +103,16 @@ unfolding countRefusal
 counts-pass rule n weights table room = eased 0 _ _ _ _ same (λ one. eased 14 _ _ _ _ same (λ counted. passes rule n weights _ _))
 
 pub figures-pass : (q : Asked) (table : List ℕ)
-    → firstOf ((11, badVersion (q .version)) ∷ (1, badKind (q .rule)) ∷ (2, badSize (lengthOf q)) ∷ (3, badStretch (q .a) (q .b) (lengthOf q)) ∷ (4, aboveUnit (unitIn q) (partOf q))
+    → firstOf ((11, badVersion (q .version)) ∷ (1, badKind (q .rule)) ∷ (2, badSize (lengthOf q)) ∷ (3, badStretch (q .a) (q .b) (lengthOf q))
+    ∷ (20, badBoards (q .version) (boardCount q)) ∷ (21, misplaced (q .version) (lengthOf q) (boardCount q) (q .boards) (boardsOf q))
+    ∷ (4, aboveUnit (unitIn q) (partOf q) (boardSurvivalOf q))
     ∷ (5, badWeights (q .rule) (lengthOf q) (q .weights) (weightsOf q)) ∷ (6, not (inRangeBefore (q .rule) (sizeOf q) (readOf q))) ∷ (7, shortTable table) ∷ []) ≡ 0
     → figuresRefusal q table ≡ 0
 unfolding figuresRefusal
 figures-pass q table =
-    eased 10 _ _ _ _ same (λ eleven. eased 0 _ _ _ _ same (λ one. eased 1 _ _ _ _ same (λ two. eased 2 _ _ _ _ same (λ three. eased 3 _ _ _ _ same (λ four. eased 4 _ _ _ _ same (λ five.
-    eased 5 _ _ _ _ (in-range (q .rule) (sizeOf q) (readOf q) (short two three)) (λ six e. e)))))))
+    eased 10 _ _ _ _ same (λ eleven. eased 0 _ _ _ _ same (λ one. eased 1 _ _ _ _ same (λ two. eased 2 _ _ _ _ same (λ three.
+    eased 19 _ _ _ _ same (λ twenty. eased 20 _ _ _ _ same (λ placed. eased 3 _ _ _ _ same (λ four. eased 4 _ _ _ _ same (λ five.
+    eased 5 _ _ _ _ (in-range (q .rule) (sizeOf q) (readOf q) (short two three)) (λ six e. e)))))))))
   where
     short : badSize (lengthOf q) ≡ false → badStretch (q .a) (q .b) (lengthOf q) ≡ false → sizeOf q ≤ most
     short two three =

@@ -1,9 +1,9 @@
--- Request 06: the exact difference lies between the two ends of a fan's worth, which are at most 2n - 2 apart and run from minus the unit to the unit. A rating that is
+-- Request 06: the exact difference lies between the two ends of a fan's worth, which are at most 2n - 2 apart, with boards 2(n + g) - 2, and run from minus the unit to the unit. A rating that is
 -- not refused is not refused with one of its fans' numbers replaced by 0 or the unit, so the third condition holds of both ratings; the rest is two
 -- inequalities. Nothing is rounded here. Assumes nothing.
 use mathlib.Core.Path.{_≡_, refl, sym, ap, ap₂, _∙_}
 use mathlib.Core.Logic.{_↔_}
-use mathlib.Core.Bool.{Bool, true, false, true≢false}
+use mathlib.Core.Bool.{Bool, true, false, _||_}
 use mathlib.Core.List.{List, [], _∷_}
 use Prim.Native.Nat.{ℕ, zero, suc, _+_, _*_, _-_, _^_, _≤_, _<_, zero-le}
 use native.Mathlib.Omega.{arith}
@@ -11,23 +11,21 @@ use native.Mathlib.Nat.{le-refl}
 use lib.Dec.{ltb}
 use lib.IntN.{ℤ, subℕ}
 use lib.ListN.{length, getD, set, length-set}
-use borrow.Author.Tests.{le-ltb}
 use Rattle.rules.specs.declared.Worth.{Worth}
 use Rattle.rules.specs.declared.Worth.the-variants.{Ends, Refused}
-use Rattle.rules.specs.Below.{some}
-use Rattle.rules.specs.Figure.{figure, Third}
+use Rattle.rules.specs.Figure.{Third}
 use Rattle.rules.specs.Stretch.{stretch}
-use Rattle.rules.specs.Asked.{Asked, unitIn, lengthOf, sizeOf, partOf, weightsOf, readOf, lowOf, highOf, ThirdOf}
-use Rattle.rules.specs.Refusal.{after, aboveUnit, badWeights, badSize, badStretch, figuresRefusal}
+use Rattle.rules.specs.Asked.{Asked, unitIn, lengthOf, partsOf, partOf, weightsOf, readOf, boardsOf, boardSurvivalOf, boardCount, roundedOf, lowOf, highOf, ThirdOf}
+use Rattle.rules.specs.Refusal.{after, someAbove, badWeights, badSize, badStretch, misplaced, figuresRefusal}
 use Rattle.rules.specs.Answer.{unless, figuresOf}
 use Rattle.rules.specs.Worth.{sure, lowerOf, upperOf, Weighs, worthOf, Signed, Between, BetweenOf}
 use Rattle.rules.proofs.Tests.{by-test}
 use Rattle.rules.proofs.Unless.{unless-none}
 use Rattle.rules.proofs.Answer.{given-is, none-is}
-use Rattle.rules.proofs.Windows.{some-none}
-use Rattle.rules.proofs.Conditions.{figure-within}
+use Rattle.rules.proofs.Conditions.{above-none}
 use Rattle.rules.proofs.Units.{unit-some}
-use Rattle.rules.proofs.Accepted.{first-same, in-stretch, stretch-get, figures-ratable, figures-third}
+use Rattle.rules.proofs.Boards.{behind-within}
+use Rattle.rules.proofs.Accepted.{first-same, in-stretch, stretch-get, figures-ratable, figures-boarded, figures-third}
 use Rattle.rules.proofs.Differences.{less-le, less-none, none-less, less-less, less-times}
 
 -- ---- a number replaced
@@ -45,10 +43,6 @@ part-within u p a b j xs h s i =
     rw (stretch-get a b (set xs j p) i)
     (by-test (λ x. x ≤ u) (ltb i (suc b - a)) _ _ (λ l. set-within u p h xs j (a - 1 + i) (rw (stretch-get a b xs i, l) at (s i))) (λ l. zero-le))
 
-pub none-above : (u : ℕ) (xs : List ℕ) → ((i : ℕ) → getD xs i 0 ≤ u) → aboveUnit u xs ≡ false
-unfolding aboveUnit
-none-above u xs s = some-none (λ i. ltb u (getD xs i 0)) (length xs) .1 (λ i l e. true≢false (sym e ∙ le-ltb u (getD xs i 0) (s i)))
-
 -- ---- a rating that is not refused, with one of its numbers replaced
 
 module _ (q : Asked) (table : List ℕ) (fan p : ℕ) (none : figuresRefusal q table ≡ 0) (small : p ≤ unitIn q) where
@@ -65,8 +59,10 @@ module _ (q : Asked) (table : List ℕ) (fan p : ℕ) (none : figuresRefusal q t
       first-same 1 _ _ _ _ refl (λ one.
       first-same 2 _ _ _ _ (ap badSize sure-length) (λ two.
       first-same 3 _ _ _ _ (ap (badStretch (q .a) (q .b)) sure-length) (λ three.
-      first-same 4 _ _ _ _ (none-above _ _ sure-units ∙ sym (none-above _ _ (figures-ratable q table none .2 .units))) (λ four.
-      first-same 5 _ _ _ _ (ap (λ n. badWeights (q .rule) n (q .weights) (weightsOf q)) sure-length) (λ five. refl))))))
+      first-same 20 _ _ _ _ refl (λ twenty.
+      first-same 21 _ _ _ _ (ap (λ n. misplaced (q .version) n (boardCount q) (q .boards) (boardsOf q)) sure-length) (λ placed.
+      first-same 4 _ _ _ _ (ap (λ b. b || someAbove (unitIn q) (boardSurvivalOf q)) (above-none _ _ sure-units ∙ sym (above-none _ _ (figures-ratable q table none .2 .units)))) (λ four.
+      first-same 5 _ _ _ _ (ap (λ n. badWeights (q .rule) n (q .weights) (weightsOf q)) sure-length) (λ five. refl))))))))
 
   pub sure-accepted : figuresRefusal (sure fan p q) table ≡ 0
   sure-accepted = sure-refusal ∙ none
@@ -75,8 +71,10 @@ module _ (q : Asked) (table : List ℕ) (fan p : ℕ) (none : figuresRefusal q t
   unfolding figuresOf
   sure-third = figures-third (sure fan p q) table _ _ (unless-none _ _ _ sure-accepted)
 
-  pub sure-within : (up : Bool) → figure up (unitIn q) (q .rule) (partOf (sure fan p q)) (readOf q) ≤ unitIn q
-  sure-within up = figure-within up (unit-some (q .version)) (q .rule) (partOf (sure fan p q)) (readOf q) sure-units
+  pub sure-within : (up : Bool) → roundedOf up (sure fan p q) ≤ unitIn q
+  sure-within =
+      behind-within (unitIn q) (unit-some (q .version)) (q .rule) (partOf (sure fan p q)) (readOf q) (boardsOf q) (boardSurvivalOf q) sure-units
+      (figures-boarded q table none .1 .units)
 
 -- ---- the worth
 
@@ -113,7 +111,7 @@ module _ (q : Asked) (table : List ℕ) (fan : ℕ) where
       let works = sure-within q table fan (unitIn q) none (le-refl _) in
       let fails = sure-within q table fan 0 none zero-le in
       let inside = in-stretch (q .a) (q .b) (lengthOf q) (figures-ratable q table none .0) in
-      between (unitIn q) (sizeOf q) _ _ _ _ _ _ (omega arith) (sure-third q table fan (unitIn q) none (le-refl _)) (sure-third q table fan 0 none zero-le)
+      between (unitIn q) (partsOf q) _ _ _ _ _ _ (omega arith) (sure-third q table fan (unitIn q) none (le-refl _)) (sure-third q table fan 0 none zero-le)
       (works false) (works true) (fails false) (fails true)
 
   -- of every worth that is answered

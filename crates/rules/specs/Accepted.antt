@@ -6,7 +6,7 @@ use Prim.Native.Nat.{ℕ, _≤_}
 use lib.ListN.{length, getD}
 use Rattle.rules.specs.declared.Rule.{Rule}
 use Rattle.rules.specs.Below.{total}
-use Rattle.rules.specs.Refusal.{most, heaviest, inRange, cells}
+use Rattle.rules.specs.Refusal.{most, heaviest, inRange, cells, mostBoards}
 
 pub record Accepted (rule : Rule) (n : ℕ) (beside : List ℕ) : Type 0 where
   pub kind-low : 1 ≤ rule .kind
@@ -28,6 +28,12 @@ pub record Two (first r most : ℕ) : Type 0 where
   pub two : first ≡ 2
   pub low : 2 ≤ r
   pub high : r ≤ most
+
+-- the boards of a list that is rated: at most four, numbers within the unit, and no fan on one that there is not
+pub record Boarded (u : ℕ) (boards boardSurvival : List ℕ) : Type 0 where
+  pub few : length boardSurvival ≤ mostBoards
+  pub units : (i : ℕ) → getD boardSurvival i 0 ≤ u
+  pub placed : (i : ℕ) → getD boards i 0 ≤ length boardSurvival
 
 -- a list with an accepted rule, numbers within the unit, and a table to work in
 pub record Ratable (u : ℕ) (rule : Rule) (survival beside table : List ℕ) : Type 0 where

@@ -1,11 +1,13 @@
 -- Document 02, request 02, "One rating call": what is asked of a rating, the part of the lists that is rated, and the part's low, high and E.
 -- "The whole deck is stretch 1 to n", and n of the third condition is the stretch's length.
+use mathlib.Core.Bool.{Bool, true, false}
 use mathlib.Core.List.{List}
-use Prim.Native.Nat.{ℕ, suc, _-_}
+use Prim.Native.Nat.{ℕ, suc, _+_, _-_}
 use lib.ListN.{length}
 use Rattle.rules.specs.declared.Rule.{Rule}
 use Rattle.rules.specs.State.{unitOf, besideOf}
-use Rattle.rules.specs.Figure.{low, high, exact, Third}
+use Rattle.rules.specs.Figure.{Third}
+use Rattle.rules.specs.Boards.{boardsRead, figureBehind, exactBehind}
 use Rattle.rules.specs.Stretch.{stretch}
 
 pub record Asked : Type 0 where
@@ -16,10 +18,21 @@ pub record Asked : Type 0 where
   pub survival : List ℕ
   pub weights : List ℕ
   pub more : List ℕ
+  pub boards : List ℕ
+  pub boardSurvival : List ℕ
 
-abbrev pub askedOf : (version : ℕ) → Rule → (a b : ℕ) (survival weights more : List ℕ) → Asked
-askedOf version rule a b survival weights more =
-    record { version = version; rule = rule; a = a; b = b; survival = survival; weights = weights; more = more }
+abbrev pub askedOf : (version : ℕ) → Rule → (a b : ℕ) (survival weights more boards boardSurvival : List ℕ) → Asked
+askedOf version rule a b survival weights more boards boardSurvival = record {
+  version = version;
+  rule = rule;
+  a = a;
+  b = b;
+  survival = survival;
+  weights = weights;
+  more = more;
+  boards = boards;
+  boardSurvival = boardSurvival;
+}
 
 -- "Conditions two and three read S as the file's own unit"
 abbrev pub unitIn : Asked → ℕ
@@ -43,15 +56,33 @@ weightsOf q = stretch (q .a) (q .b) (q .weights)
 abbrev pub readOf : Asked → List ℕ
 readOf q = besideOf (q .rule) (weightsOf q) (q .more)
 
+-- request 11: the board numbers of the stretch's fans, all the boards' survival numbers, and how many boards there are, g
+abbrev pub boardsOf : Asked → List ℕ
+boardsOf q = boardsRead (q .version) (stretch (q .a) (q .b) (q .boards))
+
+abbrev pub boardSurvivalOf : Asked → List ℕ
+boardSurvivalOf q = boardsRead (q .version) (q .boardSurvival)
+
+abbrev pub boardCount : Asked → ℕ
+boardCount q = length (boardSurvivalOf q)
+
+-- the figures, low with rounding down and high with rounding up, and E
+abbrev pub roundedOf : (up : Bool) → Asked → ℕ
+roundedOf up q = figureBehind up (unitIn q) (q .rule) (partOf q) (readOf q) (boardsOf q) (boardSurvivalOf q)
+
 abbrev pub lowOf : Asked → ℕ
-lowOf q = low (unitIn q) (q .rule) (partOf q) (readOf q)
+lowOf q = roundedOf false q
 
 abbrev pub highOf : Asked → ℕ
-highOf q = high (unitIn q) (q .rule) (partOf q) (readOf q)
+highOf q = roundedOf true q
 
 abbrev pub exactOf : Asked → ℕ
-exactOf q = exact (unitIn q) (q .rule) (partOf q) (readOf q)
+exactOf q = exactBehind (unitIn q) (q .rule) (partOf q) (readOf q) (boardsOf q) (boardSurvivalOf q)
+
+-- "Condition three then sums over n + g parts"; n is the stretch's length
+abbrev pub partsOf : Asked → ℕ
+partsOf q = sizeOf q + boardCount q
 
 -- the third condition of two figures
 abbrev pub ThirdOf : Asked → (low high : ℕ) → Type 0
-ThirdOf q low high = Third (unitIn q) (sizeOf q) low high (exactOf q)
+ThirdOf q low high = Third (unitIn q) (partsOf q) low high (exactOf q)

@@ -6,7 +6,7 @@ use Prim.Native.Nat.{ℕ, _≤_}
 use lib.Dec.{eqb}
 use lib.ListN.{length, getD}
 use Rattle.rules.specs.Below.{within}
-use Rattle.rules.specs.Asked.{Asked, partOf}
+use Rattle.rules.specs.Asked.{Asked, partOf, boardsOf, boardSurvivalOf}
 
 -- "no survival number is lower in the second list than in the first", and both have the same n
 pub record NoLower (xs ys : List ℕ) : Type 0 where
@@ -18,7 +18,7 @@ abbrev pub rising : (kind : ℕ) → Bool
 rising kind = within 1 kind 8 && not (eqb kind 3)
 
 -- "with the same unit, .. stretch, rule and weights", pairs too: what is asked of the second list; only the stretch's survival numbers are read, so only they
--- count
+-- count. Request 11: "the same g and the same fans' board numbers in both lists", and "the boards' survival numbers among those not lower"
 pub record Better (q q' : Asked) : Type 0 where
   pub version : q .version ≡ q' .version
   pub rule : q .rule ≡ q' .rule
@@ -26,4 +26,6 @@ pub record Better (q q' : Asked) : Type 0 where
   pub to : q .b ≡ q' .b
   pub weights : q .weights ≡ q' .weights
   pub more : q .more ≡ q' .more
+  pub boards : boardsOf q ≡ boardsOf q'
   pub survival : NoLower (partOf q) (partOf q')
+  pub boardSurvival : NoLower (boardSurvivalOf q) (boardSurvivalOf q')

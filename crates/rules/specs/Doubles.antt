@@ -74,7 +74,7 @@ plannedOf rule a b survival weights more = record { rule = rule; a = a; b = b; s
 
 -- the same asked in whole numbers of version 1's unit, 2^30: of the lower list, and of the upper
 abbrev pub askedIn : (up : Bool) → Planned → Asked
-askedIn up q = askedOf 1 (q .rule) (q .a) (q .b) (map (wholeOf up) (q .survival)) (q .weights) (q .more)
+askedIn up q = askedOf 1 (q .rule) (q .a) (q .b) (map (wholeOf up) (q .survival)) (q .weights) (q .more) [] []
 
 -- "Low comes from the lower list and high from the upper"
 abbrev pub lowIn : Planned → ℕ

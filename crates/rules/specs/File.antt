@@ -10,16 +10,19 @@ use Rattle.rules.specs.declared.Rating.the-variants.{Range, Refused}
 use Rattle.rules.specs.declared.Worth.{Worth}
 use Rattle.rules.specs.declared.Worth.the-variants as worth
 use Rattle.rules.specs.Below.{within, listBelow}
+use Rattle.rules.specs.Boards.{hasBoards, boardsRead}
 use Rattle.rules.specs.Asked.{Asked, askedOf}
-use Rattle.rules.specs.Refusal.{most, cells, firstOf, badVersion, badSize}
+use Rattle.rules.specs.Refusal.{most, cells, firstOf, badVersion, badSize, badBoards, misplaced}
 use Rattle.rules.specs.Answer.{unless, figuresOf}
 use Rattle.rules.specs.Worth.{worthOf}
 
--- a deck: its version, which says the unit, its fans' survival numbers and weights, and its systems
+-- a deck: its version, which says the unit, its fans' survival numbers, weights and board numbers, its boards' survival numbers, and its systems
 pub record Deck : Type 0 where
   pub version : ℕ
   pub survival : List ℕ
   pub weights : List ℕ
+  pub boards : List ℕ
+  pub boardSurvival : List ℕ
   pub systems : List System
 
 -- "Little-endian": the bytes of a number, lowest first, and the number that so many bytes from a place on spell
@@ -43,7 +46,8 @@ unfoldable pub allBytes : (width : ℕ) → List ℕ → List ℕ
 allBytes width [] = []
 allBytes width (x ∷ xs) = bytesOf width x ++ allBytes width xs
 
--- where the header has each of its numbers: "version (2 bytes, 1)", since request 08 1 or 2, "zero (2), n (2), systems m (2)", then the three offsets; and its length
+-- where the header has each of its numbers: "version (2 bytes, 1)", since request 11 1 to 3, "zero (2), n (2), systems m (2)", then the three offsets; request 11:
+-- "the 28-byte header ends in g (4) and the offset of those bytes (4)"
 abbrev pub versionField : ℕ
 versionField = 0
 
@@ -65,18 +69,36 @@ weightsField = 12
 abbrev pub systemsField : ℕ
 systemsField = 16
 
-abbrev pub headerLength : ℕ
-headerLength = 20
+abbrev pub boardCountField : ℕ
+boardCountField = 20
 
--- "Then P (4 bytes each), weights (2 each), systems of 10 bytes"
+abbrev pub boardsField : ℕ
+boardsField = 24
+
+-- how long it is: that of the versions without boards is the shortest
+abbrev pub shortestHeader : ℕ
+shortestHeader = 20
+
+abbrev pub headerLength : (version : ℕ) → ℕ
+headerLength version = cond (hasBoards version) 28 shortestHeader
+
+-- "Then P (4 bytes each), weights (2 each), systems of 10 bytes"; request 11: "a byte per fan and the boards' numbers, in that order between weights and systems
+-- (a number takes 4 bytes)"
 abbrev pub survivalBytes : ℕ
 survivalBytes = 4
 
 abbrev pub weightBytes : ℕ
 weightBytes = 2
 
+abbrev pub boardBytes : ℕ
+boardBytes = 1
+
 abbrev pub systemBytes : ℕ
 systemBytes = 10
+
+-- of how many fans a file has the board number
+abbrev pub boardFans : (version n : ℕ) → ℕ
+boardFans version n = cond (hasBoards version) n 0
 
 -- the most fans and systems that a file has
 abbrev pub mostFans : ℕ
@@ -85,23 +107,36 @@ mostFans = most
 abbrev pub mostSystems : ℕ
 mostSystems = 32
 
--- "offset of survival numbers (4) = 20, of weights (4) = 20 + 4n, of systems (4) = 20 + 6n", "Length 20 + 6n + 10m exactly"
-abbrev pub survivalOffset : ℕ
-survivalOffset = headerLength
+-- "offset of survival numbers (4) = 20, of weights (4) = 20 + 4n, of systems (4) = 20 + 6n", "Length 20 + 6n + 10m exactly": each part begins where the one before it
+-- ends. g is 0 where the version has no boards.
+abbrev pub survivalOffset : (version : ℕ) → ℕ
+survivalOffset version = headerLength version
 
-abbrev pub weightsOffset : ℕ → ℕ
-weightsOffset n = survivalOffset + survivalBytes * n
+abbrev pub weightsOffset : (version n : ℕ) → ℕ
+weightsOffset version n = survivalOffset version + survivalBytes * n
 
-abbrev pub systemsOffset : ℕ → ℕ
-systemsOffset n = weightsOffset n + weightBytes * n
+abbrev pub boardsOffset : (version n : ℕ) → ℕ
+boardsOffset version n = weightsOffset version n + weightBytes * n
 
-abbrev pub fileLength : (n m : ℕ) → ℕ
-fileLength n m = systemsOffset n + systemBytes * m
+abbrev pub boardSurvivalOffset : (version n : ℕ) → ℕ
+boardSurvivalOffset version n = boardsOffset version n + boardBytes * boardFans version n
 
--- the header's bytes; request 08: "The layout is otherwise the same"
-unfoldable pub headerOf : (version n m : ℕ) → List ℕ
-headerOf version n m =
-    allBytes 2 (version ∷ 0 ∷ n ∷ m ∷ []) ++ allBytes 4 (survivalOffset ∷ weightsOffset n ∷ systemsOffset n ∷ [])
+abbrev pub systemsOffset : (version n g : ℕ) → ℕ
+systemsOffset version n g = boardSurvivalOffset version n + survivalBytes * g
+
+abbrev pub fileLength : (version n g m : ℕ) → ℕ
+fileLength version n g m = systemsOffset version n g + systemBytes * m
+
+-- the header's bytes: four numbers in two bytes each, then offsets, and g, in four each
+abbrev pub countsOf : (version n m : ℕ) → List ℕ
+countsOf version n m = version ∷ 0 ∷ n ∷ m ∷ []
+
+abbrev pub offsetsOf : (version n g : ℕ) → List ℕ
+offsetsOf version n g =
+    survivalOffset version ∷ weightsOffset version n ∷ systemsOffset version n g ∷ boardsRead version (g ∷ boardsOffset version n ∷ [])
+
+unfoldable pub headerOf : (version n g m : ℕ) → List ℕ
+headerOf version n g m = allBytes 2 (countsOf version n m) ++ allBytes 4 (offsetsOf version n g)
 
 -- "kind, first, second, a, b (2 each)"
 unfoldable pub systemNumbers : List System → List ℕ
@@ -122,12 +157,14 @@ systemsOf numbers = listBelow (length numbers / perSystem) (λ s. fiveOf (λ i. 
 -- the layout
 unfoldable pub fileOf : Deck → List ℕ
 fileOf d =
-    headerOf (d .version) (length (d .survival)) (length (d .systems))
+    headerOf (d .version) (length (d .survival)) (length (d .boardSurvival)) (length (d .systems))
     ++ allBytes survivalBytes (d .survival)
     ++ allBytes weightBytes (d .weights)
+    ++ allBytes boardBytes (d .boards)
+    ++ allBytes survivalBytes (d .boardSurvival)
     ++ allBytes 2 (systemNumbers (d .systems))
 
--- the version, n and m as a file has them
+-- the version, n, m and g as a file has them
 abbrev pub versionIn : List ℕ → ℕ
 versionIn bytes = numberAt 2 bytes versionField
 
@@ -136,6 +173,9 @@ fansIn bytes = numberAt 2 bytes fansField
 
 abbrev pub countIn : List ℕ → ℕ
 countIn bytes = numberAt 2 bytes countField
+
+abbrev pub boardCountIn : List ℕ → ℕ
+boardCountIn bytes = cond (hasBoards (versionIn bytes)) (numberAt 4 bytes boardCountField) 0
 
 -- reading by position: a system, the s-th of those from a place on, a file's s-th, counted from 0, and its deck
 unfoldable pub systemAt : (bytes : List ℕ) (at : ℕ) → System
@@ -149,23 +189,29 @@ abbrev pub nthSystem : (bytes : List ℕ) (from s : ℕ) → System
 nthSystem bytes from s = systemAt bytes (from + systemBytes * s)
 
 abbrev pub systemIn : (bytes : List ℕ) (s : ℕ) → System
-systemIn bytes s = nthSystem bytes (systemsOffset (fansIn bytes)) s
+systemIn bytes s = nthSystem bytes (systemsOffset (versionIn bytes) (fansIn bytes) (boardCountIn bytes)) s
 
 unfoldable pub deckIn : List ℕ → Deck
 deckIn bytes =
+    let version = versionIn bytes in
     let n = fansIn bytes in
     record {
-      version = versionIn bytes;
-      survival = numbersFrom survivalBytes bytes survivalOffset n;
-      weights = numbersFrom weightBytes bytes (weightsOffset n) n;
+      version = version;
+      survival = numbersFrom survivalBytes bytes (survivalOffset version) n;
+      weights = numbersFrom weightBytes bytes (weightsOffset version n) n;
+      boards = numbersFrom boardBytes bytes (boardsOffset version n) (boardFans version n);
+      boardSurvival = numbersFrom survivalBytes bytes (boardSurvivalOffset version n) (boardCountIn bytes);
       systems = listBelow (countIn bytes) (systemIn bytes);
     }
 
--- 10: deck file under 20 bytes
+-- 10: deck file under 20 bytes; request 11: "10 also for a version 3 file under 28 bytes"
 abbrev pub shortFile : List ℕ → Bool
-shortFile bytes = ltb (length bytes) headerLength
+shortFile bytes = ltb (length bytes) shortestHeader
 
--- 11: version not 1, since request 08 not 1 or 2, or the zero field not 0
+abbrev pub shortHeader : List ℕ → Bool
+shortHeader bytes = ltb (length bytes) (headerLength (versionIn bytes))
+
+-- 11: version not 1, since request 11 not 1..3, or the zero field not 0
 abbrev pub badStart : List ℕ → Bool
 badStart bytes = badVersion (versionIn bytes) || not (eqb (numberAt 2 bytes zeroField) 0)
 
@@ -173,30 +219,50 @@ badStart bytes = badVersion (versionIn bytes) || not (eqb (numberAt 2 bytes zero
 abbrev pub badSystems : List ℕ → Bool
 badSystems bytes = not (within 1 (countIn bytes) mostSystems)
 
--- 13: an offset or the file's length differs from the layout
+-- 13: an offset or the file's length differs from the layout; the offset of the board bytes where the version has it
+abbrev pub boardsElsewhere : List ℕ → Bool
+boardsElsewhere bytes =
+    let version = versionIn bytes in
+    hasBoards version && not (eqb (numberAt 4 bytes boardsField) (boardsOffset version (fansIn bytes)))
+
 abbrev pub badLayout : List ℕ → Bool
 badLayout bytes =
+    let version = versionIn bytes in
     let n = fansIn bytes in
+    let g = boardCountIn bytes in
     not
-    (eqb (numberAt 4 bytes survivalField) survivalOffset
-    && eqb (numberAt 4 bytes weightsField) (weightsOffset n)
-    && eqb (numberAt 4 bytes systemsField) (systemsOffset n)
-    && eqb (length bytes) (fileLength n (countIn bytes)))
+    (eqb (numberAt 4 bytes survivalField) (survivalOffset version)
+    && eqb (numberAt 4 bytes weightsField) (weightsOffset version n)
+    && eqb (numberAt 4 bytes systemsField) (systemsOffset version n g)
+    && not (boardsElsewhere bytes)
+    && eqb (length bytes) (fileLength version n g (countIn bytes)))
 
--- "A file is checked 10, 11, 2, 12, 13"
+-- 20 and 21, of a file
+abbrev pub badBoardsIn : List ℕ → Bool
+badBoardsIn bytes = badBoards (versionIn bytes) (boardCountIn bytes)
+
+abbrev pub misplacedIn : List ℕ → Bool
+misplacedIn bytes =
+    let boards = deckIn bytes .boards in
+    misplaced (versionIn bytes) (fansIn bytes) (boardCountIn bytes) boards boards
+
+-- "A file is checked 10, 11, 2, 12, 13"; request 11: 10 again "right after 11", 20 "after 12", 21 "after 13"
 unfoldable pub fileRefusal : List ℕ → ℕ
 fileRefusal bytes =
     firstOf
     ((10, shortFile bytes)
     ∷ (11, badStart bytes)
+    ∷ (10, shortHeader bytes)
     ∷ (2, badSize (fansIn bytes))
     ∷ (12, badSystems bytes)
+    ∷ (20, badBoardsIn bytes)
     ∷ (13, badLayout bytes)
+    ∷ (21, misplacedIn bytes)
     ∷ [])
 
 -- what a system asks of its deck; request 05: "a deck file carries a single pair in first and second"
 abbrev pub askedBy : Deck → System → Asked
-askedBy d s = askedOf (d .version) (s .rule) (s .a) (s .b) (d .survival) (d .weights) []
+askedBy d s = askedOf (d .version) (s .rule) (s .a) (s .b) (d .survival) (d .weights) [] (d .boards) (d .boardSurvival)
 
 -- a system's own answer, over a working table that the caller brings
 unfoldable pub systemOf : Deck → System → Rating

@@ -1,4 +1,4 @@
--- Document 01, in its own order: what is rated, the verdicts, the count table, the memory of a reading, stretches, what is asked of a rating, refusals, the deck file, its writer, doubles.
+-- Document 01, in its own order: what is rated, the verdicts, the count table, the memory of a reading, boards, stretches, what is asked of a rating, refusals, the deck file, its writer, doubles.
 -- Lay it beside the document; every definition names the sentence or row that it writes down.
 pub mod Below
 pub mod State
@@ -7,6 +7,7 @@ pub mod Verdict
 pub mod Count
 pub mod Memory
 pub mod Figure
+pub mod Boards
 pub mod Stretch
 pub mod Asked
 pub mod Refusal

@@ -8,11 +8,12 @@ use Rattle.rules.specs.declared.Rule.{Rule}
 use Rattle.rules.specs.Below.{some, total, within, rowOf}
 use Rattle.rules.specs.State.{besideOf}
 use Rattle.rules.specs.Pairs.{pairsOf, inRange8, badMore}
-use Rattle.rules.specs.Asked.{Asked, unitIn, lengthOf, sizeOf, partOf, weightsOf, readOf}
+use Rattle.rules.specs.Boards.{hasBoards}
+use Rattle.rules.specs.Asked.{Asked, unitIn, lengthOf, sizeOf, partOf, weightsOf, readOf, boardsOf, boardSurvivalOf, boardCount}
 
--- 11: since request 08, "for versions other than 1 and 2"
+-- 11: since request 11, "for versions not 1..3"
 abbrev pub lastVersion : ℕ
-lastVersion = 2
+lastVersion = 3
 
 abbrev pub badVersion : (version : ℕ) → Bool
 badVersion version = not (within 1 version lastVersion)
@@ -36,9 +37,24 @@ badSize n = not (within 1 n most)
 abbrev pub badStretch : (a b n : ℕ) → Bool
 badStretch a b n = eqb a 0 || ltb b a || ltb n b
 
--- 4: a P read is above the unit; request 08: "4 against the file's unit"
-unfoldable pub aboveUnit : (u : ℕ) (survival : List ℕ) → Bool
-aboveUnit u survival = some (λ i. ltb u (getD survival i 0)) (length survival)
+-- is some number of a list above a limit?
+unfoldable pub someAbove : (limit : ℕ) (numbers : List ℕ) → Bool
+someAbove limit numbers = some (λ i. ltb limit (getD numbers i 0)) (length numbers)
+
+-- 20, request 11: "g outside 1..4"
+abbrev pub mostBoards : ℕ
+mostBoards = 4
+
+abbrev pub badBoards : (version g : ℕ) → Bool
+badBoards version g = hasBoards version && not (within 1 g mostBoards)
+
+-- 21: "a fan's board number above g (rating calls: a rated fan's) or a board list not n long"
+abbrev pub misplaced : (version n g : ℕ) (boards rated : List ℕ) → Bool
+misplaced version n g boards rated = hasBoards version && (not (eqb (length boards) n) || someAbove g rated)
+
+-- 4: a P read is above the unit; request 08: "4 against the file's unit"; request 11: "4 for any board's survival number too"
+abbrev pub aboveUnit : (u : ℕ) (survival boardSurvival : List ℕ) → Bool
+aboveUnit u survival boardSurvival = someAbove u survival || someAbove u boardSurvival
 
 -- 5: kind 2: weights' length is not n, or the total over the components rated is above 120
 abbrev pub heaviest : ℕ
@@ -128,7 +144,7 @@ countRefusal rule n weights table room =
     ∷ (8, shortRoom n room)
     ∷ [])
 
--- "the figures 1, 2, 3, 4, 5, 6, 7": since request 02 "3 now belongs to every figure"; 11 "first where it is an input"
+-- "the figures 1, 2, 3, 4, 5, 6, 7": since request 02 "3 now belongs to every figure"; 11 "first where it is an input"; "20 and 21 come just before 4"
 unfoldable pub figuresRefusal : Asked → (table : List ℕ) → ℕ
 figuresRefusal q table =
     firstOf
@@ -136,7 +152,9 @@ figuresRefusal q table =
     ∷ (1, badKind (q .rule))
     ∷ (2, badSize (lengthOf q))
     ∷ (3, badStretch (q .a) (q .b) (lengthOf q))
-    ∷ (4, aboveUnit (unitIn q) (partOf q))
+    ∷ (20, badBoards (q .version) (boardCount q))
+    ∷ (21, misplaced (q .version) (lengthOf q) (boardCount q) (q .boards) (boardsOf q))
+    ∷ (4, aboveUnit (unitIn q) (partOf q) (boardSurvivalOf q))
     ∷ (5, badWeights (q .rule) (lengthOf q) (q .weights) (weightsOf q))
     ∷ (6, not (inRange (q .rule) (sizeOf q) (readOf q)))
     ∷ (7, shortTable table)

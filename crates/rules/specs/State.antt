@@ -15,7 +15,7 @@ S = 2 ^ 30
 abbrev pub decimal : ℕ
 decimal = 1000000000
 
--- "Version 2 of the deck file has that as its unit; version 1 keeps 2^30"
+-- "Version 2 of the deck file has that as its unit; version 1 keeps 2^30"; request 11: version 3 is "in version 2's unit"
 unfoldable pub unitOf : (version : ℕ) → ℕ
 unitOf version = cond (eqb version 1) S decimal
 

@@ -10,13 +10,15 @@ use lib.Signed.{_≤ℤ_}
 use Rattle.rules.specs.declared.Worth.{Worth}
 use Rattle.rules.specs.declared.Worth.the-variants.{Ends, Refused}
 use Rattle.rules.specs.Below.{within}
-use Rattle.rules.specs.Asked.{Asked, askedOf, unitIn, sizeOf, lowOf, highOf, exactOf}
+use Rattle.rules.specs.Asked.{Asked, askedOf, unitIn, partsOf, lowOf, highOf, exactOf}
 use Rattle.rules.specs.Refusal.{figuresRefusal, after}
 use Rattle.rules.specs.Answer.{unless, Given}
 
--- what is asked with one fan's survival number replaced: "sure to work" by the unit, "sure to fail" by 0
+-- what is asked with one fan's survival number replaced: "sure to work" by the unit, "sure to fail" by 0; request 11: "a fan sure to work may still lose its
+-- board", so that the boards stay as they are
 abbrev pub sure : (fan p : ℕ) → Asked → Asked
-sure fan p q = askedOf (q .version) (q .rule) (q .a) (q .b) (set (q .survival) (fan - 1) p) (q .weights) (q .more)
+sure fan p q =
+    askedOf (q .version) (q .rule) (q .a) (q .b) (set (q .survival) (fan - 1) p) (q .weights) (q .more) (q .boards) (q .boardSurvival)
 
 abbrev pub working : (fan : ℕ) → Asked → Asked
 working fan q = sure fan (unitIn q) q
@@ -60,6 +62,6 @@ pub record Between (u n : ℕ) (lower upper : ℤ) (works fails : ℕ) : Type 0 
   pub lower-signed : Signed u lower
   pub upper-signed : Signed u upper
 
--- n is the stretch's length
+-- n is the stretch's length; request 11: "Req 06's width reads n + g for n"
 abbrev pub BetweenOf : Asked → (fan : ℕ) (lower upper : ℤ) → Type 0
-BetweenOf q fan lower upper = Between (unitIn q) (sizeOf q) lower upper (exactOf (working fan q)) (exactOf (failing fan q))
+BetweenOf q fan lower upper = Between (unitIn q) (partsOf q) lower upper (exactOf (working fan q)) (exactOf (failing fan q))

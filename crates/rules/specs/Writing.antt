@@ -8,29 +8,46 @@ use lib.ListN.{length, drop}
 use Rattle.rules.specs.declared.Writing.{Writing}
 use Rattle.rules.specs.declared.Writing.the-variants.{Written, Refused}
 use Rattle.rules.specs.Below.{within}
-use Rattle.rules.specs.Refusal.{badVersion, badSize, firstOf}
+use Rattle.rules.specs.Boards.{boardsRead}
+use Rattle.rules.specs.Refusal.{badVersion, badSize, badBoards, misplaced, firstOf}
 use Rattle.rules.specs.Answer.{unless, Given}
 use Rattle.rules.specs.File.{Deck, perSystem, mostSystems, systemNumbers, systemsOf, fileOf}
 
--- "lists and systems in", and since request 08 the version: the systems as numbers, one system's five after the other's
+-- "lists and systems in", since request 08 the version, and since request 11 the boards: the systems as numbers, one system's five after the other's
 pub record Typed : Type 0 where
   pub version : ℕ
   pub survival : List ℕ
   pub weights : List ℕ
+  pub boards : List ℕ
+  pub boardSurvival : List ℕ
   pub numbers : List ℕ
 
-abbrev pub typedOf : (version : ℕ) (survival weights numbers : List ℕ) → Typed
-typedOf version survival weights numbers = record { version = version; survival = survival; weights = weights; numbers = numbers }
+abbrev pub typedOf : (version : ℕ) (survival weights boards boardSurvival numbers : List ℕ) → Typed
+typedOf version survival weights boards boardSurvival numbers = record {
+  version = version;
+  survival = survival;
+  weights = weights;
+  boards = boards;
+  boardSurvival = boardSurvival;
+  numbers = numbers;
+}
 
--- the deck that is typed, its bytes, and how a deck is typed
+-- the deck that is typed, its bytes, and how a deck is typed; of boards "nothing .. is read" with versions 1 and 2
 abbrev pub deckOf : Typed → Deck
-deckOf t = record { version = t .version; survival = t .survival; weights = t .weights; systems = systemsOf (t .numbers) }
+deckOf t = record {
+  version = t .version;
+  survival = t .survival;
+  weights = t .weights;
+  boards = boardsRead (t .version) (t .boards);
+  boardSurvival = boardsRead (t .version) (t .boardSurvival);
+  systems = systemsOf (t .numbers);
+}
 
 abbrev pub bytesFor : Typed → List ℕ
 bytesFor t = fileOf (deckOf t)
 
 abbrev pub typedFrom : Deck → Typed
-typedFrom d = typedOf (d .version) (d .survival) (d .weights) (systemNumbers (d .systems))
+typedFrom d = typedOf (d .version) (d .survival) (d .weights) (d .boards) (d .boardSurvival) (systemNumbers (d .systems))
 
 -- "weights' length not n as 5"
 abbrev pub unpaired : Typed → Bool
@@ -44,7 +61,8 @@ badFives count = not (eqb (count % perSystem) 0 && within 1 (count / perSystem) 
 abbrev pub shortFor : Typed → (room : List ℕ) → Bool
 shortFor t room = ltb (length room) (length (bytesFor t))
 
--- "Refusals: 2, weights' length not n as 5, 12 (a part system too), then 16, room too short, in that order"; request 08: 11 "first where it is an input"
+-- "Refusals: 2, weights' length not n as 5, 12 (a part system too), then 16, room too short, in that order"; request 08: 11 "first where it is an input";
+-- request 11: "with 20 and 21 before 16"
 unfoldable pub writeRefusal : Typed → (room : List ℕ) → ℕ
 writeRefusal t room =
     firstOf
@@ -52,6 +70,8 @@ writeRefusal t room =
     ∷ (2, badSize (length (t .survival)))
     ∷ (5, unpaired t)
     ∷ (12, badFives (length (t .numbers)))
+    ∷ (20, badBoards (t .version) (length (t .boardSurvival)))
+    ∷ (21, misplaced (t .version) (length (t .survival)) (length (t .boardSurvival)) (t .boards) (t .boards))
     ∷ (16, shortFor t room)
     ∷ [])
 
