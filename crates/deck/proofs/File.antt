@@ -1,24 +1,29 @@
 -- The layout: a file is accepted exactly if it is the bytes of a deck within bounds, and that deck is the one that reading by position finds.
 -- Each part of a file is the bytes of a list of numbers, so the laws of such lists serve for the header, the survival numbers, the weights and
 -- the systems alike. Assumes nothing.
-use mathlib.Core.Path.{_≡_, refl, sym, ap₂, _∙_}
-use mathlib.Core.Bool.{false}
+use mathlib.Core.Path.{_≡_, refl, sym, ap, ap₂, _∙_}
+use mathlib.Core.Bool.{true, false, cond, not, _&&_}
 use mathlib.Core.Logic.{_↔_}
 use mathlib.Core.List.{List, [], _∷_, _++_, append-assoc, append-nil}
-use Prim.Native.Nat.{ℕ, _+_, _*_, _^_, _<_}
+use Prim.Native.Nat.{ℕ, _+_, _*_, _^_, _≤_, _<_}
 use native.Mathlib.Omega.{arith}
 use lib.ListN.{length, getD, take, length-append}
 use lib.Seq.{take-all, take-add}
-use borrow.Author.Tests.{not-false}
+use lib.Dec.{eqb}
+use borrow.Author.Tests.{not-false, eqb-true, eq-eqb}
 use Rattle.rules.specs.Below.{listBelow}
-use Rattle.rules.specs.Refusal.{lastVersion, badVersion}
-use Rattle.rules.specs.File.{Deck, nthNumber, numbersFrom, allBytes, headerOf, systemNumbers, fileOf, systemIn, deckIn, fileRefusal, versionIn, fansIn, countIn, versionField, survivalField, headerLength, survivalBytes, weightBytes, systemBytes, survivalOffset, weightsOffset, systemsOffset}
+use Rattle.rules.specs.Boards.{hasBoards, boardsRead}
+use Rattle.rules.specs.Refusal.{lastVersion, badVersion, mostBoards}
+use Rattle.rules.specs.File.{Deck, numberAt, nthNumber, numbersFrom, allBytes, countsOf, offsetsOf, headerOf, systemNumbers, fileOf, nthSystem, systemIn, deckIn, fileRefusal}
+use Rattle.rules.specs.File.{versionIn, fansIn, countIn, boardCountIn, boardsElsewhere, versionField, survivalField, weightsField, systemsField, boardCountField, boardsField, headerLength}
+use Rattle.rules.specs.File.{survivalBytes, weightBytes, boardBytes, systemBytes, boardFans, survivalOffset, weightsOffset, boardsOffset, boardSurvivalOffset, systemsOffset}
 use Rattle.deck.specs.Bounds.{Bytes, Bounds}
 use Rattle.rules.proofs.Lists.{below-length}
 use Rattle.rules.proofs.EachKind.{within-true}
 use Rattle.deck.proofs.Lists.{under-none, under-cons, under-below}
 use Rattle.deck.proofs.Numbers.{Stands, all-length, number-fits, number-within, numbers-back, bytes-back}
 use Rattle.deck.proofs.Systems.{numbers-length, systems-back, numbers-of}
+use Rattle.deck.proofs.Versions.{header-bounds, fans-bound, by-boards, second-none, read-some, read-own, under-read, few-boards, fans-boarded, boards-small}
 use Rattle.deck.proofs.Sound.{Sound, sound, not-refused}
 
 -- a version that there is fits its field
@@ -26,78 +31,126 @@ pub version-fits : (version : ℕ) → badVersion version ≡ false → version 
 version-fits version e = omega (arith, within-true 1 version lastVersion (not-false _ e))
 
 -- how long each part is
-abbrev counts : (version n m : ℕ) → List ℕ
-counts version n m = version ∷ 0 ∷ n ∷ m ∷ []
+offsets-length : (version n g : ℕ) → length (offsetsOf version n g) ≡ 3 + cond (hasBoards version) 2 0
+offsets-length version n g = by-boards version (λ b. length (0 ∷ 0 ∷ 0 ∷ cond b (g ∷ boardsOffset version n ∷ []) []) ≡ 3 + cond b 2 0) (λ e. refl) (λ e. refl)
 
-abbrev offsets : ℕ → List ℕ
-offsets n = survivalOffset ∷ weightsOffset n ∷ systemsOffset n ∷ []
+header-is : (version : ℕ) → 8 + 4 * (3 + cond (hasBoards version) 2 0) ≡ headerLength version
+header-is version = by-boards version (λ b. 8 + 4 * (3 + cond b 2 0) ≡ cond b 28 20) (λ e. refl) (λ e. refl)
 
-pub header-length : (version n m : ℕ) → length (headerOf version n m) ≡ headerLength
+pub header-length : (version n g m : ℕ) → length (headerOf version n g m) ≡ headerLength version
 unfolding headerOf
-header-length version n m =
-    let first = counts version n m in
-    length-append (allBytes 2 first) (allBytes 4 (offsets n)) ∙ rw (all-length 2 first, all-length 4 (offsets n))
+header-length version n g m =
+    length-append (allBytes 2 (countsOf version n m)) (allBytes 4 (offsetsOf version n g))
+    ∙ rw (all-length 2 (countsOf version n m), all-length 4 (offsetsOf version n g), offsets-length version n g) (header-is version)
 
--- a file's part before the weights, and its part before the systems
+-- a file's parts before the weights, the boards' bytes, the boards' numbers and the systems
+abbrev headerFor : Deck → List ℕ
+headerFor d = headerOf (d .version) (length (d .survival)) (length (d .boardSurvival)) (length (d .systems))
+
 abbrev pub toWeights : Deck → List ℕ
-toWeights d = headerOf (d .version) (length (d .survival)) (length (d .systems)) ++ allBytes survivalBytes (d .survival)
+toWeights d = headerFor d ++ allBytes survivalBytes (d .survival)
+
+abbrev pub toBoards : Deck → List ℕ
+toBoards d = toWeights d ++ allBytes weightBytes (d .weights)
+
+abbrev pub toNumbers : Deck → List ℕ
+toNumbers d = toBoards d ++ allBytes boardBytes (d .boards)
 
 abbrev pub toSystems : Deck → List ℕ
-toSystems d = toWeights d ++ allBytes weightBytes (d .weights)
+toSystems d = toNumbers d ++ allBytes survivalBytes (d .boardSurvival)
 
-pub weights-from : (d : Deck) → length (toWeights d) ≡ weightsOffset (length (d .survival))
-weights-from d =
-    let n = length (d .survival) in
-    let m = length (d .systems) in
-    length-append (headerOf (d .version) n m) (allBytes survivalBytes (d .survival)) ∙ rw (header-length (d .version) n m, all-length survivalBytes (d .survival))
+-- a part more
+part-length : (xs : List ℕ) (width : ℕ) (ys : List ℕ) → length (xs ++ allBytes width ys) ≡ length xs + width * length ys
+part-length xs width ys = length-append xs (allBytes width ys) ∙ rw (all-length width ys)
 
-pub systems-from : (d : Deck) → length (toSystems d) ≡ weightsOffset (length (d .survival)) + weightBytes * length (d .weights)
-systems-from d = length-append (toWeights d) (allBytes weightBytes (d .weights)) ∙ rw (weights-from d, all-length weightBytes (d .weights))
+pub weights-from : (d : Deck) → length (toWeights d) ≡ weightsOffset (d .version) (length (d .survival))
+weights-from d = part-length (headerFor d) survivalBytes (d .survival) ∙ rw (header-length (d .version) (length (d .survival)) (length (d .boardSurvival)) (length (d .systems)))
 
-pub file-length : (d : Deck) → length (fileOf d) ≡ weightsOffset (length (d .survival)) + weightBytes * length (d .weights) + systemBytes * length (d .systems)
+pub boards-from : (d : Deck) → length (toBoards d) ≡ weightsOffset (d .version) (length (d .survival)) + weightBytes * length (d .weights)
+boards-from d = part-length (toWeights d) weightBytes (d .weights) ∙ rw (weights-from d)
+
+pub numbers-from : (d : Deck)
+    → length (toNumbers d) ≡ weightsOffset (d .version) (length (d .survival)) + weightBytes * length (d .weights) + boardBytes * length (d .boards)
+numbers-from d = part-length (toBoards d) boardBytes (d .boards) ∙ rw (boards-from d)
+
+pub systems-from : (d : Deck)
+    → length (toSystems d)
+    ≡ weightsOffset (d .version) (length (d .survival)) + weightBytes * length (d .weights) + boardBytes * length (d .boards) + survivalBytes * length (d .boardSurvival)
+systems-from d = part-length (toNumbers d) survivalBytes (d .boardSurvival) ∙ rw (numbers-from d)
+
+pub file-length : (d : Deck)
+    → length (fileOf d)
+    ≡ weightsOffset (d .version) (length (d .survival)) + weightBytes * length (d .weights) + boardBytes * length (d .boards) + survivalBytes * length (d .boardSurvival)
+    + systemBytes * length (d .systems)
 unfolding fileOf
-file-length d =
-    length-append (toSystems d) (allBytes 2 (systemNumbers (d .systems)))
-    ∙ omega (arith, systems-from d, all-length 2 (systemNumbers (d .systems)), numbers-length (d .systems))
+file-length d = part-length (toSystems d) 2 (systemNumbers (d .systems)) ∙ omega (arith, systems-from d, numbers-length (d .systems))
 
 -- the file of a deck within bounds, read: each part stands where the layout says
 module _ (d : Deck) (ok : Bounds d) where
+  abbrev v : ℕ
+  v = d .version
+
   abbrev n : ℕ
   n = length (d .survival)
+
+  abbrev g : ℕ
+  g = length (d .boardSurvival)
 
   abbrev m : ℕ
   m = length (d .systems)
 
-  count-at : (i : ℕ) → i < 4 → nthNumber 2 (fileOf d) versionField i ≡ getD (counts (d .version) n m) i 0
+  -- the boards: at most four, none without a version that has them, and as many board numbers as fans
+  no-boards : hasBoards v ≡ false → g ≡ 0
+  no-boards none = sym (ap length (ok .own-numbers)) ∙ rw none
+
+  few : g ≤ mostBoards
+  few = few-boards v g (ok .counted) no-boards
+
+  boarded : length (d .boards) ≡ boardFans v n
+  boarded = fans-boarded v n g (d .boards) (ok .placed) (ok .own-boards)
+
+  count-at : (i : ℕ) → i < 4 → nthNumber 2 (fileOf d) versionField i ≡ getD (countsOf v n m) i 0
   unfolding fileOf headerOf
   count-at =
-      let stands : Stands 2 (counts (d .version) n m) (fileOf d) versionField =
+      let stands : Stands 2 (countsOf v n m) (fileOf d) versionField =
       record {
         before = [];
-        after = allBytes 4 (offsets n) ++ (allBytes survivalBytes (d .survival) ++ (allBytes weightBytes (d .weights) ++ allBytes 2 (systemNumbers (d .systems))));
+        after =
+            allBytes 4 (offsetsOf v n g) ++ (allBytes survivalBytes (d .survival)
+            ++ (allBytes weightBytes (d .weights) ++ (allBytes boardBytes (d .boards)
+            ++ (allBytes survivalBytes (d .boardSurvival) ++ allBytes 2 (systemNumbers (d .systems))))));
         parts = simp append-assoc;
         place = refl;
       }
       in
       number-within stands
-      (under-cons (version-fits (d .version) (ok .versioned))
-      (under-cons (omega arith) (under-cons (omega arith) (under-cons (omega arith) (under-none (omega arith))))))
+      (under-cons (version-fits v (ok .versioned))
+      (under-cons (omega arith) (under-cons (omega (arith, ok .most-fans)) (under-cons (omega (arith, ok .most-systems)) (under-none (omega arith))))))
 
-  offset-at : (i : ℕ) → i < 3 → nthNumber 4 (fileOf d) survivalField i ≡ getD (offsets n) i 0
+  offset-at : (i : ℕ) → i < length (offsetsOf v n g) → nthNumber 4 (fileOf d) survivalField i ≡ getD (offsetsOf v n g) i 0
   unfolding fileOf headerOf
   offset-at =
-      let stands : Stands 4 (offsets n) (fileOf d) survivalField =
+      let stands : Stands 4 (offsetsOf v n g) (fileOf d) survivalField =
       record {
-        before = allBytes 2 (counts (d .version) n m);
-        after = allBytes survivalBytes (d .survival) ++ (allBytes weightBytes (d .weights) ++ allBytes 2 (systemNumbers (d .systems)));
+        before = allBytes 2 (countsOf v n m);
+        after =
+            allBytes survivalBytes (d .survival)
+            ++ (allBytes weightBytes (d .weights) ++ (allBytes boardBytes (d .boards)
+            ++ (allBytes survivalBytes (d .boardSurvival) ++ allBytes 2 (systemNumbers (d .systems)))));
         parts = simp append-assoc;
-        place = all-length 2 (counts (d .version) n m);
+        place = all-length 2 (countsOf v n m);
       }
       in
+      let h = header-bounds v in
+      let f = fans-bound v n in
       number-within stands
-      (under-cons (omega arith) (under-cons (omega arith) (under-cons (omega arith) (under-none (omega arith)))))
+      (under-cons (omega arith) (under-cons (omega (arith, ok .most-fans)) (under-cons (omega (arith, few, ok .most-fans))
+      (under-read v (omega arith) (under-cons (omega (arith, few)) (under-cons (omega (arith, ok .most-fans)) (under-none (omega arith))))))))
 
-  version-at : versionIn (fileOf d) ≡ d .version
+  first-three : (i : ℕ) → i < 3 → i < length (offsetsOf v n g)
+  first-three i l = omega (arith, offsets-length v n g)
+
+  version-at : versionIn (fileOf d) ≡ v
   version-at = count-at 0 (omega arith)
 
   fans-at : fansIn (fileOf d) ≡ n
@@ -106,119 +159,216 @@ module _ (d : Deck) (ok : Bounds d) where
   systems-at : countIn (fileOf d) ≡ m
   systems-at = count-at 3 (omega arith)
 
-  survival-stand : Stands survivalBytes (d .survival) (fileOf d) survivalOffset
+  -- what the header of a version with boards ends in
+  abbrev last : List ℕ
+  last = g ∷ boardsOffset v n ∷ []
+
+  board-count-given : hasBoards v ≡ true → numberAt 4 (fileOf d) boardCountField ≡ g
+  board-count-given e = offset-at 3 (omega (arith, ap length (read-some v last e))) ∙ ap (λ xs. getD xs 0 0) (read-some v last e)
+
+  board-bytes-given : hasBoards v ≡ true → numberAt 4 (fileOf d) boardsField ≡ boardsOffset v n
+  board-bytes-given e = offset-at 4 (omega (arith, ap length (read-some v last e))) ∙ ap (λ xs. getD xs 1 0) (read-some v last e)
+
+  board-count-at : boardCountIn (fileOf d) ≡ g
+  board-count-at =
+      rw version-at (by-boards v (λ b. cond b (numberAt 4 (fileOf d) boardCountField) 0 ≡ g) board-count-given (λ e. sym (no-boards e)))
+
+  boards-stand-at : boardsElsewhere (fileOf d) ≡ false
+  boards-stand-at =
+      rw (version-at, fans-at)
+      (by-boards v (λ b. b && not (eqb (numberAt 4 (fileOf d) boardsField) (boardsOffset v n)) ≡ false) (λ e. ap not (eq-eqb _ _ (board-bytes-given e))) (λ e. refl))
+
+  survival-stand : Stands survivalBytes (d .survival) (fileOf d) (survivalOffset v)
   unfolding fileOf
   survival-stand = record {
-    before = headerOf (d .version) n m;
-    after = allBytes weightBytes (d .weights) ++ allBytes 2 (systemNumbers (d .systems));
+    before = headerFor d;
+    after =
+        allBytes weightBytes (d .weights) ++ (allBytes boardBytes (d .boards) ++ (allBytes survivalBytes (d .boardSurvival) ++ allBytes 2 (systemNumbers (d .systems))));
     parts = simp append-assoc;
-    place = header-length (d .version) n m;
+    place = header-length v n g m;
   }
 
-  weights-stand : Stands weightBytes (d .weights) (fileOf d) (weightsOffset (fansIn (fileOf d)))
+  weights-stand : Stands weightBytes (d .weights) (fileOf d) (weightsOffset v n)
   unfolding fileOf
   weights-stand = record {
     before = toWeights d;
-    after = allBytes 2 (systemNumbers (d .systems));
-    parts = refl;
-    place = omega (arith, weights-from d, fans-at);
+    after = allBytes boardBytes (d .boards) ++ (allBytes survivalBytes (d .boardSurvival) ++ allBytes 2 (systemNumbers (d .systems)));
+    parts = simp append-assoc;
+    place = weights-from d;
   }
 
-  systems-stand : Stands 2 (systemNumbers (d .systems)) (fileOf d) (systemsOffset (fansIn (fileOf d)))
+  boards-stand : Stands boardBytes (d .boards) (fileOf d) (boardsOffset v n)
+  unfolding fileOf
+  boards-stand = record {
+    before = toBoards d;
+    after = allBytes survivalBytes (d .boardSurvival) ++ allBytes 2 (systemNumbers (d .systems));
+    parts = simp append-assoc;
+    place = omega (arith, boards-from d, ok .weighed);
+  }
+
+  numbers-stand : Stands survivalBytes (d .boardSurvival) (fileOf d) (boardSurvivalOffset v n)
+  unfolding fileOf
+  numbers-stand = record {
+    before = toNumbers d;
+    after = allBytes 2 (systemNumbers (d .systems));
+    parts = refl;
+    place = omega (arith, numbers-from d, ok .weighed, boarded);
+  }
+
+  systems-stand : Stands 2 (systemNumbers (d .systems)) (fileOf d) (systemsOffset v n g)
   unfolding fileOf
   systems-stand = record {
     before = toSystems d;
     after = [];
     parts = sym (append-nil _);
-    place = omega (arith, systems-from d, fans-at, ok .weighed);
+    place = omega (arith, systems-from d, ok .weighed, boarded);
   }
+
+  pub deck-back : deckIn (fileOf d) ≡ d
+  unfolding deckIn
+  deck-back =
+      let survival = numbers-back survival-stand (ok .survival-fits) n refl in
+      let weights = numbers-back weights-stand (ok .weights-fit) n (ok .weighed) in
+      let boards = numbers-back boards-stand (boards-small v n g (d .boards) few (ok .placed) (ok .own-boards)) (boardFans v n) boarded in
+      let numbers = numbers-back numbers-stand (ok .boards-fit) g refl in
+      let systems =
+      systems-back (d .systems) (fileOf d) (systemsOffset v n g) m refl
+      (λ i h. number-within systems-stand (ok .systems-fit) i (omega (arith, numbers-length (d .systems))))
+      in
+      (λ x. record {
+        version = version-at x;
+        survival = numbersFrom survivalBytes (fileOf d) (survivalOffset (version-at x)) (fans-at x);
+        weights = numbersFrom weightBytes (fileOf d) (weightsOffset (version-at x) (fans-at x)) (fans-at x);
+        boards = numbersFrom boardBytes (fileOf d) (boardsOffset (version-at x) (fans-at x)) (boardFans (version-at x) (fans-at x));
+        boardSurvival = numbersFrom survivalBytes (fileOf d) (boardSurvivalOffset (version-at x) (fans-at x)) (board-count-at x);
+        systems = listBelow (systems-at x) (nthSystem (fileOf d) (systemsOffset (version-at x) (fans-at x) (board-count-at x)));
+      })
+      ∙ (λ x. record { version = v; survival = survival x; weights = weights x; boards = boards x; boardSurvival = numbers x; systems = systems x })
 
   pub file-accepted : fileRefusal (fileOf d) ≡ 0
   file-accepted =
       not-refused (fileOf d)
       record {
-        long = omega (arith, file-length d);
+        long = rw version-at (omega (arith, file-length d));
         versioned = rw version-at (ok .versioned);
         nought = count-at 1 (omega arith);
         some-fan = omega (arith, fans-at, ok .some-fan);
         most-fans = omega (arith, fans-at, ok .most-fans);
         some-system = omega (arith, systems-at, ok .some-system);
         most-systems = omega (arith, systems-at, ok .most-systems);
-        survival-place = offset-at 0 (omega arith);
-        weights-place = omega (arith, offset-at 1 (omega arith), fans-at);
-        systems-place = omega (arith, offset-at 2 (omega arith), fans-at);
-        whole = omega (arith, file-length d, fans-at, systems-at, ok .weighed);
+        counted = rw (board-count-at, version-at) (ok .counted);
+        survival-place = rw version-at (offset-at 0 (first-three 0 (omega arith)));
+        weights-place = rw (version-at, fans-at) (offset-at 1 (first-three 1 (omega arith)));
+        systems-place = rw (board-count-at, version-at, fans-at) (offset-at 2 (first-three 2 (omega arith)));
+        boards-place = boards-stand-at;
+        whole = rw (board-count-at, version-at, fans-at, systems-at) (omega (arith, file-length d, ok .weighed, boarded));
+        placed = rw (deck-back, board-count-at, version-at, fans-at) (ok .placed);
       }
-
-  pub deck-back : deckIn (fileOf d) ≡ d
-  unfolding deckIn
-  deck-back =
-      let survival = numbers-back survival-stand (ok .survival-fits) (fansIn (fileOf d)) (sym fans-at) in
-      let weights = numbers-back weights-stand (ok .weights-fit) (fansIn (fileOf d)) (ok .weighed ∙ sym fans-at) in
-      let systems =
-      systems-back (d .systems) (fileOf d) (systemsOffset (fansIn (fileOf d))) (countIn (fileOf d)) (sym systems-at)
-      (λ i h. number-within systems-stand (ok .systems-fit) i (omega (arith, numbers-length (d .systems), systems-at)))
-      in
-      λ x. record { version = version-at x; survival = survival x; weights = weights x; systems = systems x }
 
 -- a file that is not refused, written again
 module _ (bytes : List ℕ) (small : Bytes bytes) (e : fileRefusal bytes ≡ 0) where
   abbrev s : Sound bytes
   s = sound bytes e
 
-  header-back : headerOf (versionIn bytes) (fansIn bytes) (countIn bytes) ≡ take headerLength bytes
+  abbrev version : ℕ
+  version = versionIn bytes
+
+  abbrev fans : ℕ
+  fans = fansIn bytes
+
+  abbrev boards : ℕ
+  boards = boardCountIn bytes
+
+  -- the numbers that the header ends in
+  offsets-back : offsetsOf version fans boards ≡ numbersFrom 4 bytes survivalField (3 + cond (hasBoards version) 2 0)
+  unfolding listBelow
+  offsets-back =
+      (λ x. sym (s .survival-place) x ∷ sym (s .weights-place) x ∷ sym (s .systems-place) x ∷ boardsRead version (boards ∷ boardsOffset version fans ∷ []))
+      ∙ by-boards version
+      (λ b. first ∷ second ∷ third ∷ cond b (cond b count 0 ∷ boardsOffset version fans ∷ []) [] ≡ numbersFrom 4 bytes survivalField (3 + cond b 2 0))
+      (λ has x. first ∷ second ∷ third ∷ count ∷ sym (placed has) x ∷ [])
+      (λ none. refl)
+    where
+      first : ℕ
+      first = numberAt 4 bytes survivalField
+
+      second : ℕ
+      second = numberAt 4 bytes weightsField
+
+      third : ℕ
+      third = numberAt 4 bytes systemsField
+
+      count : ℕ
+      count = numberAt 4 bytes boardCountField
+
+      placed : hasBoards version ≡ true → numberAt 4 bytes boardsField ≡ boardsOffset version fans
+      placed has = eqb-true _ _ (not-false _ (second-none (hasBoards version) _ (s .boards-place) has))
+
+  header-back : headerOf version fans boards (countIn bytes) ≡ take (headerLength version) bytes
   unfolding headerOf listBelow
   header-back =
-      let n = fansIn bytes in
       let m = countIn bytes in
-      let counted : allBytes 2 (counts (versionIn bytes) n m) ≡ allBytes 2 (numbersFrom 2 bytes versionField 4) =
-      λ x. allBytes 2 (versionIn bytes ∷ sym (s .nought) x ∷ n ∷ m ∷ [])
+      let h = header-is version in
+      let counted : allBytes 2 (countsOf version fans m) ≡ allBytes 2 (numbersFrom 2 bytes versionField 4) =
+      λ x. allBytes 2 (version ∷ sym (s .nought) x ∷ fans ∷ m ∷ [])
       in
-      let placed : allBytes 4 (offsets n) ≡ allBytes 4 (numbersFrom 4 bytes survivalField 3) =
-      λ x. allBytes 4 (sym (s .survival-place) x ∷ sym (s .weights-place) x ∷ sym (s .systems-place) x ∷ [])
-      in
+      let k = 3 + cond (hasBoards version) 2 0 in
       ap₂ (λ xs ys. xs ++ ys) (counted ∙ bytes-back 2 bytes versionField 4 small (omega (arith, s .long)))
-      (placed ∙ bytes-back 4 bytes survivalField 3 small (omega (arith, s .long)))
-      ∙ sym (take-add survivalField (4 * 3) bytes)
+      (ap (allBytes 4) offsets-back ∙ bytes-back 4 bytes survivalField k small (omega (arith, s .long)))
+      ∙ sym (take-add survivalField (4 * k) bytes)
+      ∙ ap (λ l. take l bytes) h
 
   pub file-back : fileOf (deckIn bytes) ≡ bytes
   unfolding fileOf deckIn
   file-back =
-      let n = fansIn bytes in
+      let n = fans in
       let m = countIn bytes in
-      let fits : systemsOffset n + 2 * (5 * m) ≡ length bytes = omega (arith, s .whole) in
+      let f = boardFans version n in
+      let from = systemsOffset version n boards in
+      let fits : from + 2 * (5 * m) ≡ length bytes = omega (arith, s .whole) in
       rw (
-        below-length n (nthNumber survivalBytes bytes survivalOffset),
+        below-length n (nthNumber survivalBytes bytes (survivalOffset version)),
+        below-length boards (nthNumber survivalBytes bytes (boardSurvivalOffset version n)),
         below-length m (systemIn bytes),
         header-back,
-        numbers-of bytes (systemsOffset n) m,
-        bytes-back survivalBytes bytes survivalOffset n small (omega arith),
-        bytes-back weightBytes bytes (weightsOffset n) n small (omega arith),
-        bytes-back 2 bytes (systemsOffset n) (5 * m) small (omega arith),
-        ← take-add survivalOffset (survivalBytes * n) bytes,
-        ← take-add (weightsOffset n) (weightBytes * n) bytes,
-        ← take-add (systemsOffset n) (2 * (5 * m)) bytes,
+        numbers-of bytes from m,
+        bytes-back survivalBytes bytes (survivalOffset version) n small (omega arith),
+        bytes-back weightBytes bytes (weightsOffset version n) n small (omega arith),
+        bytes-back boardBytes bytes (boardsOffset version n) f small (omega arith),
+        bytes-back survivalBytes bytes (boardSurvivalOffset version n) boards small (omega arith),
+        bytes-back 2 bytes from (5 * m) small (omega arith),
+        ← take-add (survivalOffset version) (survivalBytes * n) bytes,
+        ← take-add (weightsOffset version n) (weightBytes * n) bytes,
+        ← take-add (boardsOffset version n) (boardBytes * f) bytes,
+        ← take-add (boardSurvivalOffset version n) (survivalBytes * boards) bytes,
+        ← take-add from (2 * (5 * m)) bytes,
       )
-      (take-all (systemsOffset n + 2 * (5 * m)) bytes (omega arith))
+      (take-all (from + 2 * (5 * m)) bytes (omega arith))
 
   pub deck-bounds : Bounds (deckIn bytes)
   unfolding deckIn
   deck-bounds =
-      let n = fansIn bytes in
+      let n = fans in
       let m = countIn bytes in
-      let fans : length (deckIn bytes .survival) ≡ n = below-length n _ in
+      let as-many : length (deckIn bytes .survival) ≡ n = below-length n _ in
+      let as-boards : length (deckIn bytes .boardSurvival) ≡ boards = below-length boards _ in
       let systems : length (deckIn bytes .systems) ≡ m = below-length m _ in
+      let from = systemsOffset version n boards in
       record {
         versioned = s .versioned;
         some-fan = omega (arith, s .some-fan);
         most-fans = omega (arith, s .most-fans);
-        weighed = below-length n _ ∙ sym fans;
+        weighed = below-length n _ ∙ sym as-many;
         some-system = omega (arith, s .some-system);
         most-systems = omega (arith, s .most-systems);
-        survival-fits = under-below n _ (λ i. number-fits survivalBytes bytes (survivalOffset + survivalBytes * i) small);
-        weights-fit = under-below n _ (λ i. number-fits weightBytes bytes (weightsOffset n + weightBytes * i) small);
-        systems-fit =
-            rw (numbers-of bytes (systemsOffset n) m) (under-below (5 * m) _ (λ i. number-fits 2 bytes (systemsOffset n + 2 * i) small));
+        counted = rw as-boards (s .counted);
+        placed = rw (as-boards, as-many) (s .placed);
+        own-boards = read-own version n _;
+        own-numbers = read-own version (numberAt 4 bytes boardCountField) _;
+        survival-fits = under-below n _ (λ i. number-fits survivalBytes bytes (survivalOffset version + survivalBytes * i) small);
+        weights-fit = under-below n _ (λ i. number-fits weightBytes bytes (weightsOffset version n + weightBytes * i) small);
+        boards-fit = under-below boards _ (λ i. number-fits survivalBytes bytes (boardSurvivalOffset version n + survivalBytes * i) small);
+        systems-fit = rw (numbers-of bytes from m) (under-below (5 * m) _ (λ i. number-fits 2 bytes (from + 2 * i) small));
       }
 
 pub accepted-exactly : (bytes : List ℕ) → Bytes bytes → (fileRefusal bytes ≡ 0) ↔ ((d : Deck) × Bounds d × (bytes ≡ fileOf d))

@@ -4,7 +4,8 @@ use mathlib.Core.List.{List}
 use Prim.Native.Nat.{ℕ, _<_}
 use lib.ListN.{getD, take}
 use Rattle.rules.specs.declared.System.{System}
-use Rattle.rules.specs.File.{Deck, mostFans, mostSystems, versionIn, fansIn, countIn, systemIn, fileOf, deckIn, fileRefusal}
+use Rattle.rules.specs.Refusal.{mostBoards}
+use Rattle.rules.specs.File.{Deck, mostFans, mostSystems, boardFans, versionIn, fansIn, countIn, boardCountIn, systemIn, fileOf, deckIn, fileRefusal}
 use Rattle.deck.specs.declared.Read.{Read}
 use Rattle.deck.specs.Read.{noDeck, arraysOf, keptDeck}
 use Rattle.deck.specs.Outcome.{Handed}
@@ -31,6 +32,14 @@ module _ (bytes : List ℕ) where
   unfolding keptDeck deckIn
   kept-weights = padded-take mostFans 0 (fansIn bytes) _
 
+  pub kept-boards : take (boardFans (versionIn bytes) (fansIn bytes)) (keptDeck bytes .boards) ≡ deckIn bytes .boards
+  unfolding keptDeck deckIn
+  kept-boards = padded-take mostFans 0 (boardFans (versionIn bytes) (fansIn bytes)) _
+
+  pub kept-numbers : take (boardCountIn bytes) (keptDeck bytes .switchboards) ≡ deckIn bytes .boardSurvival
+  unfolding keptDeck deckIn
+  kept-numbers = padded-take mostBoards 0 (boardCountIn bytes) _
+
   pub kept-system : (d : System) (s : ℕ) → s < countIn bytes
       → getD (keptDeck bytes .systems) s d ≡ systemIn bytes s
   unfolding keptDeck deckIn
@@ -41,12 +50,16 @@ module _ (bytes : List ℕ) where
   kept-arrays =
       let n = sym (below-length (fansIn bytes) _) in
       let m = sym (below-length (countIn bytes) (systemIn bytes)) in
+      let g = sym (below-length (boardCountIn bytes) _) in
       λ x. record {
         version = versionIn bytes;
         fans = n x;
         count = m x;
+        g = g x;
         survival = keptDeck bytes .survival;
         weights = keptDeck bytes .weights;
+        boards = keptDeck bytes .boards;
+        switchboards = keptDeck bytes .switchboards;
         systems = keptDeck bytes .systems;
       }
 

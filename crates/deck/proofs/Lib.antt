@@ -2,7 +2,9 @@
 pub mod Lists
 pub mod Numbers
 pub mod Systems
+pub mod Versions
 pub mod Sound
+pub mod Checks
 pub mod File
 pub mod Kept
 pub mod Outcome

@@ -1,13 +1,13 @@
 -- Numbers as bytes, and bytes as numbers: reading the bytes of a number gives the number, and the bytes of what was read are those that were
 -- read; the same of a list of numbers. A read depends on the bytes it reads alone. Assumes nothing.
-use mathlib.Core.Path.{_≡_, refl, ap, _∙_}
+use mathlib.Core.Path.{_≡_, refl, ap, sym, _∙_}
 use mathlib.Core.List.{List, [], _∷_, _++_, append-assoc, append-nil}
 use Prim.Native.Nat.{ℕ, zero, suc, _+_, _*_, _/_, _%_, _^_, _≤_, _<_}
 use native.Mathlib.Nat.{zero-add, suc-add, mul-zero, mul-suc, pow-suc}
 use native.Mathlib.Numerals.{add-one, add-two}
 use native.Mathlib.Omega.{arith}
-use lib.ListN.{length, getD, take, drop, length-append}
-use lib.Seq.{drop-cons, take-add, drop-drop}
+use lib.ListN.{length, getD, take, drop, length-append, length-take, length-drop}
+use lib.Seq.{drop-cons, take-add, drop-drop, getD-take, getD-drop}
 use Rattle.rules.specs.Below.{listBelow}
 use Rattle.rules.specs.File.{bytesOf, numberAt, nthNumber, numbersFrom, allBytes}
 use Rattle.deck.specs.Bounds.{Under, Bytes}
@@ -121,3 +121,14 @@ bytes-back width bytes at (suc n) small h =
       bytes-back width bytes at n small (omega arith),
     )
     (ap (λ x. take (width * n) (drop at bytes) ++ x) (append-nil _ ∙ bytes-number width bytes (at + width * n) small fits))
+
+-- single bytes as they stand
+pub bytes-are : (bytes : List ℕ) (at n : ℕ) → at + n ≤ length bytes → take n (drop at bytes) ≡ numbersFrom 1 bytes at n
+unfolding numberAt
+bytes-are bytes at n fits =
+    sym
+    (below-is (take n (drop at bytes)) 0 n _ (simp (length-take, length-drop) (omega arith))
+    (λ i h.
+    let place : at + 1 * i ≡ at + i = omega arith in
+    let byte : getD bytes (at + 1 * i) 0 + 256 * 0 ≡ getD bytes (at + i) 0 = rw place (omega arith) in
+    byte ∙ sym (getD-take n (drop at bytes) i 0 h ∙ getD-drop at bytes i 0)))

@@ -1,10 +1,12 @@
--- Which decks a file can hold: of a version that there is, 1 to 64 fans with a weight each, 1 to 32 systems, and numbers that fit the layout's fields.
+-- Which decks a file can hold: of a version that there is, 1 to 64 fans with a weight each, 1 to 32 systems, boards where the version has them, and numbers that
+-- fit the layout's fields.
 use mathlib.Core.Path.{_≡_}
 use mathlib.Core.Bool.{false}
 use mathlib.Core.List.{List}
 use Prim.Native.Nat.{ℕ, _^_, _≤_, _<_}
 use lib.ListN.{length, getD}
-use Rattle.rules.specs.Refusal.{badVersion}
+use Rattle.rules.specs.Boards.{boardsRead}
+use Rattle.rules.specs.Refusal.{badVersion, badBoards, misplaced}
 use Rattle.rules.specs.File.{Deck, systemNumbers, mostFans, mostSystems}
 
 -- every number of a list is below a limit
@@ -15,7 +17,7 @@ pub record Under (limit : ℕ) (xs : List ℕ) : Type 0 where
 abbrev pub Bytes : List ℕ → Type 0
 Bytes bytes = Under 256 bytes
 
--- "P (4 bytes each), weights (2 each)", a system's five numbers "2 each"
+-- "P (4 bytes each), weights (2 each)", a system's five numbers "2 each"; a board's number 4. A version without boards has no list of them.
 pub record Bounds (d : Deck) : Type 0 where
   pub versioned : badVersion (d .version) ≡ false
   pub some-fan : 1 ≤ length (d .survival)
@@ -23,6 +25,11 @@ pub record Bounds (d : Deck) : Type 0 where
   pub weighed : length (d .weights) ≡ length (d .survival)
   pub some-system : 1 ≤ length (d .systems)
   pub most-systems : length (d .systems) ≤ mostSystems
+  pub counted : badBoards (d .version) (length (d .boardSurvival)) ≡ false
+  pub placed : misplaced (d .version) (length (d .survival)) (length (d .boardSurvival)) (d .boards) (d .boards) ≡ false
+  pub own-boards : boardsRead (d .version) (d .boards) ≡ d .boards
+  pub own-numbers : boardsRead (d .version) (d .boardSurvival) ≡ d .boardSurvival
   pub survival-fits : Under (2 ^ 32) (d .survival)
   pub weights-fit : Under (2 ^ 16) (d .weights)
+  pub boards-fit : Under (2 ^ 32) (d .boardSurvival)
   pub systems-fit : Under (2 ^ 16) (systemNumbers (d .systems))

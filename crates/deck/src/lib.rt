@@ -4,23 +4,30 @@ mod number; // number.rt: numbers that bytes spell
 mod parts; // parts.rt: the survival numbers, the weights and the systems, in arrays
 
 ghost use mathlib.Core.Path.{_≡_};
-ghost use Prim.Native.Nat.{_≤_};
+ghost use mathlib.Core.Bool.{false};
+ghost use Prim.Native.Nat.{_^_, _≤_, _<_};
 ghost use lib.ListN.{length};
-ghost use Rattle.rules.specs.File.{headerLength, versionIn, fansIn, countIn, systemIn, badStart, badLayout, fileRefusal};
+ghost use Rattle.rules.specs.File.{shortestHeader, headerLength, boardBytes, boardFans, boardsOffset, boardSurvivalOffset, systemsOffset, numbersFrom};
+ghost use Rattle.rules.specs.File.{versionIn, fansIn, countIn, boardCountIn, systemIn, deckIn, badStart, boardsElsewhere, badLayout, misplacedIn, fileRefusal};
 ghost use Rattle.rules.specs.Doubles.{otherRefusal};
 ghost use Rattle.deck.specs.Read.{noDeck, keptDeck};
-ghost use Rattle.deck.specs.Outcome.{Checked, Handed, Placed};
+ghost use Rattle.deck.specs.Outcome.{countsRefusal, Checked, Handed, Placed};
+use crate::layout::MOST_BOARDS;
 use crate::layout::MOST_FANS;
 use crate::layout::MOST_SYSTEMS;
 use rules::System;
 
-// A file's deck: its version, how many fans and systems it has, n and m, and arrays whose first n or m entries the file fills; the others are zeros.
+// A file's deck: its version, how many fans, systems and boards it has, n, m and g, and arrays whose first n, m or g entries the file fills; the others are
+// zeros, as are all board numbers where the version has no boards.
 pub struct Deck {
     pub version: u64,
     pub fans: u64,
     pub count: u64,
+    pub g: u64,
     pub survival: [u32; MOST_FANS],
     pub weights: [u16; MOST_FANS],
+    pub boards: [u8; MOST_FANS],
+    pub switchboards: [u32; MOST_BOARDS],
     pub systems: [System; MOST_SYSTEMS],
 }
 
@@ -32,43 +39,30 @@ pub struct Read {
 
 // 11: there is no such version, or the zero field is not 0.
 fn bad_start(bytes: &[u8]) -> bool
-    requires { ⌜ headerLength ≤ length (now bytes) ⌝ }
+    requires { ⌜ shortestHeader ≤ length (now bytes) ⌝ }
     ensures { λ r. ⌜ r ≡ badStart (now (bytes .entry)) ⌝ }
 {
     refusals::version_out(number::number2(bytes, layout::VERSION_FIELD))
         || number::number2(bytes, layout::ZERO_FIELD) != 0
 }
 
-// 13: an offset or the file's length differs from the layout.
-fn bad_layout(bytes: &[u8]) -> bool
-    requires { ⌜ headerLength ≤ length (now bytes) ⌝ }
-    ensures { λ r. ⌜ r ≡ badLayout (now (bytes .entry)) ⌝ }
+// How many boards a header gives: none where the version has no boards.
+fn boards_given(bytes: &[u8]) -> usize
+    requires { ⌜ headerLength (versionIn (now bytes)) ≤ length (now bytes) ⌝ }
+    ensures { λ r. ⌜ (r ≡ boardCountIn (now (bytes .entry))) × (r < 2 ^ 32) ⌝ }
 {
-    let n = number::number2(bytes, layout::FANS_FIELD) as usize;
-    let m = number::number2(bytes, layout::COUNT_FIELD) as usize;
-    if number::number4(bytes, layout::SURVIVAL_FIELD) as usize != layout::SURVIVAL_OFFSET {
-        return true;
+    let version = number::number2(bytes, layout::VERSION_FIELD);
+    if refusals::boards::has_boards(version) {
+        return number::number4(bytes, layout::BOARD_COUNT_FIELD) as usize;
     }
-    if number::number4(bytes, layout::WEIGHTS_FIELD) as usize != layout::weights_offset(n) {
-        return true;
-    }
-    let from = layout::systems_offset(n);
-    if number::number4(bytes, layout::SYSTEMS_FIELD) as usize != from {
-        return true;
-    }
-    bytes.len() != layout::file_length(n, m)
+    0
 }
 
-// A file's refusal, checked 10, 11, 2, 12, 13; 0 where there is none.
-pub fn file_refusal(bytes: &[u8]) -> u64
-    ensures { λ r. ⌜ Checked (now (bytes .entry)) r ⌝ }
+// Refusals 2, 12 and 20, of the counts that a header gives; 0 for none.
+fn counts_refusal(bytes: &[u8]) -> u64
+    requires { ⌜ headerLength (versionIn (now bytes)) ≤ length (now bytes) ⌝ }
+    ensures { λ r. ⌜ r ≡ countsRefusal (now (bytes .entry)) ⌝ }
 {
-    if bytes.len() < layout::HEADER_LENGTH {
-        return 10;
-    }
-    if bad_start(bytes) {
-        return 11;
-    }
     let n = number::number2(bytes, layout::FANS_FIELD);
     if refusals::outside(1, n, MOST_FANS as u64) {
         return 2;
@@ -77,8 +71,101 @@ pub fn file_refusal(bytes: &[u8]) -> u64
     if refusals::outside(1, m, MOST_SYSTEMS as u64) {
         return 12;
     }
+    let version = number::number2(bytes, layout::VERSION_FIELD);
+    let g = boards_given(bytes);
+    if refusals::boards::boards_out(version, g as u64) {
+        return 20;
+    }
+    0
+}
+
+// Is the offset of the board bytes, where a header has it, not the layout's?
+fn boards_elsewhere(bytes: &[u8]) -> bool
+    requires { ⌜ headerLength (versionIn (now bytes)) ≤ length (now bytes) ⌝ }
+    ensures { λ r. ⌜ r ≡ boardsElsewhere (now (bytes .entry)) ⌝ }
+{
+    let version = number::number2(bytes, layout::VERSION_FIELD);
+    if refusals::boards::has_boards(version) {
+        let n = number::number2(bytes, layout::FANS_FIELD) as usize;
+        let from = layout::boards_offset(version, n);
+        return number::number4(bytes, layout::BOARDS_FIELD) as usize != from;
+    }
+    false
+}
+
+// 13: an offset or the file's length differs from the layout.
+fn bad_layout(bytes: &[u8]) -> bool
+    requires { ⌜ headerLength (versionIn (now bytes)) ≤ length (now bytes) ⌝ }
+    ensures { λ r. ⌜ r ≡ badLayout (now (bytes .entry)) ⌝ }
+{
+    let version = number::number2(bytes, layout::VERSION_FIELD);
+    let n = number::number2(bytes, layout::FANS_FIELD) as usize;
+    let m = number::number2(bytes, layout::COUNT_FIELD) as usize;
+    let g = boards_given(bytes);
+    if number::number4(bytes, layout::SURVIVAL_FIELD) as usize != layout::header_length(version) {
+        return true;
+    }
+    if number::number4(bytes, layout::WEIGHTS_FIELD) as usize
+        != layout::weights_offset(version, n)
+    {
+        return true;
+    }
+    let from = layout::systems_offset(version, n, g);
+    if number::number4(bytes, layout::SYSTEMS_FIELD) as usize != from {
+        return true;
+    }
+    if boards_elsewhere(bytes) {
+        return true;
+    }
+    bytes.len() != layout::file_length(version, n, g, m)
+}
+
+// The board bytes of a file, one for each fan; none where the version has no boards.
+fn board_bytes(bytes: &[u8], version: u64, n: usize) -> &[u8]
+    requires { ⌜ (n < 2 ^ 16) × (boardSurvivalOffset version n ≤ length (now bytes)) ⌝ }
+    ensures { λ r. ⌜ now r ≡ numbersFrom boardBytes (now (bytes .entry)) (boardsOffset version n) (boardFans version n) ⌝ }
+{
+    let from = layout::boards_offset(version, n);
+    let upto = from + layout::board_fans(version, n);
+    &bytes[from..upto]
+}
+
+// 21: a fan is on a board that there is not.
+fn misplaced(bytes: &[u8]) -> bool
+    requires long { ⌜ headerLength (versionIn (now bytes)) ≤ length (now bytes) ⌝ }
+    requires laid { ⌜ badLayout (now bytes) ≡ false ⌝ }
+    ensures { λ r. ⌜ r ≡ misplacedIn (now (bytes .entry)) ⌝ }
+{
+    let version = number::number2(bytes, layout::VERSION_FIELD);
+    let n = number::number2(bytes, layout::FANS_FIELD) as usize;
+    let g = boards_given(bytes);
+    let boards = board_bytes(bytes, version, n);
+    refusals::boards::misplaced(version, n, g as u64, boards, 0, n)
+}
+
+// A file's refusal, checked 10, 11, 10 again, 2, 12, 20, 13, 21; 0 where there is none.
+pub fn file_refusal(bytes: &[u8]) -> u64
+    ensures { λ r. ⌜ Checked (now (bytes .entry)) r ⌝ }
+{
+    if bytes.len() < layout::SHORTEST_HEADER {
+        return 10;
+    }
+    if bad_start(bytes) {
+        return 11;
+    }
+    let header = layout::header_length(number::number2(bytes, layout::VERSION_FIELD));
+    if bytes.len() < header {
+        return 10;
+    }
+    let refused = counts_refusal(bytes);
+    if refused != 0 {
+        return refused;
+    }
     if bad_layout(bytes) {
         return 13;
+    }
+    if misplaced(bytes) {
+        return 21;
     }
     0
 }
@@ -87,7 +174,7 @@ pub fn file_refusal(bytes: &[u8]) -> u64
 pub fn other_refusal(bytes: &[u8]) -> u64
     ensures { λ r. ⌜ r ≡ otherRefusal (now (bytes .entry)) ⌝ }
 {
-    if bytes.len() < layout::HEADER_LENGTH {
+    if bytes.len() < layout::SHORTEST_HEADER {
         return 10;
     }
     if number::number2(bytes, layout::VERSION_FIELD) != 1 {
@@ -102,14 +189,19 @@ fn no_deck() -> Deck
 {
     let survival = [0u32; MOST_FANS];
     let weights = [0u16; MOST_FANS];
+    let boards = [0u8; MOST_FANS];
+    let switchboards = [0u32; MOST_BOARDS];
     let zeros = parts::no_system();
     let systems = [zeros; MOST_SYSTEMS];
     Deck {
         version: 0,
         fans: 0,
         count: 0,
+        g: 0,
         survival,
         weights,
+        boards,
+        switchboards,
         systems,
     }
 }
@@ -138,12 +230,21 @@ pub fn count_in(bytes: &[u8]) -> usize
     number::number2(bytes, layout::COUNT_FIELD) as usize
 }
 
+// And how many boards.
+pub fn board_count_in(bytes: &[u8]) -> usize
+    requires { ⌜ fileRefusal (now bytes) ≡ 0 ⌝ }
+    ensures { λ r. ⌜ r ≡ boardCountIn (now (bytes .entry)) ⌝ }
+{
+    boards_given(bytes)
+}
+
 // Its survival numbers, and zeros.
 pub fn survival_in(bytes: &[u8]) -> [u32; MOST_FANS]
     requires { ⌜ fileRefusal (now bytes) ≡ 0 ⌝ }
     ensures { λ r. ⌜ r ≡ keptDeck (now (bytes .entry)) .survival ⌝ }
 {
-    parts::survival_in(bytes, fans_in(bytes))
+    let from = layout::header_length(version_in(bytes));
+    parts::survival_in(bytes, from, fans_in(bytes))
 }
 
 // Its weights, and zeros.
@@ -151,7 +252,34 @@ pub fn weights_in(bytes: &[u8]) -> [u16; MOST_FANS]
     requires { ⌜ fileRefusal (now bytes) ≡ 0 ⌝ }
     ensures { λ r. ⌜ r ≡ keptDeck (now (bytes .entry)) .weights ⌝ }
 {
-    parts::weights_in(bytes, fans_in(bytes))
+    let n = fans_in(bytes);
+    let from = layout::weights_offset(version_in(bytes), n);
+    parts::weights_in(bytes, from, n)
+}
+
+// Its fans' board numbers, where they stand.
+pub fn boards_in(bytes: &[u8]) -> &[u8]
+    requires { ⌜ fileRefusal (now bytes) ≡ 0 ⌝ }
+    ensures { λ r. ⌜ now r ≡ deckIn (now (bytes .entry)) .boards ⌝ }
+{
+    board_bytes(bytes, version_in(bytes), fans_in(bytes))
+}
+
+// Its boards' survival numbers, and zeros.
+pub fn board_survival_in(bytes: &[u8]) -> [u32; MOST_BOARDS]
+    requires { ⌜ fileRefusal (now bytes) ≡ 0 ⌝ }
+    ensures { λ r. ⌜ r ≡ keptDeck (now (bytes .entry)) .switchboards ⌝ }
+{
+    let from = layout::board_survival_offset(version_in(bytes), fans_in(bytes));
+    parts::board_survival_in(bytes, from, board_count_in(bytes))
+}
+
+// Where its systems begin.
+fn systems_from(bytes: &[u8]) -> usize
+    requires { ⌜ fileRefusal (now bytes) ≡ 0 ⌝ }
+    ensures { λ r. ⌜ r ≡ systemsOffset (versionIn (now (bytes .entry))) (fansIn (now (bytes .entry))) (boardCountIn (now (bytes .entry))) ⌝ }
+{
+    layout::systems_offset(version_in(bytes), fans_in(bytes), board_count_in(bytes))
 }
 
 // Its system at a place, counted from 0.
@@ -159,7 +287,7 @@ pub fn system_in(bytes: &[u8], s: usize) -> System
     requires { ⌜ Placed (now bytes) s ⌝ }
     ensures { λ r. ⌜ r ≡ systemIn (now (bytes .entry)) s ⌝ }
 {
-    let from = layout::systems_offset(fans_in(bytes));
+    let from = systems_from(bytes);
     parts::system_at(bytes, from + layout::SYSTEM_BYTES * s)
 }
 
@@ -171,15 +299,21 @@ fn kept_deck(bytes: &[u8]) -> Deck
     let version = version_in(bytes);
     let n = fans_in(bytes);
     let count = count_in(bytes);
+    let g = board_count_in(bytes);
     let survival = survival_in(bytes);
     let weights = weights_in(bytes);
-    let systems = parts::systems_in(bytes, n, count);
+    let boards = parts::boards_kept(boards_in(bytes));
+    let switchboards = board_survival_in(bytes);
+    let systems = parts::systems_in(bytes, systems_from(bytes), count);
     Deck {
         version,
         fans: n as u64,
         count: count as u64,
+        g: g as u64,
         survival,
         weights,
+        boards,
+        switchboards,
         systems,
     }
 }

@@ -1,12 +1,14 @@
-// The parts of a file, each read into an array of fixed length: what the file does not fill is zeros.
+// The parts of a file, each read from its place into an array of fixed length: what the file does not fill is zeros.
 ghost use mathlib.Core.Path.{_≡_};
 ghost use Prim.Native.Nat.{_+_, _*_, _≤_};
 ghost use lib.ListN.{length};
 ghost use Rattle.rules.specs.Below.{listBelow};
-ghost use Rattle.rules.specs.File.{mostFans, mostSystems, survivalBytes, weightBytes, systemBytes, survivalOffset, weightsOffset, systemsOffset};
+ghost use Rattle.rules.specs.Refusal.{mostBoards};
+ghost use Rattle.rules.specs.File.{mostFans, mostSystems, survivalBytes, weightBytes, systemBytes};
 ghost use Rattle.rules.specs.File.{numbersFrom, systemAt, nthSystem};
 ghost use Rattle.deck.specs.Read.{padded, noSystem};
 use crate::layout;
+use crate::layout::MOST_BOARDS;
 use crate::layout::MOST_FANS;
 use crate::layout::MOST_SYSTEMS;
 use crate::number;
@@ -14,28 +16,43 @@ use rules::Rule;
 use rules::System;
 
 // The survival numbers of n fans, and zeros.
-pub fn survival_in(bytes: &[u8], n: usize) -> [u32; MOST_FANS]
+pub fn survival_in(bytes: &[u8], from: usize, n: usize) -> [u32; MOST_FANS]
     requires few { ⌜ n ≤ mostFans ⌝ }
-    requires whole { ⌜ survivalOffset + survivalBytes * n ≤ length (now bytes) ⌝ }
-    ensures { λ r. ⌜ r ≡ padded mostFans 0 (numbersFrom survivalBytes (now (bytes .entry)) survivalOffset n) ⌝ }
+    requires whole { ⌜ from + survivalBytes * n ≤ length (now bytes) ⌝ }
+    ensures { λ r. ⌜ r ≡ padded mostFans 0 (numbersFrom survivalBytes (now (bytes .entry)) from n) ⌝ }
 {
     let mut survival = [0u32; MOST_FANS];
     let mut i = 0;
     while i < n {
-        let at = layout::SURVIVAL_OFFSET + layout::SURVIVAL_BYTES * i;
+        let at = from + layout::SURVIVAL_BYTES * i;
         survival[i] = number::number4(bytes, at) as u32;
         i += 1;
     }
     survival
 }
 
-// The weights of n fans, and zeros.
-pub fn weights_in(bytes: &[u8], n: usize) -> [u16; MOST_FANS]
-    requires few { ⌜ n ≤ mostFans ⌝ }
-    requires whole { ⌜ weightsOffset n + weightBytes * n ≤ length (now bytes) ⌝ }
-    ensures { λ r. ⌜ r ≡ padded mostFans 0 (numbersFrom weightBytes (now (bytes .entry)) (weightsOffset n) n) ⌝ }
+// The survival numbers of g boards, and zeros.
+pub fn board_survival_in(bytes: &[u8], from: usize, g: usize) -> [u32; MOST_BOARDS]
+    requires few { ⌜ g ≤ mostBoards ⌝ }
+    requires whole { ⌜ from + survivalBytes * g ≤ length (now bytes) ⌝ }
+    ensures { λ r. ⌜ r ≡ padded mostBoards 0 (numbersFrom survivalBytes (now (bytes .entry)) from g) ⌝ }
 {
-    let from = layout::weights_offset(n);
+    let mut survival = [0u32; MOST_BOARDS];
+    let mut b = 0;
+    while b < g {
+        let at = from + layout::SURVIVAL_BYTES * b;
+        survival[b] = number::number4(bytes, at) as u32;
+        b += 1;
+    }
+    survival
+}
+
+// The weights of n fans, and zeros.
+pub fn weights_in(bytes: &[u8], from: usize, n: usize) -> [u16; MOST_FANS]
+    requires few { ⌜ n ≤ mostFans ⌝ }
+    requires whole { ⌜ from + weightBytes * n ≤ length (now bytes) ⌝ }
+    ensures { λ r. ⌜ r ≡ padded mostFans 0 (numbersFrom weightBytes (now (bytes .entry)) from n) ⌝ }
+{
     let mut weights = [0u16; MOST_FANS];
     let mut i = 0;
     while i < n {
@@ -44,6 +61,20 @@ pub fn weights_in(bytes: &[u8], n: usize) -> [u16; MOST_FANS]
         i += 1;
     }
     weights
+}
+
+// The board numbers of so many fans, a byte each, and zeros.
+pub fn boards_kept(boards: &[u8]) -> [u8; MOST_FANS]
+    requires { ⌜ length (now boards) ≤ mostFans ⌝ }
+    ensures { λ r. ⌜ r ≡ padded mostFans 0 (now (boards .entry)) ⌝ }
+{
+    let mut kept = [0u8; MOST_FANS];
+    let mut i = 0;
+    while i < boards.len() {
+        kept[i] = boards[i];
+        i += 1;
+    }
+    kept
 }
 
 // The system in the ten bytes from a place on.
@@ -76,14 +107,12 @@ pub fn no_system() -> System
     System { rule, a: 0, b: 0 }
 }
 
-// The m systems of a deck of n fans, and systems of zeros.
-pub fn systems_in(bytes: &[u8], n: usize, m: usize) -> [System; MOST_SYSTEMS]
-    requires few { ⌜ n ≤ mostFans ⌝ }
-    requires fewer { ⌜ m ≤ mostSystems ⌝ }
-    requires whole { ⌜ systemsOffset n + systemBytes * m ≤ length (now bytes) ⌝ }
-    ensures { λ r. ⌜ r ≡ padded mostSystems noSystem (listBelow m (nthSystem (now (bytes .entry)) (systemsOffset n))) ⌝ }
+// m systems, and systems of zeros.
+pub fn systems_in(bytes: &[u8], from: usize, m: usize) -> [System; MOST_SYSTEMS]
+    requires few { ⌜ m ≤ mostSystems ⌝ }
+    requires whole { ⌜ from + systemBytes * m ≤ length (now bytes) ⌝ }
+    ensures { λ r. ⌜ r ≡ padded mostSystems noSystem (listBelow m (nthSystem (now (bytes .entry)) from)) ⌝ }
 {
-    let from = layout::systems_offset(n);
     let zeros = no_system();
     let mut systems = [zeros; MOST_SYSTEMS];
     let mut s = 0;

@@ -9,30 +9,34 @@ use native.Mathlib.Nat.{le-trans}
 use Rattle.rules.specs.declared.Rating.{Rating}
 use Rattle.rules.specs.declared.Rating.the-variants.{Range, Refused}
 use Rattle.rules.specs.State.{S}
-use Rattle.rules.specs.Figure.{figure}
-use Rattle.rules.specs.Asked.{Asked, unitIn, partOf, readOf}
+use Rattle.rules.specs.Asked.{Asked, unitIn, partOf, readOf, boardsOf, boardSurvivalOf, roundedOf}
 use Rattle.rules.specs.Refusal.{figuresRefusal}
 use Rattle.rules.specs.Answer.{figuresOf}
 use Rattle.rules.specs.File.{packed}
 use Rattle.rules.specs.Doubles.{Planned, plannedRefusal, plannedRating}
 use Rattle.rules.proofs.Units.{unit-some, unit-most}
 use Rattle.rules.proofs.Unless.{unless-by}
-use Rattle.rules.proofs.Conditions.{figure-within}
-use Rattle.rules.proofs.Accepted.{first-le, first-none, figures-ratable}
+use Rattle.rules.proofs.Boards.{behind-within}
+use Rattle.rules.proofs.Accepted.{first-le, first-none, figures-ratable, figures-boarded}
 use Rattle.rules.proofs.Doubles.{planned-within}
 use Rattle.packing.specs.Packing.{mostRefusal, Packable}
 
 figures-le : (q : Asked) (table : List ℕ) → figuresRefusal q table ≤ mostRefusal
 unfolding figuresRefusal
 figures-le q table =
-    first-le 11 _ _ (omega arith) (first-le 1 _ _ (omega arith) (first-le 2 _ _ (omega arith) (first-le 3 _ _ (omega arith) (first-le 4 _ _ (omega arith)
-    (first-le 5 _ _ (omega arith) (first-le 6 _ _ (omega arith) (first-le 7 _ _ (omega arith) (first-none mostRefusal))))))))
+    first-le 11 _ _ (omega arith) (first-le 1 _ _ (omega arith) (first-le 2 _ _ (omega arith) (first-le 3 _ _ (omega arith)
+    (first-le 20 _ _ (omega arith) (first-le 21 _ _ (omega arith) (first-le 4 _ _ (omega arith)
+    (first-le 5 _ _ (omega arith) (first-le 6 _ _ (omega arith) (first-le 7 _ _ (omega arith) (first-none mostRefusal))))))))))
 
 pub figures-packable : (q : Asked) (table : List ℕ) → Packable (figuresOf q table)
 unfolding figuresOf
 figures-packable q table =
-    let within : (up : Bool) → figuresRefusal q table ≡ 0 → figure up (unitIn q) (q .rule) (partOf q) (readOf q) ≤ S
-    = λ up e. le-trans (figure-within up (unit-some (q .version)) (q .rule) _ _ (figures-ratable q table e .2 .units)) (unit-most (q .version)) in
+    let within : (up : Bool) → figuresRefusal q table ≡ 0 → roundedOf up q ≤ S =
+    λ up e.
+    le-trans
+    (behind-within (unitIn q) (unit-some (q .version)) (q .rule) (partOf q) (readOf q) (boardsOf q) (boardSurvivalOf q) (figures-ratable q table e .2 .units)
+    (figures-boarded q table e .1 .units) up)
+    (unit-most (q .version)) in
     unless-by Packable _ Refused _ (figures-le q table) (λ e. (within false e, within true e))
 
 -- so is every rating that is asked in floats

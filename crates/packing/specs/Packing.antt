@@ -6,7 +6,7 @@ use Rattle.rules.specs.declared.Rating.the-variants.{Range, Refused}
 
 -- the highest number of the refusals
 abbrev pub mostRefusal : ℕ
-mostRefusal = 19
+mostRefusal = 21
 
 abbrev pub Packable : Rating → Type 0
 Packable (Range low high) = (low ≤ S) × (high ≤ S)

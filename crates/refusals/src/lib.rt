@@ -1,4 +1,5 @@
-// The refusals that several calls share: 11, 1, 2, 5 and 6 of document 01's table.
+// The refusals that several calls share: 11, 1, 2, 5 and 6 of document 01's table, 20 and 21.
+pub mod boards; // boards.rt: which versions have boards, 20 and 21
 mod pairs; // pairs.rt: kind 8's pairs
 
 ghost use mathlib.Core.Bool.{not};
@@ -11,7 +12,7 @@ ghost use Rattle.refusals.specs.Shared.{ratedRefusal, ruleRefusal};
 use rules::Rule;
 
 // The last version of the deck file.
-const LAST_VERSION: u64 = 2;
+const LAST_VERSION: u64 = 3;
 
 // The most components of a list, and the heaviest total of those rated.
 const MOST: u64 = 64;

@@ -2,17 +2,17 @@
 use mathlib.Core.Path.{refl}
 use Prim.Native.Nat.{_-_}
 use native.Mathlib.Omega.{arith}
-use Rattle.rules.specs.File.{mostFans, survivalBytes, survivalOffset, nthNumber}
+use Rattle.rules.specs.File.{mostFans, survivalBytes, nthNumber}
 use Rattle.deck.proofs.Lists.{Filled, filled-none, filled-more, filled-all}
 use Rattle.deck.proofs.Numbers.{spelled-fits}
 use Rattle.deck.proofs.parts.survival_in.Statement.{statement}
 use Rattle.deck.proofs.parts.survival_in.Tie as tie
 
 abbrev Inv-loop : tie.InvT-loop
-Inv-loop bytes n survival₀ i₀ survival i = Filled mostFans 0 (nthNumber survivalBytes bytes survivalOffset) n survival i
+Inv-loop bytes from n survival₀ i₀ survival i = Filled mostFans 0 (nthNumber survivalBytes bytes from) n survival i
 
 abbrev μ-loop : tie.MeasureT-loop
-μ-loop bytes n survival₀ i₀ survival i = n - i
+μ-loop bytes from n survival₀ i₀ survival i = n - i
 
 loop-holds : tie.Need-loop-holds Inv-loop μ-loop
 loop-holds c = filled-none refl

@@ -1,28 +1,24 @@
 -- `parts::systems_in` meets its contract: the array is filled from the front, one system a turn. Assumes nothing.
-use mathlib.Core.Path.{_≡_}
 use Prim.Native.Nat.{_-_}
 use native.Mathlib.Omega.{arith}
 use borrow.Author.Needs.{needs}
-use Rattle.rules.specs.File.{mostSystems, systemsOffset, nthSystem}
+use Rattle.rules.specs.File.{mostSystems, nthSystem}
 use Rattle.deck.specs.Read.{noSystem}
 use Rattle.deck.proofs.Lists.{Filled, filled-none, filled-more, filled-all}
 use Rattle.deck.proofs.parts.systems_in.Statement.{statement}
 use Rattle.deck.proofs.parts.systems_in.Tie as tie
 
 abbrev Inv-loop : tie.InvT-loop
-Inv-loop bytes n m from systems₀ s₀ systems s = (from ≡ systemsOffset n) × Filled mostSystems noSystem (nthSystem bytes (systemsOffset n)) m systems s
+Inv-loop bytes from m systems₀ s₀ systems s = Filled mostSystems noSystem (nthSystem bytes from) m systems s
 
 abbrev μ-loop : tie.MeasureT-loop
-μ-loop bytes n m from systems₀ s₀ systems s = m - s
-
-systems-offset-requires : tie.Need-systems-offset-requires Inv-loop μ-loop
-systems-offset-requires c κs = omega arith
+μ-loop bytes from m systems₀ s₀ systems s = m - s
 
 no-system-requires : tie.Need-no-system-requires Inv-loop μ-loop
 no-system-requires c κs = search needs
 
 loop-holds : tie.Need-loop-holds Inv-loop μ-loop
-loop-holds c = (c .before .systems-offset .ensures, filled-none (c .no-system .ensures))
+loop-holds c = filled-none (c .no-system .ensures)
 
 mul-system-at : tie.Need-mul-system-at Inv-loop μ-loop
 mul-system-at c = omega arith
@@ -46,13 +42,10 @@ loop-less : tie.Need-loop-less Inv-loop μ-loop
 loop-less c = omega arith
 
 loop-again : tie.Need-loop-again Inv-loop μ-loop
-loop-again c =
-    let l = c .before .before .loop in
-    let system = rw (l .inv .0) at (c .system-at .ensures) in
-    (l .inv .0, filled-more (l .inv .1) (c .before .loop-test .taken) (omega arith) system)
+loop-again c = filled-more (c .before .before .loop .inv) (c .before .loop-test .taken) (omega arith) (c .system-at .ensures)
 
 returns : tie.Need-returns Inv-loop μ-loop
-returns c = filled-all (c .before .loop .inv .1) (c .loop-test .left)
+returns c = filled-all (c .before .loop .inv) (c .loop-test .left)
 
 pub systems-in-spec : {M : Type 1} → statement M
 systems-in-spec =
@@ -60,7 +53,6 @@ systems-in-spec =
     (tie.spec
     Inv-loop
     μ-loop
-    systems-offset-requires
     no-system-requires
     loop-holds
     mul-system-at

@@ -1,24 +1,21 @@
 -- `parts::weights_in` meets its contract: the array is filled from the front, one number of two bytes a turn. Assumes nothing.
-use mathlib.Core.Path.{_≡_, refl}
+use mathlib.Core.Path.{refl}
 use Prim.Native.Nat.{_-_}
 use native.Mathlib.Omega.{arith}
-use Rattle.rules.specs.File.{mostFans, weightBytes, weightsOffset, nthNumber}
+use Rattle.rules.specs.File.{mostFans, weightBytes, nthNumber}
 use Rattle.deck.proofs.Lists.{Filled, filled-none, filled-more, filled-all}
 use Rattle.deck.proofs.Numbers.{spelled-fits}
 use Rattle.deck.proofs.parts.weights_in.Statement.{statement}
 use Rattle.deck.proofs.parts.weights_in.Tie as tie
 
 abbrev Inv-loop : tie.InvT-loop
-Inv-loop bytes n from weights₀ i₀ weights i = (from ≡ weightsOffset n) × Filled mostFans 0 (nthNumber weightBytes bytes (weightsOffset n)) n weights i
+Inv-loop bytes from n weights₀ i₀ weights i = Filled mostFans 0 (nthNumber weightBytes bytes from) n weights i
 
 abbrev μ-loop : tie.MeasureT-loop
-μ-loop bytes n from weights₀ i₀ weights i = n - i
-
-weights-offset-requires : tie.Need-weights-offset-requires Inv-loop μ-loop
-weights-offset-requires c κs = omega arith
+μ-loop bytes from n weights₀ i₀ weights i = n - i
 
 loop-holds : tie.Need-loop-holds Inv-loop μ-loop
-loop-holds c = (c .weights-offset .ensures, filled-none refl)
+loop-holds c = filled-none refl
 
 mul-at : tie.Need-mul-at Inv-loop μ-loop
 mul-at c = omega arith
@@ -31,7 +28,7 @@ number2-requires c κs = omega arith
 
 cast-weights : tie.Need-cast-weights Inv-loop μ-loop
 cast-weights c =
-    record { fits = spelled-fits weightBytes _ _ (c .number2 .ensures) (λ i. c .before .before .before .before .shared-slice-known .given i .fits) }
+    record { fits = spelled-fits weightBytes _ _ (c .number2 .ensures) (λ i. c .before .before .before .shared-slice-known .given i .fits) }
 
 mul-weights : tie.Need-mul-weights Inv-loop μ-loop
 mul-weights c = omega arith
@@ -46,13 +43,10 @@ loop-less : tie.Need-loop-less Inv-loop μ-loop
 loop-less c = omega arith
 
 loop-again : tie.Need-loop-again Inv-loop μ-loop
-loop-again c =
-    let l = c .before .before .loop in
-    let number = rw (l .inv .0) at (c .number2 .ensures) in
-    (l .inv .0, filled-more (l .inv .1) (c .before .loop-test .taken) (omega arith) number)
+loop-again c = filled-more (c .before .before .loop .inv) (c .before .loop-test .taken) (omega arith) (c .number2 .ensures)
 
 returns : tie.Need-returns Inv-loop μ-loop
-returns c = filled-all (c .before .loop .inv .1) (c .loop-test .left)
+returns c = filled-all (c .before .loop .inv) (c .loop-test .left)
 
 pub weights-in-spec : {M : Type 1} → statement M
 weights-in-spec =
@@ -60,7 +54,6 @@ weights-in-spec =
     (tie.spec
     Inv-loop
     μ-loop
-    weights-offset-requires
     loop-holds
     mul-at
     add-at

@@ -1,0 +1,29 @@
+-- `refusals::boards::numbers_read` meets its contract. Assumes nothing.
+use mathlib.Core.Path.{sym, _∙_}
+use Rattle.refusals.proofs.Laws.{read-some, read-none}
+use borrow.Author.Needs.{needs}
+use Rattle.refusals.proofs.boards.numbers_read.Statement.{statement}
+use Rattle.refusals.proofs.boards.numbers_read.Tie as tie
+
+has-boards-requires : tie.Need-has-boards-requires
+has-boards-requires c κs = search needs
+
+returns : tie.Need-returns
+returns c = let x = c .before .before .before .args in sym (read-some (x .version) _ (sym (c .before .has-boards .ensures) ∙ c .if1 .taken))
+
+sub-result : tie.Need-sub-result
+sub-result c = search needs
+
+part-result-start : tie.Need-part-result-start
+part-result-start c = search needs
+
+part-result-end : tie.Need-part-result-end
+part-result-end c = search needs
+
+returns-2 : tie.Need-returns-2
+returns-2 c = let x = c .before .before .before .before .args in sym (read-none (x .version) _ (sym (c .before .before .has-boards .ensures) ∙ c .before .if1 .left))
+
+pub numbers-read-spec : {M : Type 1} → statement M
+numbers-read-spec =
+    tie.close
+    (tie.spec has-boards-requires returns sub-result part-result-start part-result-end returns-2)

@@ -1,0 +1,94 @@
+// Request 11: which versions have boards, what is read of their lists, and refusals 20 and 21.
+ghost use mathlib.Core.Bool.{true};
+ghost use mathlib.Core.Path.{_≡_};
+ghost use Prim.Native.Nat.{_-_, _≤_};
+ghost use lib.ListN.{length, take, drop};
+ghost use Rattle.rules.specs.Boards.{hasBoards, boardsRead};
+ghost use Rattle.rules.specs.Refusal.{someAbove, badBoards, misplaced};
+ghost use Rattle.refusals.specs.Shared.{boardsRefusal};
+use crate::outside;
+
+// The version that has boards, and the most boards of a deck.
+const BOARDS_VERSION: u64 = 3;
+
+const MOST_BOARDS: u64 = 4;
+
+// Does a version have boards?
+pub fn has_boards(version: u64) -> bool
+    ensures { λ r. ⌜ r ≡ hasBoards version ⌝ }
+{
+    version == BOARDS_VERSION
+}
+
+// Refusal 20.
+pub fn boards_out(version: u64, g: u64) -> bool
+    ensures { λ r. ⌜ r ≡ badBoards version g ⌝ }
+{
+    if has_boards(version) {
+        return outside(1, g, MOST_BOARDS);
+    }
+    false
+}
+
+// Is a fan on a board that there is not?
+fn some_above(g: u64, boards: &[u8]) -> bool
+    ensures { λ r. ⌜ r ≡ someAbove g (now (boards .entry)) ⌝ }
+{
+    let mut i: usize = 0;
+    while i < boards.len() {
+        if g < boards[i] as u64 {
+            return true;
+        }
+        i += 1;
+    }
+    false
+}
+
+// Refusal 21, of n fans of which those from place `from` up to `upto` are rated.
+pub fn misplaced(version: u64, n: usize, g: u64, boards: &[u8], from: usize, upto: usize) -> bool
+    requires { ⌜ (from ≤ upto) × (upto ≤ n) ⌝ }
+    ensures { λ r. ⌜ r ≡ misplaced version n g (now (boards .entry)) (take (upto - from) (drop from (now (boards .entry)))) ⌝ }
+{
+    if has_boards(version) {
+        if boards.len() != n {
+            return true;
+        }
+        return some_above(g, &boards[from..upto]);
+    }
+    false
+}
+
+// Refusals 20 and 21, in that order; 0 for none.
+pub fn refusal(version: u64, n: usize, g: u64, boards: &[u8], from: usize, upto: usize) -> u64
+    requires { ⌜ (from ≤ upto) × (upto ≤ n) ⌝ }
+    ensures { λ r. ⌜ r ≡ boardsRefusal version n g (now (boards .entry)) (take (upto - from) (drop from (now (boards .entry)))) ⌝ }
+{
+    if boards_out(version, g) {
+        return 20;
+    }
+    if misplaced(version, n, g, boards, from, upto) {
+        return 21;
+    }
+    0
+}
+
+// What is read of the board numbers of the fans from place `from` up to `upto`: nothing where the version has no boards.
+pub fn boards_read(version: u64, boards: &[u8], from: usize, upto: usize) -> &[u8]
+    requires { ⌜ (from ≤ upto) × (hasBoards version ≡ true → upto ≤ length (now boards)) ⌝ }
+    ensures { λ r. ⌜ now r ≡ boardsRead version (take (upto - from) (drop from (now (boards .entry)))) ⌝ }
+{
+    if has_boards(version) {
+        return &boards[from..upto];
+    }
+    &boards[0..0]
+}
+
+// And of the boards' survival numbers.
+pub fn numbers_read(version: u64, numbers: &[u32]) -> &[u32]
+    ensures { λ r. ⌜ now r ≡ boardsRead version (now (numbers .entry)) ⌝ }
+{
+    if has_boards(version) {
+        return numbers;
+    }
+    &numbers[0..0]
+}
