@@ -1,6 +1,7 @@
 -- Document 02, request 05: the further pairs are kind 8's, "which the other kinds do not read". Under every kind but 8 the call leaves what it left before
--- there were any, whatever they are: its refusals and its outcome stand here as they were. Assumes nothing.
-use mathlib.Core.Path.{_≡_, ap, _∙_}
+-- there were any, whatever they are, and whatever the lists of boards that version 1 does not read: its refusals and its outcome stand here as they were. Assumes
+-- nothing.
+use mathlib.Core.Path.{_≡_, refl, ap, _∙_}
 use mathlib.Core.Bool.{Bool, true, false, not, _&&_}
 use mathlib.Core.List.{List, [], _∷_}
 use Prim.Native.Nat.{ℕ, suc, _-_, _≤_}
@@ -15,9 +16,10 @@ use Rattle.rules.specs.Below.{within}
 use Rattle.rules.specs.State.{S, unitOf}
 use Rattle.rules.specs.Figure.{figure, low, high}
 use Rattle.rules.specs.Stretch.{stretch}
-use Rattle.rules.specs.Asked.{Asked, askedOf, readOf}
-use Rattle.rules.specs.Refusal.{firstOf, badKind, badSize, badStretch, aboveUnit, badWeights, inRange, shortTable, figuresRefusal}
+use Rattle.rules.specs.Asked.{Asked, askedOf, readOf, roundedOf}
+use Rattle.rules.specs.Refusal.{firstOf, badKind, badSize, badStretch, someAbove, badWeights, inRange, shortTable, figuresRefusal}
 use Rattle.rules.specs.Answer.{Rates, tableAfter}
+use Rattle.rules.proofs.WithoutBoards as without
 use Rattle.rules.proofs.Accepted.{beside-weights}
 use Rattle.rules.proofs.Answer.{rates-same}
 use Rattle.figures.specs.Outcome.{Rated}
@@ -32,7 +34,7 @@ refusalBefore rule a b survival weights table =
     ((1, badKindBefore rule)
     ∷ (2, badSize (length survival))
     ∷ (3, badStretch a b (length survival))
-    ∷ (4, aboveUnit S (stretch a b survival))
+    ∷ (4, someAbove S (stretch a b survival))
     ∷ (5, badWeights rule (length survival) weights (stretch a b weights))
     ∷ (6, not (inRange rule (suc b - a) (stretch a b weights)))
     ∷ (7, shortTable table)
@@ -42,9 +44,9 @@ pub record RatedBefore (rule : Rule) (a b : ℕ) (survival weights t₀ t : List
   pub answer : Rates r (refusalBefore rule a b survival weights t₀) (low S rule (stretch a b survival) (stretch a b weights)) (high S rule (stretch a b survival) (stretch a b weights))
   pub table : t ≡ tableAfter (refusalBefore rule a b survival weights t₀) t₀
 
-module _ (rule : Rule) (a b : ℕ) (survival weights more : List ℕ) (earlier : rule .kind ≡ 8 → ⊥) where
+module _ (rule : Rule) (a b : ℕ) (survival weights more boards boardSurvival : List ℕ) (earlier : rule .kind ≡ 8 → ⊥) where
   abbrev q : Asked
-  q = askedOf 1 rule a b survival weights more
+  q = askedOf 1 rule a b survival weights more boards boardSurvival
 
   kind-same : badKind rule ≡ badKindBefore rule
   kind-same = ap (λ x. not (leb 1 (rule .kind) && x)) (go (decLe (rule .kind) 7))
@@ -57,11 +59,12 @@ module _ (rule : Rule) (a b : ℕ) (survival weights more : List ℕ) (earlier :
   read-same = beside-weights rule (stretch a b weights) more earlier
 
   refusal-same : (table : List ℕ) → figuresRefusal q table ≡ refusalBefore rule a b survival weights table
-  unfolding figuresRefusal refusalBefore firstOf unitOf
-  refusal-same table = rw (kind-same, read-same)
+  unfolding without.refusalBefore refusalBefore firstOf unitOf
+  refusal-same table = without.refusal-before q refl table ∙ rw (kind-same, read-same)
 
-  figure-same : (up : Bool) → figure up S rule (stretch a b survival) (readOf q) ≡ figure up S rule (stretch a b survival) (stretch a b weights)
-  figure-same up = rw read-same
+  figure-same : (up : Bool) → roundedOf up q ≡ figure up S rule (stretch a b survival) (stretch a b weights)
+  unfolding unitOf
+  figure-same up = without.rounded-before q refl up ∙ ap (figure up S rule (stretch a b survival)) read-same
 
   pub rated-as-before : {t₀ t : List ℕ} {r : Rating} → Rated q t₀ t r → RatedBefore rule a b survival weights t₀ t r
   unfolding unitOf

@@ -1,5 +1,5 @@
--- The refusal of the figures, as the code works it out: 11, then 1 to 3, then 4, then 5 and 6 over the weights that are rated and the further pairs, then 7;
--- and where there is none, the part can be rated. A list that the kind does not read changes nothing. Assumes nothing.
+-- The refusal of the figures, as the code works it out: 11, then 1 to 3, then 20 and 21, then 4, then 5 and 6 over the weights that are rated and the further
+-- pairs, then 7; and where there is none, the part can be rated. A list that the kind does not read changes nothing. Assumes nothing.
 use Prim.Native.Nat.{ℕ, suc, _-_, _≤_}
 use mathlib.Core.Path.{_≡_, refl, sym, ap, _∙_}
 use mathlib.Core.Bool.{Bool, true, false, cond, not}
@@ -12,15 +12,17 @@ use borrow.Author.Tests.{eqb-true, eqb-false, eq-eqb, ne-eqb}
 use Rattle.rules.specs.declared.Rule.{Rule}
 use Rattle.rules.specs.Below.{total}
 use Rattle.rules.specs.State.{besideOf}
-use Rattle.rules.specs.Figure.{figure}
+use Rattle.rules.specs.Boards.{hasBoards, behind, figureBehind}
 use Rattle.rules.specs.Stretch.{stretch}
-use Rattle.rules.specs.Asked.{Asked, unitIn, lengthOf, sizeOf, partOf, weightsOf, readOf}
-use Rattle.rules.specs.Refusal.{after, firstOf, badVersion, badKind, badSize, badStretch, aboveUnit, weightsOut, badWeights, ranged, inRange, shortTable, figuresRefusal}
-use Rattle.rules.specs.Accepted.{Ratable}
+use Rattle.rules.specs.Asked.{Asked, unitIn, lengthOf, sizeOf, partOf, weightsOf, readOf, boardsOf, boardSurvivalOf, boardCount, roundedOf}
+use Rattle.rules.specs.Refusal.{after, firstOf, badVersion, badKind, badSize, badStretch, badBoards, misplaced, aboveUnit, weightsOut, badWeights, ranged, inRange, shortTable, figuresRefusal}
+use Rattle.rules.specs.Accepted.{Boarded, Ratable}
 use Rattle.rules.proofs.Tests.{by-test}
-use Rattle.rules.proofs.Accepted.{none-first, first-same, first-after, first-more, first-rest, in-stretch, figures-ratable, weights-accepted}
+use Rattle.rules.proofs.Boards.{combined-same}
+use Rattle.rules.proofs.Accepted.{none-first, first-same, first-after, first-more, first-rest, in-stretch, figures-ratable, figures-boarded, weights-accepted}
 use Rattle.rules.proofs.Unread.{Unread, accepted-unread, unread-total, beside-range, unread-figure}
-use Rattle.refusals.specs.Shared.{ratedRefusal}
+use Rattle.refusals.specs.Shared.{ratedRefusal, boardsRefusal}
+use Rattle.refusals.proofs.Laws.{boards-as-read}
 use Rattle.figures.specs.Outcome.{ratedOf, placeRefusal, partRefusal}
 
 -- the part as the code takes it
@@ -104,18 +106,36 @@ handed q = ratedOf (q .rule) (lengthOf q) (q .weights) (q .a) (q .b)
 abbrev read : Asked → List ℕ
 read q = besideOf (q .rule) (handed q) (q .more)
 
--- what is left past 4, and past 11 before 1 to 3
-abbrev pub from5 : Asked → (table : List ℕ) → List (ℕ × Bool)
-from5 q table =
-    (5, badWeights (q .rule) (lengthOf q) (q .weights) (weightsOf q))
+-- what is left past 20 and 21, and past 1 to 3
+abbrev pub from4 : Asked → (table : List ℕ) → List (ℕ × Bool)
+from4 q table =
+    (4, aboveUnit (unitIn q) (partOf q) (boardSurvivalOf q))
+    ∷ (5, badWeights (q .rule) (lengthOf q) (q .weights) (weightsOf q))
     ∷ (6, not (inRange (q .rule) (sizeOf q) (readOf q)))
     ∷ (7, shortTable table)
     ∷ []
 
+abbrev pub from20 : Asked → (table : List ℕ) → List (ℕ × Bool)
+from20 q table =
+    (20, badBoards (q .version) (boardCount q))
+    ∷ (21, misplaced (q .version) (lengthOf q) (boardCount q) (q .boards) (boardsOf q))
+    ∷ from4 q table
+
 pub past-version : (q : Asked) (table : List ℕ) → badVersion (q .version) ≡ false
-    → figuresRefusal q table ≡ after (placeRefusal (q .rule) (q .a) (q .b) (lengthOf q)) (firstOf ((4, aboveUnit (unitIn q) (partOf q)) ∷ from5 q table))
+    → figuresRefusal q table ≡ after (placeRefusal (q .rule) (q .a) (q .b) (lengthOf q)) (firstOf (from20 q table))
 unfolding figuresRefusal
 past-version q table eleven = first-after 11 _ _ eleven ∙ place-first (q .rule) (q .a) (q .b) (lengthOf q) _
+
+-- 20 and 21 over the boards' lists as they are lent
+pub boards-first : (q : Asked) (table : List ℕ) → badStretch (q .a) (q .b) (lengthOf q) ≡ false
+    → firstOf (from20 q table)
+    ≡ after (boardsRefusal (q .version) (lengthOf q) (length (q .boardSurvival)) (q .boards) (take (q .b - (q .a - 1)) (drop (q .a - 1) (q .boards)))) (firstOf (from4 q table))
+unfolding boardsRefusal
+boards-first q table inside =
+    first-more 19 _ _ _ _ (first-more 20 _ [] (from4 q table) _ (first-rest (from4 q table)))
+    ∙ ap (λ r. after r (firstOf (from4 q table)))
+    (sym (ap (boardsRefusal (q .version) (lengthOf q) (length (q .boardSurvival)) (q .boards)) (part-is (q .a) (q .b) _ (q .boards) inside)
+    ∙ boards-as-read (q .version) (lengthOf q) (q .boards) (stretch (q .a) (q .b) (q .boards)) (q .boardSurvival)))
 
 -- no refusal: the part can be rated, and its figures are those asked for
 module _ (q : Asked) (table : List ℕ) (none : figuresRefusal q table ≡ 0) where
@@ -142,5 +162,16 @@ module _ (q : Asked) (table : List ℕ) (none : figuresRefusal q table ≡ 0) wh
       let y = ratable .2 in
       record { accepted = ⊎-elim (λ s. rw s (y .accepted)) (accepted-unread (y .accepted)) same; units = y .units; room = y .room }
 
-  pub part-figure : (up : Bool) → figure up (unitIn q) (q .rule) (partOf q) (read q) ≡ figure up (unitIn q) (q .rule) (partOf q) (readOf q)
-  part-figure up = ⊎-elim (λ s. rw s) (unread-figure up (unitIn q) (q .rule) (partOf q) (read q) (readOf q)) same
+  pub part-figure : (up : Bool) → figureBehind up (unitIn q) (q .rule) (partOf q) (read q) (boardsOf q) (boardSurvivalOf q) ≡ roundedOf up q
+  part-figure up =
+      ⊎-elim (λ s. rw s)
+      (λ k. combined-same up (unitIn q) (boardSurvivalOf q) _ _
+      (λ out. unread-figure up (unitIn q) (q .rule) (behind (boardsOf q) out (partOf q)) (read q) (readOf q) k))
+      same
+
+  -- its boards can be combined, and there is a board number for each fan where the version has them
+  pub part-boarded : Boarded (unitIn q) (boardsOf q) (boardSurvivalOf q)
+  part-boarded = figures-boarded q table none .1
+
+  pub listed : hasBoards (q .version) ≡ true → q .b ≤ length (q .boards)
+  listed has = omega (arith, fits, figures-boarded q table none .0 has)

@@ -17,7 +17,7 @@ use Rattle.rules.specs.State.{S}
 use Rattle.rules.specs.Figure.{figure, low, high}
 use Rattle.rules.specs.Stretch.{stretch}
 use Rattle.rules.specs.Asked.{askedOf}
-use Rattle.rules.specs.Refusal.{firstOf, badSize, aboveUnit, heaviest, weightsOut, badWeights, inRange, shortTable}
+use Rattle.rules.specs.Refusal.{firstOf, badSize, someAbove, heaviest, weightsOut, badWeights, inRange, shortTable}
 use Rattle.rules.specs.Answer.{Rates, tableAfter}
 use Rattle.rules.proofs.EachKind.{within-true}
 use Rattle.rules.proofs.Accepted.{first-same, first-after, none-first, weights-accepted, whole-stretch, stretch-all}
@@ -32,7 +32,7 @@ wholeRefusal rule survival weights table =
     firstOf
     ((1, badKindBefore rule)
     ∷ (2, badSize (length survival))
-    ∷ (4, aboveUnit S survival)
+    ∷ (4, someAbove S survival)
     ∷ (5, badWeights rule (length survival) weights weights)
     ∷ (6, not (inRange rule (length survival) weights))
     ∷ (7, shortTable table)
@@ -83,7 +83,7 @@ module _ (rule : Rule) (survival weights : List ℕ) (earlier : rule .kind ≡ 8
         let some = within-true 1 n 64 (not-false _ size) .0 in
         let as-long : suc n - 1 ≡ n = omega arith in
         first-after 3 _ _ (whole-stretch n some)
-        ∙ first-same 4 _ _ _ _ (ap (aboveUnit S) (stretch-all survival n refl)) (λ units.
+        ∙ first-same 4 _ _ _ _ (ap (someAbove S) (stretch-all survival n refl)) (λ units.
         first-same 5 _ _ _ _ (sym five-same) (λ five.
         first-same 6 _ _ _ _ (ap (λ m. not (inRange rule m rated)) as-long ∙ ap not (sym (six-same (five-same ∙ five)))) (λ six. refl)))))
 
@@ -92,9 +92,9 @@ module _ (rule : Rule) (survival weights : List ℕ) (earlier : rule .kind ≡ 8
     five-past e = five-same ∙ none-first 4 _ _ (none-first 3 _ _ (none-first 2 _ _ (none-first 1 _ _ (none-first 0 _ _ e .1) .1) .1) .1) .0
 
     -- the theorem
-    pub whole-as-before : (more : List ℕ) {t : List ℕ} {r : Rating} → Rated (askedOf 1 rule 1 n survival weights more) table t r → Listed rule survival weights table t r
-    whole-as-before more {t} {r} h =
-        let v = rated-as-before rule 1 n survival weights more earlier h in
+    pub whole-as-before : (more boards boardSurvival : List ℕ) {t : List ℕ} {r : Rating} → Rated (askedOf 1 rule 1 n survival weights more boards boardSurvival) table t r → Listed rule survival weights table t r
+    whole-as-before more boards boardSurvival {t} {r} h =
+        let v = rated-as-before rule 1 n survival weights more boards boardSurvival earlier h in
         record {
           answer = rates-same r whole-refusal (λ e. (sym (figure-same false (five-past e)), sym (figure-same true (five-past e)))) (v .answer);
           table = v .table ∙ ap (λ q. tableAfter q table) whole-refusal;

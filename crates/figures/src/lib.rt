@@ -4,7 +4,7 @@ ghost use mathlib.Core.Bool.{false};
 ghost use Prim.Native.Nat.{_≤_};
 ghost use Rattle.rules.specs.State.{S};
 ghost use Rattle.rules.specs.Asked.{askedOf};
-ghost use Rattle.rules.specs.Refusal.{badStretch, aboveUnit, figuresRefusal};
+ghost use Rattle.rules.specs.Refusal.{badStretch, someAbove, aboveUnit, figuresRefusal};
 ghost use Rattle.figures.specs.Outcome.{ratedOf, placeRefusal, partRefusal, Worked, Ranged, Rated};
 use cells::CELLS;
 use places::Ends;
@@ -24,10 +24,10 @@ fn stretch_out(a: u64, b: u64, n: u64) -> bool
     n < b
 }
 
-// Refusal 4. Every number is looked at, so that the compiler can look at several at once.
+// Is a number above the unit? Every one is looked at, so that the compiler can look at several at once.
 fn above_unit(all: u64, survival: &[u32]) -> bool
     requires { ⌜ all ≤ S ⌝ }
-    ensures { λ r. ⌜ r ≡ aboveUnit all (now (survival .entry)) ⌝ }
+    ensures { λ r. ⌜ r ≡ someAbove all (now (survival .entry)) ⌝ }
 {
     let most = all as u32;
     let mut above = false;
@@ -73,6 +73,17 @@ pub fn place_refusal(rule: Rule, a: u64, b: u64, n: u64) -> u64
     0
 }
 
+// Refusal 4, of the components rated and of the boards.
+fn numbers_out(all: u64, survival: &[u32], own: &[u32]) -> bool
+    requires { ⌜ all ≤ S ⌝ }
+    ensures { λ r. ⌜ r ≡ aboveUnit all (now (survival .entry)) (now (own .entry)) ⌝ }
+{
+    if above_unit(all, survival) {
+        return true;
+    }
+    above_unit(all, own)
+}
+
 // Refusals 5 and 6 of a stretch that lies in a list of n.
 pub fn part_refusal(rule: Rule, a: u64, b: u64, n: usize, weights: &[u16], more: &[u64]) -> u64
     requires { ⌜ placeRefusal rule a b n ≡ 0 ⌝ }
@@ -91,7 +102,7 @@ pub fn part_refusal(rule: Rule, a: u64, b: u64, n: usize, weights: &[u16], more:
     )
 }
 
-// Refusals 11, then 1 to 7, the first that applies; 0 for none.
+// Refusals 11, then 1 to 7 with 20 and 21 before 4, the first that applies; 0 for none.
 pub fn refusal(
     version: u64,
     rule: Rule,
@@ -100,9 +111,11 @@ pub fn refusal(
     survival: &[u32],
     weights: &[u16],
     more: &[u64],
+    boards: &[u8],
+    switchboards: &[u32],
     table: &[u64],
 ) -> u64
-    ensures { λ r. ⌜ r ≡ figuresRefusal (askedOf version rule a b (now (survival .entry)) (now (weights .entry)) (now (more .entry))) (now (table .entry)) ⌝ }
+    ensures { λ r. ⌜ r ≡ figuresRefusal (askedOf version rule a b (now (survival .entry)) (now (weights .entry)) (now (more .entry)) (now (boards .entry)) (now (switchboards .entry))) (now (table .entry)) ⌝ }
 {
     if refusals::version_out(version) {
         return 11;
@@ -114,10 +127,20 @@ pub fn refusal(
     }
     let from = a as usize - 1;
     let upto = b as usize;
-    if above_unit(
-        units::whole(units::is_decimal(version)),
-        &survival[from..upto],
-    ) {
+    let boarded = refusals::boards::refusal(
+        version,
+        n,
+        switchboards.len() as u64,
+        boards,
+        from,
+        upto,
+    );
+    if boarded != 0 {
+        return boarded;
+    }
+    let own = refusals::boards::numbers_read(version, switchboards);
+    let all = units::whole(units::is_decimal(version));
+    if numbers_out(all, &survival[from..upto], own) {
         return 4;
     }
     let part = part_refusal(rule, a, b, n, weights, more);
@@ -139,16 +162,29 @@ pub fn work(
     survival: &[u32],
     weights: &[u16],
     more: &[u64],
+    boards: &[u8],
+    switchboards: &[u32],
     table: &mut [u64],
 ) -> Ends
-    requires { ⌜ figuresRefusal (askedOf version rule a b (now survival) (now weights) (now more)) (now table) ≡ 0 ⌝ }
-    ensures { λ r. ⌜ Worked (askedOf version rule a b (now (survival .entry)) (now (weights .entry)) (now (more .entry))) (now (table .entry)) (now (table .exit)) r ⌝ }
+    requires { ⌜ figuresRefusal (askedOf version rule a b (now survival) (now weights) (now more) (now boards) (now switchboards)) (now table) ≡ 0 ⌝ }
+    ensures { λ r. ⌜ Worked (askedOf version rule a b (now (survival .entry)) (now (weights .entry)) (now (more .entry)) (now (boards .entry)) (now (switchboards .entry))) (now (table .entry)) (now (table .exit)) r ⌝ }
 {
     let start = a as usize - 1;
     let end = b as usize;
     let rated = rated_weights(rule, survival.len(), weights, a, b);
+    let placed = refusals::boards::boards_read(version, boards, start, end);
+    let own = refusals::boards::numbers_read(version, switchboards);
     let decimal = units::is_decimal(version);
-    engine::rate(decimal, rule, &survival[start..end], rated, more, table)
+    boards::rate(
+        decimal,
+        rule,
+        &survival[start..end],
+        rated,
+        more,
+        placed,
+        own,
+        table,
+    )
 }
 
 // The figures of a stretch that is not refused, likewise.
@@ -160,12 +196,25 @@ pub fn rate(
     survival: &[u32],
     weights: &[u16],
     more: &[u64],
+    boards: &[u8],
+    switchboards: &[u32],
     table: &mut [u64],
 ) -> Rating
-    requires { ⌜ figuresRefusal (askedOf version rule a b (now survival) (now weights) (now more)) (now table) ≡ 0 ⌝ }
-    ensures { λ r. ⌜ Ranged (askedOf version rule a b (now (survival .entry)) (now (weights .entry)) (now (more .entry))) (now (table .entry)) (now (table .exit)) r ⌝ }
+    requires { ⌜ figuresRefusal (askedOf version rule a b (now survival) (now weights) (now more) (now boards) (now switchboards)) (now table) ≡ 0 ⌝ }
+    ensures { λ r. ⌜ Ranged (askedOf version rule a b (now (survival .entry)) (now (weights .entry)) (now (more .entry)) (now (boards .entry)) (now (switchboards .entry))) (now (table .entry)) (now (table .exit)) r ⌝ }
 {
-    let ends = work(version, rule, a, b, survival, weights, more, table);
+    let ends = work(
+        version,
+        rule,
+        a,
+        b,
+        survival,
+        weights,
+        more,
+        boards,
+        switchboards,
+        table,
+    );
     let low = ends.low;
     let high = ends.high;
     Rating::Range { low, high }
@@ -181,15 +230,39 @@ pub fn figures(
     survival: &[u32],
     weights: &[u16],
     more: &[u64],
+    boards: &[u8],
+    switchboards: &[u32],
     table: &mut [u64],
 ) -> Rating
-    ensures { λ r. ⌜ Rated (askedOf version rule a b (now (survival .entry)) (now (weights .entry)) (now (more .entry))) (now (table .entry)) (now (table .exit)) r ⌝ }
+    ensures { λ r. ⌜ Rated (askedOf version rule a b (now (survival .entry)) (now (weights .entry)) (now (more .entry)) (now (boards .entry)) (now (switchboards .entry))) (now (table .entry)) (now (table .exit)) r ⌝ }
 {
-    let refused = refusal(version, rule, a, b, survival, weights, more, table);
+    let refused = refusal(
+        version,
+        rule,
+        a,
+        b,
+        survival,
+        weights,
+        more,
+        boards,
+        switchboards,
+        table,
+    );
     if refused != 0 {
         return Rating::Refused(refused);
     }
-    let rating = rate(version, rule, a, b, survival, weights, more, table);
+    let rating = rate(
+        version,
+        rule,
+        a,
+        b,
+        survival,
+        weights,
+        more,
+        boards,
+        switchboards,
+        table,
+    );
     cells::zero(table, CELLS);
     rating
 }

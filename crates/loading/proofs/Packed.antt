@@ -24,8 +24,8 @@ pub loading-packable : (bytes : List ℕ) (s : ℕ) → Packable (loadingOf byte
 unfolding loadingOf fileRefusal
 loading-packable bytes s =
     unless-by Packable _ Refused _
-    (first-le 10 _ _ (omega arith) (first-le 11 _ _ (omega arith) (first-le 2 _ _ (omega arith) (first-le 12 _ _ (omega arith)
-    (first-le 13 _ _ (omega arith) (first-none mostRefusal))))))
+    (first-le 10 _ _ (omega arith) (first-le 11 _ _ (omega arith) (first-le 10 _ _ (omega arith) (first-le 2 _ _ (omega arith) (first-le 12 _ _ (omega arith)
+    (first-le 20 _ _ (omega arith) (first-le 13 _ _ (omega arith) (first-le 21 _ _ (omega arith) (first-none mostRefusal)))))))))
     (λ e. numbered (badNumber bytes s) _ (system-packable _ _))
   where
     numbered : (b : Bool) (answer : Rating) → Packable answer → Packable (cond b (Refused 14) answer)

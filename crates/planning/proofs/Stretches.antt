@@ -11,10 +11,10 @@ use lib.Seq.{ext-getD, getD-take, length-take-le}
 use lib.Ieee.{Float}
 use borrow.Author.Tests.{lt-ltb, not-false}
 use Rattle.rules.specs.declared.Rule.{Rule}
-use Rattle.rules.specs.State.{unitOf, besideOf}
-use Rattle.rules.specs.Figure.{figure}
+use Rattle.rules.specs.State.{unitOf}
+use Rattle.rules.specs.Boards.{figureBehind}
 use Rattle.rules.specs.Stretch.{stretch}
-use Rattle.rules.specs.Asked.{askedOf}
+use Rattle.rules.specs.Asked.{askedOf, readOf, boardsOf, boardSurvivalOf, roundedOf}
 use Rattle.rules.specs.Refusal.{most, cells, badStretch}
 use Rattle.rules.specs.Doubles.{wholeOf, Planned, plannedRefusal}
 use Rattle.rules.proofs.Lists.{map-take, map-drop}
@@ -65,11 +65,12 @@ module _ (up : Bool) (a b : ℕ) (xs : List Float) (inside : badStretch a b (len
           ∙ ap (λ bs. wholeOf up (getD bs i 0)) (floats-are a b (length xs) xs inside) ∙ sym (whole-get up (stretch a b (bitsOf xs)) i))
 
 -- the figures read the stretch alone
-pub worked-same : (version : ℕ) (rule : Rule) (a b : ℕ) (xs ys weights more : List ℕ) → stretch a b xs ≡ stretch a b ys → {t₀ t : List ℕ} {r : Ends}
-    → Worked (askedOf version rule a b xs weights more) t₀ t r → Worked (askedOf version rule a b ys weights more) t₀ t r
-worked-same version rule a b xs ys weights more same w =
-    let part : (up : Bool) → figure up (unitOf version) rule (stretch a b xs) (besideOf rule (stretch a b weights) more) ≡ figure up (unitOf version) rule (stretch a b ys) (besideOf rule (stretch a b weights) more)
-    = λ up. ap (λ ps. figure up (unitOf version) rule ps (besideOf rule (stretch a b weights) more)) same in
+pub worked-same : (version : ℕ) (rule : Rule) (a b : ℕ) (xs ys weights more boards boardSurvival : List ℕ) → stretch a b xs ≡ stretch a b ys → {t₀ t : List ℕ} {r : Ends}
+    → Worked (askedOf version rule a b xs weights more boards boardSurvival) t₀ t r → Worked (askedOf version rule a b ys weights more boards boardSurvival) t₀ t r
+worked-same version rule a b xs ys weights more boards boardSurvival same w =
+    let q = askedOf version rule a b xs weights more boards boardSurvival in
+    let part : (up : Bool) → roundedOf up q ≡ roundedOf up (askedOf version rule a b ys weights more boards boardSurvival)
+    = λ up. ap (λ ps. figureBehind up (unitOf version) rule ps (readOf q) (boardsOf q) (boardSurvivalOf q)) same in
     record { low = w .low ∙ part false; high = w .high ∙ part true; kept = w .kept }
 
 module _ (q : Planned) (table : List ℕ) (none : plannedRefusal q table ≡ 0) where

@@ -15,8 +15,12 @@ use rules::Rule;
 // The fans of a list, at most.
 const MOST: usize = 64;
 
-// The version whose unit is 2^30.
+// The version whose unit is 2^30, and which has no boards.
 const BINARY: u64 = 1;
+
+const NO_BOARDS: [u8; 0] = [];
+
+const NO_SWITCHBOARDS: [u32; 0] = [];
 
 // Refusal 18.
 fn outside(floats: &[f64]) -> bool
@@ -126,7 +130,18 @@ fn rate_list(
     let from = a as usize - 1;
     let upto = b as usize;
     let numbers = numbers_of(up, from, &survival[from..upto]);
-    figures::work(BINARY, rule, a, b, &numbers[..n], weights, more, table)
+    figures::work(
+        BINARY,
+        rule,
+        a,
+        b,
+        &numbers[..n],
+        weights,
+        more,
+        &NO_BOARDS,
+        &NO_SWITCHBOARDS,
+        table,
+    )
 }
 
 // Low of the lower list and high of the upper, of what is not refused. The table is left as it was worked.

@@ -1,7 +1,7 @@
--- Input longer than any sound file, 724 bytes, is never cut into a sound one: a front of 725 bytes or more has the whole's header and is no file
--- either, so the reader answers the same for both. A buffer that takes more than 724 bytes can be cut from no input that matters. Assumes nothing.
+-- Input longer than any sound file, 812 bytes, is never cut into a sound one: a front of 813 bytes or more has the whole's header and is no file
+-- either, so the reader answers the same for both. A buffer that takes more than 812 bytes can be cut from no input that matters. Assumes nothing.
 use mathlib.Core.Path.{_≡_, refl, sym, ap, _∙_}
-use mathlib.Core.Bool.{Bool, true, false, not, _&&_}
+use mathlib.Core.Bool.{Bool, true, false, not, _&&_, true≢false}
 use mathlib.Core.List.{List}
 use Prim.Native.Nat.{ℕ, zero, suc, _+_, _≤_, _<_}
 use native.Mathlib.Decide.{decLe}
@@ -10,33 +10,46 @@ use lib.Dec.{eqb}
 use lib.ListN.{length, take}
 use lib.Seq.{length-take-le, take-all, getD-take}
 use borrow.Author.Tests.{le-ltb, ne-eqb, not-false}
-use Rattle.rules.specs.Refusal.{badSize}
-use Rattle.rules.specs.File.{versionField, zeroField, fansField, countField, survivalField, weightsField, systemsField, headerLength, mostFans, mostSystems, survivalOffset, weightsOffset, systemsOffset, fileLength, numberAt, fansIn, countIn, badLayout, fileRefusal}
+use Rattle.rules.specs.Refusal.{lastVersion, mostBoards, badSize}
+use Rattle.rules.specs.File.{versionField, zeroField, fansField, countField, survivalField, weightsField, systemsField, boardCountField, shortestHeader, headerLength, mostFans, mostSystems, survivalOffset, weightsOffset, systemsOffset, fileLength, numberAt, versionIn, fansIn, countIn, boardCountIn, boardsElsewhere, badLayout, badBoardsIn, fileRefusal}
 use Rattle.rules.proofs.EachKind.{within-true}
 use Rattle.rules.proofs.Accepted.{first-same}
 use Rattle.rules.proofs.Unless.{unless-some}
 use Rattle.deck.specs.declared.Read.{Read}
 use Rattle.deck.specs.Outcome.{Handed}
-use Rattle.deck.proofs.Sound.{sound}
+use Rattle.deck.proofs.Versions.{header-bounds, fans-bound, without-boards, few-boards}
+use Rattle.deck.proofs.Sound.{sound, sound-few}
 use Rattle.printing.specs.Front.{Front, WholeRead}
 
--- the length of the longest sound file, 724
+-- the length of the longest sound file, 812
 abbrev longest : ℕ
-longest = fileLength mostFans mostSystems
+longest = fileLength lastVersion mostFans mostBoards mostSystems
 
 -- a length that differs is refused, whatever the offsets are
-long-layout : (bytes : List ℕ) → longest < length bytes → fansIn bytes ≤ mostFans → countIn bytes ≤ mostSystems → badLayout bytes ≡ true
-long-layout bytes long fans systems =
+long-layout : (bytes : List ℕ) → longest < length bytes → fansIn bytes ≤ mostFans → countIn bytes ≤ mostSystems → badBoardsIn bytes ≡ false → badLayout bytes ≡ true
+long-layout bytes long fans systems counted =
+    let v = versionIn bytes in
     let n = fansIn bytes in
-    let placed = eqb (numberAt 4 bytes survivalField) survivalOffset && eqb (numberAt 4 bytes weightsField) (weightsOffset n) && eqb (numberAt 4 bytes systemsField) (systemsOffset n) in
-    rw (ne-eqb (length bytes) (fileLength n (countIn bytes)) (λ e. omega arith)) (never placed)
+    let g = boardCountIn bytes in
+    let few = few-boards v g counted (without-boards v (numberAt 4 bytes boardCountField) 0) in
+    let header = header-bounds v in
+    let listed = fans-bound v n in
+    let placed =
+    eqb (numberAt 4 bytes survivalField) (survivalOffset v) && eqb (numberAt 4 bytes weightsField) (weightsOffset v n)
+    && eqb (numberAt 4 bytes systemsField) (systemsOffset v n g) && not (boardsElsewhere bytes) in
+    rw (ne-eqb (length bytes) (fileLength v n g (countIn bytes)) (λ e. omega arith)) (never placed)
   where
     never : (b : Bool) → not (b && false) ≡ true
     never true = refl
     never false = refl
 
 long-refused : (bytes : List ℕ) → longest < length bytes → fileRefusal bytes ≡ 0 → ⊥
-long-refused bytes long none = let s = sound bytes none in omega arith
+long-refused bytes long none =
+    let s = sound bytes none in
+    let few = sound-few bytes none in
+    let header = header-bounds (versionIn bytes) in
+    let listed = fans-bound (versionIn bytes) (fansIn bytes) in
+    omega arith
 
 module _ (bytes : List ℕ) (k : ℕ) (long : longest < k) (within : k ≤ length bytes) where
   abbrev front : List ℕ
@@ -54,16 +67,23 @@ module _ (bytes : List ℕ) (k : ℕ) (long : longest < k) (within : k ≤ lengt
   same-refusal : fileRefusal front ≡ fileRefusal bytes
   unfolding fileRefusal
   same-refusal =
-      first-same 10 _ _ _ _ (rw (size, le-ltb k headerLength (omega arith), le-ltb (length bytes) headerLength (omega arith))) (λ short.
-      first-same 11 _ _ _ _ (rw (same-number 2 versionField (omega arith), same-number 2 zeroField (omega arith))) (λ version.
-      first-same 2 _ _ _ _ (ap badSize (same-number 2 fansField (omega arith))) (λ fans.
-      first-same 12 _ _ _ _ (rw (same-number 2 countField (omega arith))) (λ systems.
+      let fans-same = same-number 2 fansField (omega arith) in
+      let count-same = same-number 2 countField (omega arith) in
+      let version-same = same-number 2 versionField (omega arith) in
+      let boards-same : badBoardsIn front ≡ badBoardsIn bytes = rw (same-number 4 boardCountField (omega arith), version-same) in
+      let header = header-bounds (versionIn bytes) in
+      first-same 10 _ _ _ _ (rw (size, le-ltb k shortestHeader (omega arith), le-ltb (length bytes) shortestHeader (omega arith))) (λ short.
+      first-same 11 _ _ _ _ (rw (version-same, same-number 2 zeroField (omega arith))) (λ version.
+      first-same 10 _ _ _ _
+      (rw (version-same, size, le-ltb k (headerLength (versionIn bytes)) (omega arith), le-ltb (length bytes) (headerLength (versionIn bytes)) (omega arith))) (λ short.
+      first-same 2 _ _ _ _ (ap badSize fans-same) (λ fans.
+      first-same 12 _ _ _ _ (rw count-same) (λ systems.
+      first-same 20 _ _ _ _ boards-same (λ counted.
       let n = within-true 1 _ mostFans (not-false _ fans) .1 in
       let m = within-true 1 _ mostSystems (not-false _ systems) .1 in
-      first-same 13 _ _ _ _
-      (long-layout front (rw size long) n m
-      ∙ sym (long-layout bytes (omega arith) (rw (same-number 2 fansField (omega arith)) at n) (rw (same-number 2 countField (omega arith)) at m)))
-      (λ layout. refl)))))
+      let laid = long-layout front (rw size long) n m counted in
+      first-same 13 _ _ _ _ (laid ∙ sym (long-layout bytes (omega arith) (rw fans-same at n) (rw count-same at m) (sym boards-same ∙ counted)))
+      (λ layout. absurd (true≢false (sym laid ∙ layout)))))))))
 
   front-handed : (r : Read) → Handed front r → Handed bytes r
   front-handed r is =

@@ -18,7 +18,8 @@ fn rule_of(kind: u64, first: u64, second: u64) -> Rule
 }
 
 // In C: `uint64_t foambeetle_figures(uint64_t version, uint64_t kind, uint64_t first, uint64_t second, uint64_t a, uint64_t b,
-// const uint32_t *survival, size_t n, const uint16_t *weights, size_t weighed, const uint64_t *more, size_t further, uint64_t *table, size_t cells)`.
+// const uint32_t *survival, size_t n, const uint16_t *weights, size_t weighed, const uint64_t *more, size_t further,
+// const uint8_t *boards, size_t placed, const uint32_t *switchboards, size_t g, uint64_t *table, size_t cells)`.
 #[no_mangle]
 pub extern "C" fn foambeetle_figures(
     version: u64,
@@ -30,16 +31,30 @@ pub extern "C" fn foambeetle_figures(
     survival: &[u32],
     weights: &[u16],
     more: &[u64],
+    boards: &[u8],
+    switchboards: &[u32],
     table: &mut [u64],
 ) -> u64
-    ensures { λ r. ⌜ Timed (askedOf version (ruleOf kind first second) a b (now (survival .entry)) (now (weights .entry)) (now (more .entry))) (now (table .entry)) (now (table .exit)) r ⌝ }
+    ensures { λ r. ⌜ Timed (askedOf version (ruleOf kind first second) a b (now (survival .entry)) (now (weights .entry)) (now (more .entry)) (now (boards .entry)) (now (switchboards .entry))) (now (table .entry)) (now (table .exit)) r ⌝ }
 {
     let rule = rule_of(kind, first, second);
-    packing::pack(figures::figures(version, rule, a, b, survival, weights, more, table))
+    packing::pack(figures::figures(
+        version,
+        rule,
+        a,
+        b,
+        survival,
+        weights,
+        more,
+        boards,
+        switchboards,
+        table,
+    ))
 }
 
 // The worth of a fan, likewise. In C: `uint64_t foambeetle_worth_of(uint64_t version, uint64_t kind, uint64_t first, uint64_t second, uint64_t a, uint64_t b, uint64_t fan,
-// const uint32_t *survival, size_t n, const uint16_t *weights, size_t weighed, const uint64_t *more, size_t further, uint64_t *table, size_t cells,
+// const uint32_t *survival, size_t n, const uint16_t *weights, size_t weighed, const uint64_t *more, size_t further,
+// const uint8_t *boards, size_t placed, const uint32_t *switchboards, size_t g, uint64_t *table, size_t cells,
 // int64_t ends[2])`.
 #[no_mangle]
 pub extern "C" fn foambeetle_worth_of(
@@ -53,14 +68,28 @@ pub extern "C" fn foambeetle_worth_of(
     survival: &[u32],
     weights: &[u16],
     more: &[u64],
+    boards: &[u8],
+    switchboards: &[u32],
     table: &mut [u64],
     ends: &mut [i64; 2],
 ) -> u64
-    ensures { λ r. ⌜ TimedWorth (askedOf version (ruleOf kind first second) a b (now (survival .entry)) (now (weights .entry)) (now (more .entry))) fan (now (table .entry)) (now (table .exit)) (now (ends .entry)) (now (ends .exit)) r ⌝ }
+    ensures { λ r. ⌜ TimedWorth (askedOf version (ruleOf kind first second) a b (now (survival .entry)) (now (weights .entry)) (now (more .entry)) (now (boards .entry)) (now (switchboards .entry))) fan (now (table .entry)) (now (table .exit)) (now (ends .entry)) (now (ends .exit)) r ⌝ }
 {
     let rule = rule_of(kind, first, second);
     loading::tell(
-        worth::worth(version, rule, a, b, fan, survival, weights, more, table),
+        worth::worth(
+            version,
+            rule,
+            a,
+            b,
+            fan,
+            survival,
+            weights,
+            more,
+            boards,
+            switchboards,
+            table,
+        ),
         ends,
     )
 }

@@ -5,15 +5,14 @@ use Prim.Native.Nat.{ℕ, _≤_}
 use native.Mathlib.Nat.{le-trans}
 use Rattle.rules.specs.declared.Rating.the-variants.{Refused}
 use Rattle.rules.specs.State.{S}
-use Rattle.rules.specs.Figure.{figure}
-use Rattle.rules.specs.Asked.{Asked, unitIn, partOf, readOf}
+use Rattle.rules.specs.Asked.{Asked, unitIn, partOf, readOf, boardsOf, boardSurvivalOf, roundedOf}
 use Rattle.rules.specs.Answer.{figuresOf}
 use Rattle.rules.specs.File.{systemOf, badNumber, loadingOf}
 use Rattle.rules.proofs.Units.{unit-some, unit-most}
 use Rattle.rules.proofs.Tests.{by-test}
 use Rattle.rules.proofs.Unless.{unless-by}
-use Rattle.rules.proofs.Conditions.{figure-within}
-use Rattle.rules.proofs.Accepted.{figures-ratable}
+use Rattle.rules.proofs.Boards.{behind-within}
+use Rattle.rules.proofs.Accepted.{figures-ratable, figures-boarded}
 use Rattle.deck.specs.declared.Deck.{Deck}
 use Rattle.systems.specs.Arrays.{answerAt}
 use Rattle.systems.specs.Within.{WithinUnit}
@@ -24,7 +23,11 @@ figures-within q table =
     unless-by WithinUnit _ Refused _ tt
     (λ e.
     let units = figures-ratable q table e .2 .units in
-    let within : (up : Bool) → figure up (unitIn q) (q .rule) (partOf q) (readOf q) ≤ S = λ up. le-trans (figure-within up (unit-some (q .version)) (q .rule) _ _ units) (unit-most (q .version)) in
+    let within : (up : Bool) → roundedOf up q ≤ S =
+    λ up.
+    le-trans
+    (behind-within (unitIn q) (unit-some (q .version)) (q .rule) (partOf q) (readOf q) (boardsOf q) (boardSurvivalOf q) units (figures-boarded q table e .1 .units) up)
+    (unit-most (q .version)) in
     (within false, within true))
 
 pub answer-within : (d : Deck) (s : ℕ) → WithinUnit (answerAt d s)

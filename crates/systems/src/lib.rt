@@ -12,24 +12,54 @@ ghost use Rattle.systems.specs.Arrays.{answerAt, worthAt, Held};
 ghost use Rattle.systems.specs.Opened.{openRefusal};
 use cells::CELLS;
 use deck::Deck;
+use deck::layout;
 use rules::NO_MORE;
 use rules::Rating;
 use rules::System;
 use rules::Worth;
 
 // A system's figures over a deck's lists, in a working table of the call's own, which nobody sees after it and nobody clears.
-fn rate_lists(version: u64, system: System, survival: &[u32], weights: &[u16]) -> Rating
-    ensures { λ r. ⌜ r ≡ figuresOf (askedOf version (system .rule) (system .a) (system .b) (now (survival .entry)) (now (weights .entry)) []) (replicate cells 0) ⌝ }
+fn rate_lists(
+    version: u64,
+    system: System,
+    survival: &[u32],
+    weights: &[u16],
+    boards: &[u8],
+    switchboards: &[u32],
+) -> Rating
+    ensures { λ r. ⌜ r ≡ figuresOf (askedOf version (system .rule) (system .a) (system .b) (now (survival .entry)) (now (weights .entry)) [] (now (boards .entry)) (now (switchboards .entry))) (replicate cells 0) ⌝ }
 {
     let mut table = [0u64; CELLS];
     let rule = system.rule;
     let a = system.a;
     let b = system.b;
-    let refused = figures::refusal(version, rule, a, b, survival, weights, &NO_MORE, &table);
+    let refused = figures::refusal(
+        version,
+        rule,
+        a,
+        b,
+        survival,
+        weights,
+        &NO_MORE,
+        boards,
+        switchboards,
+        &table,
+    );
     if refused != 0 {
         return Rating::Refused(refused);
     }
-    figures::rate(version, rule, a, b, survival, weights, &NO_MORE, &mut table)
+    figures::rate(
+        version,
+        rule,
+        a,
+        b,
+        survival,
+        weights,
+        &NO_MORE,
+        boards,
+        switchboards,
+        &mut table,
+    )
 }
 
 // The figures of the system at a place of a deck, counted from 0.
@@ -38,15 +68,34 @@ pub fn rate_system(deck: Deck, s: usize) -> Rating
     ensures { λ r. ⌜ r ≡ answerAt deck s ⌝ }
 {
     let n = deck.fans as usize;
+    let placed = layout::board_fans(deck.version, n);
+    let g = deck.g as usize;
     let survival = deck.survival;
     let weights = deck.weights;
+    let boards = deck.boards;
+    let switchboards = deck.switchboards;
     let system = deck.systems[s];
-    rate_lists(deck.version, system, &survival[..n], &weights[..n])
+    rate_lists(
+        deck.version,
+        system,
+        &survival[..n],
+        &weights[..n],
+        &boards[..placed],
+        &switchboards[..g],
+    )
 }
 
 // The worth of a fan over a deck's lists, likewise.
-fn weigh_lists(version: u64, system: System, fan: u64, survival: &[u32], weights: &[u16]) -> Worth
-    ensures { λ r. ⌜ r ≡ worthOf (askedOf version (system .rule) (system .a) (system .b) (now (survival .entry)) (now (weights .entry)) []) fan (replicate cells 0) ⌝ }
+fn weigh_lists(
+    version: u64,
+    system: System,
+    fan: u64,
+    survival: &[u32],
+    weights: &[u16],
+    boards: &[u8],
+    switchboards: &[u32],
+) -> Worth
+    ensures { λ r. ⌜ r ≡ worthOf (askedOf version (system .rule) (system .a) (system .b) (now (survival .entry)) (now (weights .entry)) [] (now (boards .entry)) (now (switchboards .entry))) fan (replicate cells 0) ⌝ }
 {
     let mut working = [0u64; CELLS];
     let rule = system.rule;
@@ -61,6 +110,8 @@ fn weigh_lists(version: u64, system: System, fan: u64, survival: &[u32], weights
         survival,
         weights,
         &NO_MORE,
+        boards,
+        switchboards,
         &working,
     );
     if refused != 0 {
@@ -75,6 +126,8 @@ fn weigh_lists(version: u64, system: System, fan: u64, survival: &[u32], weights
         survival,
         weights,
         &NO_MORE,
+        boards,
+        switchboards,
         &mut working,
     )
 }
@@ -85,8 +138,12 @@ pub fn worth_system(deck: Deck, s: usize, fan: u64) -> Worth
     ensures { λ r. ⌜ r ≡ worthAt deck s fan ⌝ }
 {
     let fans = deck.fans as usize;
+    let placed = layout::board_fans(deck.version, fans);
+    let g = deck.g as usize;
     let survival = deck.survival;
     let weights = deck.weights;
+    let boards = deck.boards;
+    let switchboards = deck.switchboards;
     let system = deck.systems[s];
     weigh_lists(
         deck.version,
@@ -94,6 +151,8 @@ pub fn worth_system(deck: Deck, s: usize, fan: u64) -> Worth
         fan,
         &survival[..fans],
         &weights[..fans],
+        &boards[..placed],
+        &switchboards[..g],
     )
 }
 
@@ -106,8 +165,18 @@ pub fn rate_in(file: &[u8], s: usize) -> Rating
     let n = deck::fans_in(file);
     let survival = deck::survival_in(file);
     let weights = deck::weights_in(file);
+    let boards = deck::boards_in(file);
+    let g = deck::board_count_in(file);
+    let switchboards = deck::board_survival_in(file);
     let system = deck::system_in(file, s);
-    rate_lists(version, system, &survival[..n], &weights[..n])
+    rate_lists(
+        version,
+        system,
+        &survival[..n],
+        &weights[..n],
+        boards,
+        &switchboards[..g],
+    )
 }
 
 // The worth of a fan to it, likewise.
@@ -119,8 +188,19 @@ pub fn weigh_in(file: &[u8], s: usize, fan: u64) -> Worth
     let n = deck::fans_in(file);
     let survival = deck::survival_in(file);
     let weights = deck::weights_in(file);
+    let boards = deck::boards_in(file);
+    let g = deck::board_count_in(file);
+    let switchboards = deck::board_survival_in(file);
     let system = deck::system_in(file, s);
-    weigh_lists(version, system, fan, &survival[..n], &weights[..n])
+    weigh_lists(
+        version,
+        system,
+        fan,
+        &survival[..n],
+        &weights[..n],
+        boards,
+        &switchboards[..g],
+    )
 }
 
 // The file's own refusal, then 14 for a system that it does not have; 0 for none.

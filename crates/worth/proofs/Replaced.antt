@@ -14,8 +14,7 @@ use mir.Syntax.{w64}
 use mir.Val.{SFits}
 use borrow.Author.Tests.{not-false}
 use Rattle.rules.specs.State.{S, unitOf}
-use Rattle.rules.specs.Figure.{figure}
-use Rattle.rules.specs.Asked.{Asked, unitIn, lengthOf, partOf, readOf}
+use Rattle.rules.specs.Asked.{Asked, unitIn, lengthOf, roundedOf}
 use Rattle.rules.specs.Refusal.{most, cells, figuresRefusal}
 use Rattle.places.specs.Cells.{Kept}
 use Rattle.rules.specs.Worth.{working, failing, badFan, worthRefusal}
@@ -45,8 +44,9 @@ module _ (q : Asked) (table : List ℕ) (fan : ℕ) (none : figuresRefusal q tab
   pub kept-accepted : (later : List ℕ) → Kept table later → figuresRefusal q later ≡ 0
   unfolding figuresRefusal
   kept-accepted later k =
-      first-same 11 _ _ _ _ refl (λ eleven. first-same 1 _ _ _ _ refl (λ one. first-same 2 _ _ _ _ refl (λ two. first-same 3 _ _ _ _ refl (λ three. first-same 4 _ _ _ _ refl (λ four.
-      first-same 5 _ _ _ _ refl (λ five. first-same 6 _ _ _ _ refl (λ six. first-same 7 _ _ _ _ (ap (λ n. ltb n cells) (k .long)) (λ seven. refl))))))))
+      first-same 11 _ _ _ _ refl (λ eleven. first-same 1 _ _ _ _ refl (λ one. first-same 2 _ _ _ _ refl (λ two. first-same 3 _ _ _ _ refl (λ three.
+      first-same 20 _ _ _ _ refl (λ twenty. first-same 21 _ _ _ _ refl (λ placed. first-same 4 _ _ _ _ refl (λ four.
+      first-same 5 _ _ _ _ refl (λ five. first-same 6 _ _ _ _ refl (λ six. first-same 7 _ _ _ _ (ap (λ n. ltb n cells) (k .long)) (λ seven. refl))))))))))
       ∙ none
 
 -- ---- a worth that is not refused: neither rating is, and all four figures are within the unit
@@ -68,10 +68,10 @@ module _ (q : Asked) (fan : ℕ) (table : List ℕ) (none : worthRefusal q fan t
   pub room : cells ≤ length table
   room = figures-ratable q table accepted .2 .room
 
-  pub works-within : (up : Bool) → figure up (unitIn q) (q .rule) (partOf (working fan q)) (readOf q) ≤ unitIn q
+  pub works-within : (up : Bool) → roundedOf up (working fan q) ≤ unitIn q
   works-within = sure-within q table fan (unitIn q) accepted (le-refl _)
 
-  pub fails-within : (up : Bool) → figure up (unitIn q) (q .rule) (partOf (failing fan q)) (readOf q) ≤ unitIn q
+  pub fails-within : (up : Bool) → roundedOf up (failing fan q) ≤ unitIn q
   fails-within = sure-within q table fan 0 accepted zero-le
 
 -- a figure within the unit is within 2^30

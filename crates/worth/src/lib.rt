@@ -27,11 +27,24 @@ pub fn refusal(
     survival: &[u32],
     weights: &[u16],
     more: &[u64],
+    boards: &[u8],
+    switchboards: &[u32],
     table: &[u64],
 ) -> u64
-    ensures { λ r. ⌜ r ≡ worthRefusal (askedOf version rule a b (now (survival .entry)) (now (weights .entry)) (now (more .entry))) fan (now (table .entry)) ⌝ }
+    ensures { λ r. ⌜ r ≡ worthRefusal (askedOf version rule a b (now (survival .entry)) (now (weights .entry)) (now (more .entry)) (now (boards .entry)) (now (switchboards .entry))) fan (now (table .entry)) ⌝ }
 {
-    let own = figures::refusal(version, rule, a, b, survival, weights, more, table);
+    let own = figures::refusal(
+        version,
+        rule,
+        a,
+        b,
+        survival,
+        weights,
+        more,
+        boards,
+        switchboards,
+        table,
+    );
     let refused = own != 0;
     let outside = refusals::outside(a, fan, b);
     if refused {
@@ -68,15 +81,28 @@ fn rate_sure(
     survival: &[u32],
     weights: &[u16],
     more: &[u64],
+    boards: &[u8],
+    switchboards: &[u32],
     table: &mut [u64],
 ) -> Ends
-    requires { ⌜ Replaceable (askedOf version rule a b (now survival) (now weights) (now more)) fan p (now table) ⌝ }
-    ensures { λ r. ⌜ Worked (sure fan p (askedOf version rule a b (now (survival .entry)) (now (weights .entry)) (now (more .entry)))) (now (table .entry)) (now (table .exit)) r ⌝ }
+    requires { ⌜ Replaceable (askedOf version rule a b (now survival) (now weights) (now more) (now boards) (now switchboards)) fan p (now table) ⌝ }
+    ensures { λ r. ⌜ Worked (sure fan p (askedOf version rule a b (now (survival .entry)) (now (weights .entry)) (now (more .entry)) (now (boards .entry)) (now (switchboards .entry)))) (now (table .entry)) (now (table .exit)) r ⌝ }
 {
     let n = survival.len();
     let mut numbers = copied(survival);
     numbers[fan as usize - 1] = p;
-    figures::work(version, rule, a, b, &numbers[..n], weights, more, table)
+    figures::work(
+        version,
+        rule,
+        a,
+        b,
+        &numbers[..n],
+        weights,
+        more,
+        boards,
+        switchboards,
+        table,
+    )
 }
 
 // The difference of two figures.
@@ -97,10 +123,12 @@ pub fn weigh(
     survival: &[u32],
     weights: &[u16],
     more: &[u64],
+    boards: &[u8],
+    switchboards: &[u32],
     table: &mut [u64],
 ) -> Worth
-    requires { ⌜ worthRefusal (askedOf version rule a b (now survival) (now weights) (now more)) fan (now table) ≡ 0 ⌝ }
-    ensures { λ r. ⌜ Found (askedOf version rule a b (now (survival .entry)) (now (weights .entry)) (now (more .entry))) fan (now (table .entry)) (now (table .exit)) r ⌝ }
+    requires { ⌜ worthRefusal (askedOf version rule a b (now survival) (now weights) (now more) (now boards) (now switchboards)) fan (now table) ≡ 0 ⌝ }
+    ensures { λ r. ⌜ Found (askedOf version rule a b (now (survival .entry)) (now (weights .entry)) (now (more .entry)) (now (boards .entry)) (now (switchboards .entry))) fan (now (table .entry)) (now (table .exit)) r ⌝ }
 {
     let all = units::whole(units::is_decimal(version));
     let works = rate_sure(
@@ -113,9 +141,24 @@ pub fn weigh(
         survival,
         weights,
         more,
+        boards,
+        switchboards,
         table,
     );
-    let fails = rate_sure(version, rule, a, b, fan, 0, survival, weights, more, table);
+    let fails = rate_sure(
+        version,
+        rule,
+        a,
+        b,
+        fan,
+        0,
+        survival,
+        weights,
+        more,
+        boards,
+        switchboards,
+        table,
+    );
     let lower = less(works.low, fails.high);
     let upper = less(works.high, fails.low);
     Worth::Ends { lower, upper }
@@ -132,15 +175,41 @@ pub fn worth(
     survival: &[u32],
     weights: &[u16],
     more: &[u64],
+    boards: &[u8],
+    switchboards: &[u32],
     table: &mut [u64],
 ) -> Worth
-    ensures { λ r. ⌜ Weighed (askedOf version rule a b (now (survival .entry)) (now (weights .entry)) (now (more .entry))) fan (now (table .entry)) (now (table .exit)) r ⌝ }
+    ensures { λ r. ⌜ Weighed (askedOf version rule a b (now (survival .entry)) (now (weights .entry)) (now (more .entry)) (now (boards .entry)) (now (switchboards .entry))) fan (now (table .entry)) (now (table .exit)) r ⌝ }
 {
-    let refused = refusal(version, rule, a, b, fan, survival, weights, more, table);
+    let refused = refusal(
+        version,
+        rule,
+        a,
+        b,
+        fan,
+        survival,
+        weights,
+        more,
+        boards,
+        switchboards,
+        table,
+    );
     if refused != 0 {
         return Worth::Refused(refused);
     }
-    let worth = weigh(version, rule, a, b, fan, survival, weights, more, table);
+    let worth = weigh(
+        version,
+        rule,
+        a,
+        b,
+        fan,
+        survival,
+        weights,
+        more,
+        boards,
+        switchboards,
+        table,
+    );
     cells::zero(table, CELLS);
     worth
 }

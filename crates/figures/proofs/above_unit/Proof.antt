@@ -10,7 +10,7 @@ use lib.Dec.{ltb}
 use lib.ListN.{length, getD}
 use borrow.Author.Tests.{lt-ltb, le-ltb}
 use Rattle.rules.specs.Below.{some}
-use Rattle.rules.specs.Refusal.{aboveUnit}
+use Rattle.rules.specs.Refusal.{someAbove}
 use Rattle.figures.proofs.above_unit.Statement.{statement}
 use Rattle.figures.proofs.above_unit.Tie as tie
 
@@ -53,7 +53,7 @@ loop-again c =
     )
 
 returns : tie.Need-returns Inv-loop μ-loop
-unfolding aboveUnit
+unfolding someAbove
 returns c =
     let e : c .before .loop .i ≡ length (c .before .before .args .survival .now) = omega arith in
     rw e at (c .before .loop .inv .1)

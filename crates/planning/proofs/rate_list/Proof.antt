@@ -3,7 +3,7 @@
 use borrow.Author.Needs.{needs}
 use mathlib.Core.Path.{_≡_, sym, ap, _∙_}
 use mathlib.Core.Bool.{false}
-use mathlib.Core.List.{map}
+use mathlib.Core.List.{[], map}
 use Prim.Native.Nat.{_≤_}
 use native.Mathlib.Omega.{arith}
 use lib.ListN.{length, take, length-map}
@@ -61,6 +61,12 @@ array-share-prefix-numbers c = omega (arith, c .numbers-of .ensures .long, small
 slice-aggregate-work : tie.Need-slice-aggregate-work
 slice-aggregate-work c = sym (length-take-le _ _ (array-share-prefix-numbers (c .before)))
 
+slice-aggregate-work-2 : tie.Need-slice-aggregate-work-2
+slice-aggregate-work-2 c = search needs
+
+slice-aggregate-work-3 : tie.Need-slice-aggregate-work-3
+slice-aggregate-work-3 c = search needs
+
 -- the numbers handed on
 handed : (c : tie.After-numbers-of) → let x = c .before .before .before .before .before .before .args in
     let list = take (length (x .survival .now)) (c .numbers-of .result) in
@@ -72,7 +78,7 @@ handed c =
 
 work-requires : tie.Need-work-requires
 work-requires c κs =
-    let at = c .before .before in
+    let at = c .before .before .before .before in
     let start = at .before .before .before .before .before .before in
     planned-accepted _ _ (start .pre) (start .args .up) _ (handed at .0 ∙ sym (length-is start)) (handed at .1)
 
@@ -81,9 +87,9 @@ same-length c = search needs
 
 returns : tie.Need-returns
 returns c =
-    let at = c .before .before .before .before .before in
+    let at = c .before .before .before .before .before .before .before in
     let x = at .before .before .before .before .before .before .args in
-    worked-same 1 (x .rule) (x .a) (x .b) _ _ (x .weights .now) (x .more .now)
+    worked-same 1 (x .rule) (x .a) (x .b) _ _ (x .weights .now) (x .more .now) [] []
     (handed at .1 ∙ map-stretch (wholeOf (x .up)) (x .a) (x .b) (bitsOf (x .survival .now))) (c .before .before .work .ensures)
 
 pub rate-list-spec : {M : Type 1} → statement M
@@ -98,6 +104,8 @@ rate-list-spec =
     numbers-of-requires
     array-share-prefix-numbers
     slice-aggregate-work
+    slice-aggregate-work-2
+    slice-aggregate-work-3
     work-requires
     same-length
     returns)

@@ -1,11 +1,21 @@
--- `systems::rate_system` meets its contract: the first n entries of the arrays are lent as the deck's lists. Assumes nothing.
-use mathlib.Core.Path.{sym}
+-- `systems::rate_system` meets its contract: the first entries of the arrays are lent as the deck's lists. Assumes nothing.
+use mathlib.Core.Path.{sym, ap, _∙_}
+use mathlib.Core.List.{[]}
+use native.Mathlib.Omega.{arith}
+use lib.ListN.{getD, take, replicate}
 use lib.Seq.{length-take-le}
+use Rattle.rules.specs.Asked.{askedOf}
+use Rattle.rules.specs.Refusal.{cells}
+use Rattle.rules.specs.Answer.{figuresOf}
 use Rattle.rules.specs.File.{systemOf}
+use Rattle.deck.specs.Read.{noSystem}
 use Rattle.systems.specs.Arrays.{answerAt}
 use borrow.Author.Needs.{needs}
 use Rattle.systems.proofs.rate_system.Statement.{statement}
 use Rattle.systems.proofs.rate_system.Tie as tie
+
+board-fans-requires : tie.Need-board-fans-requires
+board-fans-requires c κs = search needs
 
 mul-system : tie.Need-mul-system
 mul-system c = search needs
@@ -17,30 +27,54 @@ array-share-prefix-survival : tie.Need-array-share-prefix-survival
 array-share-prefix-survival c = search needs
 
 slice-aggregate-rate-lists : tie.Need-slice-aggregate-rate-lists
-slice-aggregate-rate-lists c = sym (length-take-le _ _ (c .before .before .before .before .pre .survival))
+slice-aggregate-rate-lists c = sym (length-take-le _ _ (c .before .before .before .before .before .before .before .pre .survival))
 
 array-share-prefix-weights : tie.Need-array-share-prefix-weights
 array-share-prefix-weights c = search needs
 
 slice-aggregate-rate-lists-2 : tie.Need-slice-aggregate-rate-lists-2
-slice-aggregate-rate-lists-2 c = sym (length-take-le _ _ (c .before .before .before .before .before .pre .weights))
+slice-aggregate-rate-lists-2 c = sym (length-take-le _ _ (c .before .before .before .before .before .before .before .before .pre .weights))
+
+array-share-prefix-boards : tie.Need-array-share-prefix-boards
+array-share-prefix-boards c = search needs
+
+slice-aggregate-rate-lists-3 : tie.Need-slice-aggregate-rate-lists-3
+slice-aggregate-rate-lists-3 c = sym (length-take-le _ _ (array-share-prefix-boards (c .before)))
+
+array-share-prefix-switchboards : tie.Need-array-share-prefix-switchboards
+array-share-prefix-switchboards c = search needs
+
+slice-aggregate-rate-lists-4 : tie.Need-slice-aggregate-rate-lists-4
+slice-aggregate-rate-lists-4 c = sym (length-take-le _ _ (c .before .before .before .before .before .before .before .before .before .before .pre .switchboards))
 
 rate-lists-requires : tie.Need-rate-lists-requires
 rate-lists-requires c κs = search needs
 
 returns : tie.Need-returns
 unfolding answerAt systemOf
-returns c = c .rate-lists .ensures
+returns c =
+    let d = c .before .before .before .before .before .before .before .before .before .before .before .args .t1 in
+    let y = getD (d .systems) (c .before .before .before .before .before .before .before .before .before .before .before .args .s) noSystem in
+    c .rate-lists .ensures
+    ∙ ap
+    (λ k.
+    figuresOf (askedOf (d .version) (y .rule) (y .a) (y .b) (take (d .fans) (d .survival)) (take (d .fans) (d .weights)) [] (take k (d .boards)) (take (d .g) (d .switchboards))) (replicate cells 0))
+    (c .before .before .before .before .before .before .before .before .before .before .board-fans .ensures .0)
 
 pub rate-system-spec : {M : Type 1} → statement M
 rate-system-spec =
     tie.close
     (tie.spec
+    board-fans-requires
     mul-system
     element-copy-out-system
     array-share-prefix-survival
     slice-aggregate-rate-lists
     array-share-prefix-weights
     slice-aggregate-rate-lists-2
+    array-share-prefix-boards
+    slice-aggregate-rate-lists-3
+    array-share-prefix-switchboards
+    slice-aggregate-rate-lists-4
     rate-lists-requires
     returns)

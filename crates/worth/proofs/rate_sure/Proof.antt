@@ -10,35 +10,35 @@ use Rattle.worth.proofs.rate_sure.Statement.{statement}
 use Rattle.worth.proofs.rate_sure.Tie as tie
 
 copied-requires : tie.Need-copied-requires
-copied-requires c κs = listed _ _ 0 (c .before .before .before .before .pre .accepted)
+copied-requires c κs = listed _ _ 0 (c .before .before .before .before .before .before .pre .accepted)
 
 sub-numbers : tie.Need-sub-numbers
 sub-numbers c =
-    let start = c .before .before .before .before .before in
+    let start = c .before .before .before .before .before .before .before in
     let pre = start .pre in
     omega (arith, placed _ _ (start .args .fan) (pre .accepted) (pre .inside))
 
 mul-numbers : tie.Need-mul-numbers
 mul-numbers c =
-    let start = c .before .before .before .before .before in
+    let start = c .before .before .before .before .before .before .before in
     let pre = start .pre in
     omega (arith, placed _ _ (start .args .fan) (pre .accepted) (pre .inside), listed _ _ 0 (pre .accepted))
 
 array-write-numbers : tie.Need-array-write-numbers
 array-write-numbers c =
-    let start = c .before .before .before .before .before in
+    let start = c .before .before .before .before .before .before .before in
     let pre = start .pre in
     omega (arith, placed _ _ (start .args .fan) (pre .accepted) (pre .inside), listed _ _ 0 (pre .accepted))
 
 array-share-prefix-numbers : tie.Need-array-share-prefix-numbers
-array-share-prefix-numbers c = simp length-set (omega (arith, listed _ _ 0 (c .before .before .before .before .before .pre .accepted)))
+array-share-prefix-numbers c = simp length-set (omega (arith, listed _ _ 0 (c .before .before .before .before .before .before .before .pre .accepted)))
 
 slice-aggregate-work : tie.Need-slice-aggregate-work
 slice-aggregate-work c = sym (length-take-le _ _ (array-share-prefix-numbers (c .before)))
 
 work-requires : tie.Need-work-requires
 work-requires c κs =
-    let start = c .before .before .before .before .before .before .before in
+    let start = c .before .before .before .before .before .before .before .before .before in
     let x = start .args in
     let place = placed _ _ (x .fan) (start .pre .accepted) (start .pre .inside) in
     rw (front-replaced _ (x .survival .now) (x .fan) (x .p) (c .before .before .copied .ensures) (omega (arith, place)))
@@ -49,7 +49,7 @@ same-length c = search needs
 
 returns : tie.Need-returns
 returns c =
-    let start = c .before .before .before .before .before .before .before .before .before .before in
+    let start = c .before .before .before .before .before .before .before .before .before .before .before .before in
     let x = start .args in
     let place = placed _ _ (x .fan) (start .pre .accepted) (start .pre .inside) in
     rw (front-replaced _ (x .survival .now) (x .fan) (x .p) (c .before .before .before .before .before .copied .ensures) (omega (arith, place))) at (c .before .before .work .ensures)

@@ -26,13 +26,13 @@ cast-rate-sure c = omega (arith, c .whole .ensures, whole-most (c .before .is-de
 
 rate-sure-requires : tie.Need-rate-sure-requires
 rate-sure-requires c κs =
-    let start = c .before .before .before .before .before .before .before in
+    let start = c .before .before .before .before .before .before .before .before .before in
     let fan = start .args .fan in
     record { accepted = accepted _ fan _ (start .pre); inside = chosen _ fan _ (start .pre); small = rw (c .before .whole .ensures, c .before .before .is-decimal .ensures) (le-refl _) }
 
 rate-sure-requires-2 : tie.Need-rate-sure-requires-2
 rate-sure-requires-2 c κs =
-    let start = c .before .before .before .before .before .before .before .before .before .before .before in
+    let start = c .before .before .before .before .before .before .before .before .before .before .before .before .before in
     let fan = start .args .fan in
     record {
       accepted = second-accepted _ fan _ (start .pre) _ (c .before .before .before .rate-sure .ensures .kept);
@@ -42,7 +42,7 @@ rate-sure-requires-2 c κs =
 
 less-requires : tie.Need-less-requires
 less-requires c κs =
-    let start = c .before .before .before .before .before .before .before .before .before .before .before .before .before .before in
+    let start = c .before .before .before .before .before .before .before .before .before .before .before .before .before .before .before .before in
     let fan = start .args .fan in
     let works = rw (c .before .before .before .before .before .before .before .before .whole .ensures, c .before .before .before .before .before .before .before .before .before .is-decimal .ensures) at (c .before .before .before .before .before .before .rate-sure .ensures) in
     let fails = c .before .before .rate-sure2 .ensures in
@@ -50,7 +50,7 @@ less-requires c κs =
 
 less-requires-2 : tie.Need-less-requires-2
 less-requires-2 c κs =
-    let start = c .before .before .before .before .before .before .before .before .before .before .before .before .before .before .before in
+    let start = c .before .before .before .before .before .before .before .before .before .before .before .before .before .before .before .before .before in
     let fan = start .args .fan in
     let works = rw (c .before .before .before .before .before .before .before .before .before .whole .ensures, c .before .before .before .before .before .before .before .before .before .before .is-decimal .ensures) at (c .before .before .before .before .before .before .before .rate-sure .ensures) in
     let fails = c .before .before .before .rate-sure2 .ensures in
@@ -61,7 +61,7 @@ same-length c = search needs
 
 returns : tie.Need-returns
 returns c =
-    let start = c .before .before .before .before .before .before .before .before .before .before .before .before .before .before .before .before in
+    let start = c .before .before .before .before .before .before .before .before .before .before .before .before .before .before .before .before .before .before in
     let fan = start .args .fan in
     let works = rw (c .before .before .before .before .before .before .before .before .before .before .whole .ensures, c .before .before .before .before .before .before .before .before .before .before .before .is-decimal .ensures) at (c .before .before .before .before .before .before .before .before .rate-sure .ensures) in
     let fails = c .before .before .before .before .rate-sure2 .ensures in

@@ -29,7 +29,7 @@ weigh-requires c κs = sym (c .before .before .refusal .ensures) ∙ c .before .
 
 zero-requires : tie.Need-zero-requires
 zero-requires c κs =
-    let x = c .before .before .before .before .before .before .before .before .before .before .before .before .args in
+    let x = c .before .before .before .before .before .before .before .before .before .before .before .before .before .before .args in
     let none = sym (c .before .before .before .before .before .before .refusal .ensures) ∙ c .before .before .before .before .before .if1 .left in
     omega (arith, room _ (x .fan) _ none, c .before .before .before .weigh .ensures .kept .long)
 

@@ -1,0 +1,2 @@
+-- The laws of the combination, as the program works it.
+pub mod Working

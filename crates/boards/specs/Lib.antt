@@ -1,0 +1,2 @@
+-- What the combination of boards cites.
+pub mod Combining
