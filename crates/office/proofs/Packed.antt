@@ -1,4 +1,4 @@
--- One number carries every answer of the writer: a file is at most 724 bytes long and a refusal at most 16, so the number fits 64 bits and tells the
+-- One number carries every answer of the writer: a file is at most 812 bytes long and a refusal at most 21, so the number fits 64 bits and tells the
 -- answer. The contract settles the outcome. Assumes nothing.
 use mathlib.Core.Path.{_≡_, sym, ap, _∙_}
 use mathlib.Core.List.{List}
@@ -9,22 +9,20 @@ use Rattle.rules.specs.declared.Writing.the-variants.{Written, Refused}
 use Rattle.rules.specs.Writing.{Typed, writeRefusal, writingOf}
 use Rattle.rules.proofs.Accepted.{first-le, first-none}
 use Rattle.rules.proofs.Unless.{unless-by}
-use Rattle.writer.proofs.Writable.{bytes-long, writable}
+use Rattle.writer.proofs.Writable.{writable, longest}
 use Rattle.office.specs.Outcome.{mostRefusal, packedWriting, Packable, Filed}
 
 refusal-le : (t : Typed) (room : List ℕ) → writeRefusal t room ≤ mostRefusal
 unfolding writeRefusal
 refusal-le t room =
     first-le 11 _ _ (omega arith) (first-le 2 _ _ (omega arith) (first-le 5 _ _ (omega arith) (first-le 12 _ _ (omega arith)
-    (first-le 16 _ _ (omega arith) (first-none mostRefusal)))))
+    (first-le 20 _ _ (omega arith) (first-le 21 _ _ (omega arith) (first-le 16 _ _ (omega arith) (first-none mostRefusal)))))))
 
 pub packable : (t : Typed) (room : List ℕ) → Packable (writingOf t room)
 unfolding writingOf
 packable t room =
     unless-by Packable _ Refused _ (refusal-le t room)
-    (λ none.
-    let w = writable t room none in
-    omega (arith, bytes-long t (w .weighed), w .most-fans, w .most-systems))
+    (λ none. longest t room (writable t room none))
 
 -- the number tells the answer
 pub writing-tells : (r q : Writing) → Packable r → Packable q → packedWriting r ≡ packedWriting q → r ≡ q

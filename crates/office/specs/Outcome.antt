@@ -9,7 +9,7 @@ use Rattle.rules.specs.declared.Rating.{Rating}
 use Rattle.rules.specs.declared.Rating.the-variants as rating
 use Rattle.rules.specs.declared.Writing.{Writing}
 use Rattle.rules.specs.declared.Writing.the-variants.{Written, Refused}
-use Rattle.rules.specs.Refusal.{cells}
+use Rattle.rules.specs.Refusal.{lastVersion, mostBoards, cells}
 use Rattle.rules.specs.File.{mostFans, mostSystems, packedRefusal, packed, fileLength}
 use Rattle.rules.specs.Writing.{Typed, writingOf, roomWritten}
 use Rattle.rules.specs.Doubles.{Planned, plannedRating, exportOf}
@@ -23,10 +23,10 @@ packedWriting (Refused number) = packedRefusal number
 
 -- the writer's highest refusal, the longest file, and the answers that one number carries
 abbrev pub mostRefusal : ℕ
-mostRefusal = 16
+mostRefusal = 21
 
 abbrev pub longest : ℕ
-longest = fileLength mostFans mostSystems
+longest = fileLength lastVersion mostFans mostBoards mostSystems
 
 abbrev pub Packable : Writing → Type 0
 Packable (Written size) = size ≤ longest

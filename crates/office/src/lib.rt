@@ -21,18 +21,28 @@ fn pack(writing: Writing) -> u64
 }
 
 // What the C program calls: `uint64_t foambeetle_write(uint64_t version, const uint32_t *survival, size_t n, const uint16_t *weights, size_t w,
-// const uint16_t *systems, size_t s, uint8_t *room, size_t length)`.
+// const uint8_t *boards, size_t b, const uint32_t *board_survival, size_t g, const uint16_t *systems, size_t s, uint8_t *room, size_t length)`.
 #[no_mangle]
 pub extern "C" fn foambeetle_write(
     version: u64,
     survival: &[u32],
     weights: &[u16],
+    boards: &[u8],
+    switchboards: &[u32],
     systems: &[u16],
     room: &mut [u8],
 ) -> u64
-    ensures { λ r. ⌜ Filed (typedOf version (now (survival .entry)) (now (weights .entry)) (now (systems .entry))) (now (room .entry)) (now (room .exit)) r ⌝ }
+    ensures { λ r. ⌜ Filed (typedOf version (now (survival .entry)) (now (weights .entry)) (now (boards .entry)) (now (switchboards .entry)) (now (systems .entry))) (now (room .entry)) (now (room .exit)) r ⌝ }
 {
-    pack(writer::write_deck(version, survival, weights, systems, room))
+    pack(writer::write_deck(
+        version,
+        survival,
+        weights,
+        boards,
+        switchboards,
+        systems,
+        room,
+    ))
 }
 
 // A chance as C gets it: 0 and both ends, or the refusal and the ends as they were.

@@ -21,19 +21,23 @@ use Rattle.deck.proofs.File.{deck-back, file-back, deck-bounds}
 use Rattle.deck.proofs.Kept.{read-file}
 use Rattle.deck.proofs.Systems.{numbers-length, listed-numbers, listed-systems}
 use Rattle.writer.specs.Outcome.{Wrote}
-use Rattle.writer.proofs.Writable.{count, count-is, writable}
+use Rattle.deck.proofs.Versions.{under-read}
+use Rattle.writer.proofs.Writable.{count, count-is, counted-read, placed-read, read-twice, writable}
 use Rattle.writer.proofs.Outcome.{writing-is}
 
 -- numbers as their fields hold them: lists of u32 and u16
 pub record Typable (t : Typed) : Type 0 where
   pub survival-fits : Under (2 ^ 32) (t .survival)
   pub weights-fit : Under (2 ^ 16) (t .weights)
+  pub boards-fit : Under (2 ^ 32) (t .boardSurvival)
   pub numbers-fit : Under (2 ^ 16) (t .numbers)
 
 module _ (t : Typed) (room : List ℕ) (small : Typable t) (none : writeRefusal t room ≡ 0) where
   typed-bounds : Bounds (deckOf t)
   typed-bounds =
       let w = writable t room none in
+      let v = t .version in
+      let n = length (t .survival) in
       record {
         versioned = w .versioned;
         some-fan = w .some-fan;
@@ -41,8 +45,13 @@ module _ (t : Typed) (room : List ℕ) (small : Typable t) (none : writeRefusal 
         weighed = w .weighed;
         some-system = omega (arith, count-is t, w .some-system);
         most-systems = omega (arith, count-is t, w .most-systems);
+        counted = counted-read v n (t .boards) (t .boardSurvival) (w .counted) (w .placed);
+        placed = placed-read v n (t .boards) (t .boardSurvival) (w .counted) (w .placed);
+        own-boards = read-twice v (t .boards);
+        own-numbers = read-twice v (t .boardSurvival);
         survival-fits = small .survival-fits;
         weights-fit = small .weights-fit;
+        boards-fit = under-read v (omega arith) (small .boards-fit);
         systems-fit = rw (listed-numbers (t .numbers) (w .whole)) (small .numbers-fit);
       }
 
@@ -60,8 +69,15 @@ module _ (t : Typed) (room : List ℕ) (small : Typable t) (none : writeRefusal 
   written-read after r is read handed = read-file (deckOf t) typed-bounds read (rw (front after r is) at handed)
 
 -- a deck typed as it stands is that deck, and not refused where the room is long enough
-typed-back : (d : Deck) → deckOf (typedFrom d) ≡ d
-typed-back d = λ x. record { version = d .version; survival = d .survival; weights = d .weights; systems = listed-systems (d .systems) x }
+typed-back : (d : Deck) → Bounds d → deckOf (typedFrom d) ≡ d
+typed-back d ok = λ x. record {
+  version = d .version;
+  survival = d .survival;
+  weights = d .weights;
+  boards = ok .own-boards x;
+  boardSurvival = ok .own-numbers x;
+  systems = listed-systems (d .systems) x;
+}
 
 not-refused : (d : Deck) (room : List ℕ) → Bounds d → length (fileOf d) ≤ length room → writeRefusal (typedFrom d) room ≡ 0
 unfolding writeRefusal firstOf
@@ -77,7 +93,9 @@ not-refused d room ok fits =
       eq-eqb _ _ whole,
       le-leb 1 (count t) (omega (arith, m, ok .some-system)),
       le-leb (count t) mostSystems (omega (arith, m, ok .most-systems)),
-      le-ltb (length room) (length (bytesFor t)) (rw (typed-back d) fits),
+      ok .counted,
+      ok .placed,
+      le-ltb (length room) (length (bytesFor t)) (rw (typed-back d ok) fits),
     )
 
 -- an accepted file, read and written again
@@ -86,7 +104,7 @@ module _ (bytes room : List ℕ) (small : Bytes bytes) (accepted : fileRefusal b
   again = typedFrom (deckIn bytes)
 
   pub same-bytes : bytesFor again ≡ bytes
-  same-bytes = ap fileOf (typed-back (deckIn bytes)) ∙ file-back bytes small accepted
+  same-bytes = ap fileOf (typed-back (deckIn bytes) (deck-bounds bytes small accepted)) ∙ file-back bytes small accepted
 
   again-accepted : writeRefusal again room ≡ 0
   again-accepted = not-refused (deckIn bytes) room (deck-bounds bytes small accepted) (rw (file-back bytes small accepted) fits)

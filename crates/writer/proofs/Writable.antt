@@ -1,19 +1,24 @@
 -- What is typed and not refused: every check held, one by one; and how long its file is. Assumes nothing.
-use mathlib.Core.Path.{_≡_, _∙_}
-use mathlib.Core.Bool.{false}
-use mathlib.Core.List.{List}
-use Prim.Native.Nat.{ℕ, _/_, _%_, _≤_}
+use mathlib.Core.Path.{_≡_, refl, _∙_}
+use mathlib.Core.Bool.{Bool, true, false, cond, not, _&&_, _||_}
+use mathlib.Core.List.{List, []}
+use native.Mathlib.Omega.{arith}
+use Prim.Native.Nat.{ℕ, _-_, _/_, _%_, _≤_}
 use lib.Dec.{eqb}
-use lib.ListN.{length}
+use lib.ListN.{length, take, drop}
+use lib.Seq.{take-all}
 use borrow.Author.Tests.{ltb-false, eqb-true, not-false}
-use Rattle.rules.specs.Refusal.{badVersion}
-use Rattle.rules.specs.File.{mostFans, mostSystems, perSystem, systemsOf, fileLength}
+use Rattle.rules.specs.Below.{within}
+use Rattle.rules.specs.Boards.{hasBoards, boardsRead}
+use Rattle.rules.specs.Refusal.{lastVersion, badVersion, mostBoards, someAbove, badBoards, misplaced}
+use Rattle.rules.specs.File.{mostFans, mostSystems, perSystem, boardFans, systemsOf, fileLength}
 use Rattle.rules.specs.Writing.{Typed, deckOf, bytesFor, badFives, writeRefusal}
 use Rattle.rules.proofs.Lists.{below-length}
-use Rattle.rules.proofs.Tests.{both}
+use Rattle.rules.proofs.Tests.{both, neither}
 use Rattle.rules.proofs.EachKind.{within-true}
 use Rattle.rules.proofs.Accepted.{none-first}
 use Rattle.deck.proofs.File.{file-length}
+use Rattle.deck.proofs.Versions.{header-bounds, fans-bound}
 
 -- how many systems are typed
 abbrev pub count : Typed → ℕ
@@ -23,8 +28,63 @@ pub count-is : (t : Typed) → length (deckOf t .systems) ≡ count t
 unfolding systemsOf
 count-is t = below-length (count t) _
 
-pub bytes-long : (t : Typed) → length (t .weights) ≡ length (t .survival) → length (bytesFor t) ≡ fileLength (length (t .survival)) (count t)
-bytes-long t e = file-length (deckOf t) ∙ rw (e, count-is t)
+-- how many boards are read
+abbrev pub boardsTyped : Typed → ℕ
+boardsTyped t = length (boardsRead (t .version) (t .boardSurvival))
+
+pub bytes-long : (t : Typed) → length (t .weights) ≡ length (t .survival) → length (boardsRead (t .version) (t .boards)) ≡ boardFans (t .version) (length (t .survival))
+    → length (bytesFor t) ≡ fileLength (t .version) (length (t .survival)) (boardsTyped t) (count t)
+bytes-long t e f = file-length (deckOf t) ∙ rw (e, f, count-is t)
+
+-- 20 and 21 not given: of lists as they are read
+module _ (version n : ℕ) (boards numbers : List ℕ) (counted : badBoards version (length numbers) ≡ false) (placed : misplaced version n (length numbers) boards boards ≡ false) where
+  pub few-typed : length (boardsRead version numbers) ≤ mostBoards
+  few-typed = go (hasBoards version) counted
+    where
+      go : (b : Bool) → b && not (within 1 (length numbers) mostBoards) ≡ false → length (cond b numbers []) ≤ mostBoards
+      go true h = within-true 1 (length numbers) mostBoards (not-false _ h) .1
+      go false h = omega arith
+
+  pub fans-typed : length (boardsRead version boards) ≡ boardFans version n
+  fans-typed = go (hasBoards version) placed
+    where
+      go : (b : Bool) → b && (not (eqb (length boards) n) || someAbove (length numbers) boards) ≡ false → length (cond b boards []) ≡ cond b n 0
+      go true h = eqb-true (length boards) n (not-false _ (neither (not (eqb (length boards) n)) _ h .0))
+      go false h = refl
+
+  pub counted-read : badBoards version (length (boardsRead version numbers)) ≡ false
+  counted-read = go (hasBoards version) counted
+    where
+      go : (b : Bool) → b && not (within 1 (length numbers) mostBoards) ≡ false → b && not (within 1 (length (cond b numbers [])) mostBoards) ≡ false
+      go true h = h
+      go false h = refl
+
+  pub placed-read : misplaced version n (length (boardsRead version numbers)) (boardsRead version boards) (boardsRead version boards) ≡ false
+  placed-read = go (hasBoards version) placed
+    where
+      go : (b : Bool) → b && (not (eqb (length boards) n) || someAbove (length numbers) boards) ≡ false
+          → b && (not (eqb (length (cond b boards [])) n) || someAbove (length (cond b numbers [])) (cond b boards [])) ≡ false
+      go true h = h
+      go false h = refl
+
+  pub listed : hasBoards version ≡ true → length boards ≡ n
+  listed e = eqb-true (length boards) n (not-false _ (neither (not (eqb (length boards) n)) _ (rw e at placed) .0))
+
+  -- the board numbers of all fans, as they are read
+  pub whole-read : boardsRead version (take (n - 0) (drop 0 boards)) ≡ boardsRead version boards
+  whole-read = go (hasBoards version) refl
+    where
+      go : (b : Bool) → hasBoards version ≡ b → cond b (take (n - 0) (drop 0 boards)) [] ≡ cond b boards []
+      go true e = take-all (n - 0) boards (omega (arith, listed e))
+      go false e = refl
+
+-- what is read of a list that is read is that
+pub read-twice : (version : ℕ) (xs : List ℕ) → boardsRead version (boardsRead version xs) ≡ boardsRead version xs
+read-twice version xs = go (hasBoards version)
+  where
+    go : (b : Bool) → cond b (cond b xs []) [] ≡ cond b xs []
+    go true = refl
+    go false = refl
 
 -- 12 not given
 pub fives : (numbers : ℕ) → badFives numbers ≡ false
@@ -42,6 +102,8 @@ pub record Writable (t : Typed) (room : List ℕ) : Type 0 where
   pub whole : length (t .numbers) % perSystem ≡ 0
   pub some-system : 1 ≤ count t
   pub most-systems : count t ≤ mostSystems
+  pub counted : badBoards (t .version) (length (t .boardSurvival)) ≡ false
+  pub placed : misplaced (t .version) (length (t .survival)) (length (t .boardSurvival)) (t .boards) (t .boards) ≡ false
   pub fits : length (bytesFor t) ≤ length room
 
 pub writable : (t : Typed) (room : List ℕ) → writeRefusal t room ≡ 0 → Writable t room
@@ -51,7 +113,9 @@ writable t room e =
     let size = none-first 1 _ _ (version .1) in
     let weights = none-first 4 _ _ (size .1) in
     let twelve = none-first 11 _ _ (weights .1) in
-    let short = none-first 15 _ _ (twelve .1) in
+    let boards = none-first 19 _ _ (twelve .1) in
+    let fans-placed = none-first 20 _ _ (boards .1) in
+    let short = none-first 15 _ _ (fans-placed .1) in
     let fans = within-true 1 (length (t .survival)) mostFans (not-false _ (size .0)) in
     let systems = fives (length (t .numbers)) (twelve .0) in
     record {
@@ -62,5 +126,17 @@ writable t room e =
       whole = systems .0;
       some-system = systems .1;
       most-systems = systems .2;
+      counted = boards .0;
+      placed = fans-placed .0;
       fits = ltb-false _ _ (short .0);
     }
+
+-- the longest file is that of the last version, of which every count is the most
+pub longest : (t : Typed) (room : List ℕ) → Writable t room → length (bytesFor t) ≤ fileLength lastVersion mostFans mostBoards mostSystems
+longest t room w =
+    let n = length (t .survival) in
+    let few = few-typed (t .version) n (t .boards) (t .boardSurvival) (w .counted) (w .placed) in
+    let placed = fans-typed (t .version) n (t .boards) (t .boardSurvival) (w .counted) (w .placed) in
+    let header = header-bounds (t .version) in
+    let listed = fans-bound (t .version) n in
+    omega (arith, bytes-long t (w .weighed) placed, w .most-fans, w .most-systems)

@@ -10,6 +10,14 @@ const BYTE: u16 = 256;
 
 const TWO_BYTES: u32 = 65536;
 
+// A number in one byte.
+fn put1(x: u8, room: &mut [u8], at: usize)
+    requires { ⌜ at + 1 ≤ length (now room) ⌝ }
+    ensures { λ _. ⌜ now (room .exit) ≡ laid at (bytesOf 1 x) (now (room .entry)) ⌝ }
+{
+    room[at] = x;
+}
+
 // A number in two bytes, lowest first.
 fn put2(x: u16, room: &mut [u8], at: usize)
     requires { ⌜ at + 2 ≤ length (now room) ⌝ }
@@ -30,7 +38,19 @@ fn put4(x: u32, room: &mut [u8], at: usize)
     put2((x / TWO_BYTES) as u16, room, at + 2);
 }
 
-// The numbers of a list in two bytes each, one after the other.
+// The numbers of a list in a byte each, one after the other.
+pub fn put_all1(numbers: &[u8], room: &mut [u8], at: usize)
+    requires { ⌜ at + 1 * length (now numbers) ≤ length (now room) ⌝ }
+    ensures { λ _. ⌜ now (room .exit) ≡ laid at (allBytes 1 (now (numbers .entry))) (now (room .entry)) ⌝ }
+{
+    let mut i: usize = 0;
+    while i < numbers.len() {
+        put1(numbers[i], room, at + 1 * i);
+        i += 1;
+    }
+}
+
+// In two bytes each.
 pub fn put_all2(numbers: &[u16], room: &mut [u8], at: usize)
     requires { ⌜ at + 2 * length (now numbers) ≤ length (now room) ⌝ }
     ensures { λ _. ⌜ now (room .exit) ≡ laid at (allBytes 2 (now (numbers .entry))) (now (room .entry)) ⌝ }

@@ -1,64 +1,124 @@
--- `writer::put_file` meets its contract: header, survival numbers, weights and systems, each laid where the layout says. Assumes nothing.
-use mathlib.Core.Path.{_≡_}
+-- `writer::put_file` meets its contract: header, survival numbers, weights, board bytes, boards' numbers and systems, each laid where the layout says. Assumes nothing.
+use mathlib.Core.Path.{_≡_, ap, _∙_}
 use mathlib.Core.List.{List}
-use Prim.Native.Nat.{ℕ, _≤_}
+use Prim.Native.Nat.{ℕ, _-_, _≤_}
 use native.Mathlib.Omega.{arith}
-use lib.ListN.{length}
-use borrow.Author.Needs.{needs}
+use lib.ListN.{length, take, drop}
+use lib.Seq.{take-all}
+use Rattle.rules.specs.Boards.{boardsRead}
 use Rattle.rules.specs.File.{fileLength}
-use Rattle.rules.specs.Writing.{Typed, writeRefusal}
-use Rattle.writer.proofs.Writable.{count, bytes-long, Writable, writable}
+use Rattle.rules.specs.Writing.{Typed, typedOf, writeRefusal}
+use Rattle.deck.proofs.Versions.{fans-bound}
+use Rattle.writer.proofs.Writable.{count, boardsTyped, bytes-long, few-typed, fans-typed, listed, Writable, writable, whole-read}
 use Rattle.writer.proofs.Parts.{file-laid}
+use borrow.Author.Needs.{needs}
 use Rattle.writer.proofs.put_file.Statement.{statement}
 use Rattle.writer.proofs.put_file.Tie as tie
 
 -- what is not refused, and how long its file is
-sound : (t : Typed) (room : List ℕ) → writeRefusal t room ≡ 0 → Writable t room × (fileLength (length (t .survival)) (count t) ≤ length room)
+sound : (t : Typed) (room : List ℕ) → writeRefusal t room ≡ 0
+    → Writable t room × (fileLength (t .version) (length (t .survival)) (boardsTyped t) (count t) ≤ length room)
 sound t room none =
     let w = writable t room none in
-    (w, omega (arith, bytes-long t (w .weighed), w .fits))
+    let placed = fans-typed (t .version) (length (t .survival)) (t .boards) (t .boardSurvival) (w .counted) (w .placed) in
+    (w, omega (arith, bytes-long t (w .weighed) placed, w .fits))
+
+boards-read-requires : tie.Need-boards-read-requires
+boards-read-requires c κs =
+    let s = sound _ _ (c .before .before .before .before .before .before .pre) in
+    let x = c .before .before .before .before .before .before .args in
+    let w = s .0 in
+    (omega arith, λ has. omega (arith, listed (x .version) _ (x .boards .now) (x .switchboards .now) (w .counted) (w .placed) has))
+
+numbers-read-requires : tie.Need-numbers-read-requires
+numbers-read-requires c κs = search needs
 
 put-header-requires : tie.Need-put-header-requires
 put-header-requires c κs =
-    let s = sound _ _ (c .before .before .before .before .before .pre) in
-    record { versioned = s .0 .versioned; few = s .0 .most-fans; fewer = s .0 .most-systems; fits = omega (arith, s .1) }
+    let s = sound _ _ (c .before .before .before .before .before .before .before .before .before .pre) in
+    let x = c .before .before .before .before .before .before .before .before .before .args in
+    let w = s .0 in
+    let few = few-typed (x .version) (length (x .survival .now)) (x .boards .now) (x .switchboards .now) (w .counted) (w .placed) in
+    record { versioned = w .versioned; few = w .most-fans; boards = rw (c .before .numbers-read .ensures) few; fewer = w .most-systems; fits = omega (arith, s .1) }
+
+header-length-requires : tie.Need-header-length-requires
+header-length-requires c κs = search needs
 
 put-all4-requires : tie.Need-put-all4-requires
-put-all4-requires c κs = omega (arith, sound _ _ (c .before .before .before .before .before .before .before .before .before .pre) .1)
+put-all4-requires c κs =
+    let s = sound _ _ (c .before .before .before .before .before .before .before .before .before .before .before .before .before .before .pre) in
+    omega (arith, c .header-length .ensures .0, s .1)
 
 weights-offset-requires : tie.Need-weights-offset-requires
-weights-offset-requires c κs = omega (arith, sound _ _ (c .before .before .before .before .before .before .before .before .before .before .before .before .before .pre) .0 .most-fans)
+weights-offset-requires c κs = omega (arith, sound _ _ (c .before .before .before .before .before .before .before .before .before .before .before .before .before .before .before .before .before .before .pre) .0 .most-fans)
 
 put-all2-requires : tie.Need-put-all2-requires
-put-all2-requires c κs = let s = sound _ _ (c .before .before .before .before .before .before .before .before .before .before .before .before .before .before .pre) in omega (arith, s .0 .weighed, s .1)
+put-all2-requires c κs =
+    let s = sound _ _ (c .before .before .before .before .before .before .before .before .before .before .before .before .before .before .before .before .before .before .before .pre) in
+    omega (arith, c .weights-offset .ensures .0, s .0 .weighed, s .1)
+
+boards-offset-requires : tie.Need-boards-offset-requires
+boards-offset-requires c κs = omega (arith, sound _ _ (c .before .before .before .before .before .before .before .before .before .before .before .before .before .before .before .before .before .before .before .before .before .before .before .pre) .0 .most-fans)
+
+put-all1-requires : tie.Need-put-all1-requires
+put-all1-requires c κs =
+    let s = sound _ _ (c .before .before .before .before .before .before .before .before .before .before .before .before .before .before .before .before .before .before .before .before .before .before .before .before .pre) in
+    let x = c .before .before .before .before .before .before .before .before .before .before .before .before .before .before .before .before .before .before .before .before .before .before .before .before .args in
+    let w = s .0 in
+    let placed = fans-typed (x .version) (length (x .survival .now)) (x .boards .now) (x .switchboards .now) (w .counted) (w .placed) in
+    let read = ap length (c .before .before .before .before .before .before .before .before .before .before .before .before .before .before .before .before .before .boards-read .ensures ∙ whole-read (x .version) _ (x .boards .now) (x .switchboards .now) (w .counted) (w .placed)) in
+    omega (arith, c .boards-offset .ensures .0, s .1)
+
+board-survival-offset-requires : tie.Need-board-survival-offset-requires
+board-survival-offset-requires c κs = omega (arith, sound _ _ (c .before .before .before .before .before .before .before .before .before .before .before .before .before .before .before .before .before .before .before .before .before .before .before .before .before .before .before .before .pre) .0 .most-fans)
+
+put-all4-requires-2 : tie.Need-put-all4-requires-2
+put-all4-requires-2 c κs =
+    let s = sound _ _ (c .before .before .before .before .before .before .before .before .before .before .before .before .before .before .before .before .before .before .before .before .before .before .before .before .before .before .before .before .before .pre) in
+    omega (arith, c .board-survival-offset .ensures .0, ap length (c .before .before .before .before .before .before .before .before .before .before .before .before .before .before .before .before .before .before .before .before .before .numbers-read .ensures), s .1)
 
 systems-offset-requires : tie.Need-systems-offset-requires
-systems-offset-requires c κs = omega (arith, sound _ _ (c .before .before .before .before .before .before .before .before .before .before .before .before .before .before .before .before .before .before .pre) .0 .most-fans)
+systems-offset-requires c κs =
+    let s = sound _ _ (c .before .before .before .before .before .before .before .before .before .before .before .before .before .before .before .before .before .before .before .before .before .before .before .before .before .before .before .before .before .before .before .before .before .pre) in
+    let x = c .before .before .before .before .before .before .before .before .before .before .before .before .before .before .before .before .before .before .before .before .before .before .before .before .before .before .before .before .before .before .before .before .before .args in
+    let w = s .0 in
+    let few = few-typed (x .version) (length (x .survival .now)) (x .boards .now) (x .switchboards .now) (w .counted) (w .placed) in
+    (omega (arith, w .most-fans), omega (arith, ap length (c .before .before .before .before .before .before .before .before .before .before .before .before .before .before .before .before .before .before .before .before .before .before .before .before .before .numbers-read .ensures)))
 
 put-all2-requires-2 : tie.Need-put-all2-requires-2
-put-all2-requires-2 c κs = let s = sound _ _ (c .before .before .before .before .before .before .before .before .before .before .before .before .before .before .before .before .before .before .before .pre) in omega (arith, s .0 .whole, s .1)
+put-all2-requires-2 c κs =
+    let s = sound _ _ (c .before .before .before .before .before .before .before .before .before .before .before .before .before .before .before .before .before .before .before .before .before .before .before .before .before .before .before .before .before .before .before .before .before .before .pre) in
+    omega (arith, c .systems-offset .ensures .0, ap length (c .before .before .before .before .before .before .before .before .before .before .before .before .before .before .before .before .before .before .before .before .before .before .before .before .before .before .numbers-read .ensures), s .0 .whole, s .1)
 
 same-length : tie.Need-same-length
 same-length c = search needs
 
 returns : tie.Need-returns
 returns c =
-    let systems = c .before .before in
-    let weights = systems .before .before .before .before .before in
-    let survival = weights .before .before .before .before .before in
-    let header = survival .before .before .before .before in
-    file-laid _ _ (sound _ _ (header .before .before .before .before .before .before .pre) .0) (header .put-header .ensures) (survival .put-all4 .ensures)
-    (rw (weights .before .weights-offset .ensures) at (weights .put-all2 .ensures))
-    (rw (systems .before .systems-offset .ensures) at (systems .put-all22 .ensures))
+    let s = sound _ _ (c .before .before .before .before .before .before .before .before .before .before .before .before .before .before .before .before .before .before .before .before .before .before .before .before .before .before .before .before .before .before .before .before .before .before .before .before .before .pre) in
+    let x = c .before .before .before .before .before .before .before .before .before .before .before .before .before .before .before .before .before .before .before .before .before .before .before .before .before .before .before .before .before .before .before .before .before .before .before .before .before .args in
+    let w = s .0 in
+    let read = c .before .before .before .before .before .before .before .before .before .before .before .before .before .before .before .before .before .before .before .before .before .before .before .before .before .before .before .before .before .before .boards-read .ensures ∙ whole-read (x .version) _ (x .boards .now) (x .switchboards .now) (w .counted) (w .placed) in
+    file-laid _ _ w (rw (c .before .before .before .before .before .before .before .before .before .before .before .before .before .before .before .before .before .before .before .before .before .before .before .before .before .before .before .before .before .numbers-read .ensures) at (c .before .before .before .before .before .before .before .before .before .before .before .before .before .before .before .before .before .before .before .before .before .before .before .before .before .before .before .put-header .ensures)) (rw (c .before .before .before .before .before .before .before .before .before .before .before .before .before .before .before .before .before .before .before .before .before .before .before .header-length .ensures .0) at (c .before .before .before .before .before .before .before .before .before .before .before .before .before .before .before .before .before .before .before .before .before .before .put-all4 .ensures))
+    (rw (c .before .before .before .before .before .before .before .before .before .before .before .before .before .before .before .before .before .before .weights-offset .ensures .0) at (c .before .before .before .before .before .before .before .before .before .before .before .before .before .before .before .before .before .put-all2 .ensures)) (rw (c .before .before .before .before .before .before .before .before .before .before .before .before .before .boards-offset .ensures .0, read) at (c .before .before .before .before .before .before .before .before .before .before .before .before .put-all1 .ensures))
+    (rw (c .before .before .before .before .before .before .before .before .board-survival-offset .ensures .0, c .before .before .before .before .before .before .before .before .before .before .before .before .before .before .before .before .before .before .before .before .before .before .before .before .before .before .before .before .before .numbers-read .ensures) at (c .before .before .before .before .before .before .before .put-all42 .ensures))
+    (rw (c .before .before .before .systems-offset .ensures .0, c .before .before .before .before .before .before .before .before .before .before .before .before .before .before .before .before .before .before .before .before .before .before .before .before .before .before .before .before .before .numbers-read .ensures) at (c .before .before .put-all22 .ensures))
 
 pub put-file-spec : {M : Type 1} → statement M
 put-file-spec =
     tie.close
     (tie.spec
+    boards-read-requires
+    numbers-read-requires
     put-header-requires
+    header-length-requires
     put-all4-requires
     weights-offset-requires
     put-all2-requires
+    boards-offset-requires
+    put-all1-requires
+    board-survival-offset-requires
+    put-all4-requires-2
     systems-offset-requires
     put-all2-requires-2
     same-length

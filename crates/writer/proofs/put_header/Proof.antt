@@ -1,30 +1,38 @@
--- `writer::put_header` meets its contract: version and counts laid from the front on, the offsets behind them. Assumes nothing.
-use mathlib.Core.Path.{_∙_}
-use mathlib.Core.List.{[], _∷_, _++_}
+-- `writer::put_header` meets its contract: version and counts laid from the front on, the offsets behind them, and what the version has more. Assumes nothing.
+use mathlib.Core.Path.{ap, _∙_}
+use mathlib.Core.List.{[], _∷_}
 use native.Mathlib.Omega.{arith}
-use borrow.Author.Needs.{needs}
-use Rattle.rules.specs.File.{allBytes, versionField, survivalField, survivalOffset, headerOf}
+use lib.ListN.{length}
+use Rattle.rules.specs.Boards.{boardsRead}
+use Rattle.rules.specs.File.{allBytes, survivalField, boardCountField, countsOf}
 use Rattle.deck.proofs.File.{version-fits}
-use Rattle.deck.proofs.Numbers.{all-length}
+use Rattle.deck.proofs.Versions.{header-bounds, fans-bound}
 use Rattle.writer.specs.Laid.{laid}
-use Rattle.writer.proofs.Laying.{laid-next}
+use Rattle.writer.proofs.Parts.{last-fits, header-laid}
+use borrow.Author.Needs.{needs}
 use Rattle.writer.proofs.put_header.Statement.{statement}
 use Rattle.writer.proofs.put_header.Tie as tie
 
-cast-t9 : tie.Need-cast-t9
-cast-t9 c = record { fits = omega (arith, version-fits (c .before .args .version) (c .before .pre .versioned)) }
+cast-t13 : tie.Need-cast-t13
+cast-t13 c = record { fits = omega (arith, version-fits (c .before .args .version) (c .before .pre .versioned)) }
 
-cast-t10 : tie.Need-cast-t10
-cast-t10 c = search needs
+cast-t14 : tie.Need-cast-t14
+cast-t14 c = search needs
 
-cast-t11 : tie.Need-cast-t11
-cast-t11 c = search needs
+cast-t15 : tie.Need-cast-t15
+cast-t15 c = search needs
 
 slice-aggregate-put-all2 : tie.Need-slice-aggregate-put-all2
 slice-aggregate-put-all2 c = search needs
 
 put-all2-requires : tie.Need-put-all2-requires
-put-all2-requires c κs = search needs
+put-all2-requires c κs = omega (arith, c .before .before .before .pre .fits, header-bounds (c .before .before .before .args .version))
+
+header-length-requires : tie.Need-header-length-requires
+header-length-requires c κs = search needs
+
+cast-header : tie.Need-cast-header
+cast-header c = search needs
 
 weights-offset-requires : tie.Need-weights-offset-requires
 weights-offset-requires c κs = search needs
@@ -36,46 +44,68 @@ systems-offset-requires : tie.Need-systems-offset-requires
 systems-offset-requires c κs = search needs
 
 cast-systems : tie.Need-cast-systems
-cast-systems c = search needs
-
-cast-t18 : tie.Need-cast-t18
-cast-t18 c = search needs
+cast-systems c =
+    let x = c .before .before .before .before .before .before .before .before .before .args in
+    record { fits = omega (arith, c .systems-offset .ensures .0, header-bounds (x .version), fans-bound (x .version) (x .n), c .before .before .before .before .before .before .before .before .before .pre .few, c .before .before .before .before .before .before .before .before .before .pre .boards) }
 
 slice-aggregate-put-all4 : tie.Need-slice-aggregate-put-all4
 slice-aggregate-put-all4 c = search needs
 
 put-all4-requires : tie.Need-put-all4-requires
-put-all4-requires c κs = search needs
+put-all4-requires c κs = omega (arith, c .before .before .before .before .before .before .before .before .before .before .before .pre .fits, header-bounds (c .before .before .before .before .before .before .before .before .before .before .before .args .version))
+
+boards-offset-requires : tie.Need-boards-offset-requires
+boards-offset-requires c κs = search needs
+
+cast-boards : tie.Need-cast-boards
+cast-boards c = search needs
+
+cast-t26 : tie.Need-cast-t26
+cast-t26 c = search needs
+
+slice-aggregate-numbers-read : tie.Need-slice-aggregate-numbers-read
+slice-aggregate-numbers-read c = search needs
+
+numbers-read-requires : tie.Need-numbers-read-requires
+numbers-read-requires c κs = search needs
+
+put-all4-requires-2 : tie.Need-put-all4-requires-2
+put-all4-requires-2 c κs =
+    let x = c .before .before .before .before .before .before .before .before .before .before .before .before .before .before .before .before .before .before .args in
+    omega (arith, c .before .before .before .before .before .before .before .before .before .before .before .before .before .before .before .before .before .before .pre .fits, ap length (c .before .numbers-read .ensures), last-fits (x .version) (x .g) (c .before .before .before .boards-offset .result))
 
 same-length : tie.Need-same-length
 same-length c = search needs
 
 returns : tie.Need-returns
-unfolding headerOf
 returns c =
-    let systems = c .before .before .before .before .before in
-    let first = systems .before .before .before .before in
-    let a = first .before .before .before .before .args in
-    let counts = a .version ∷ 0 ∷ a .n ∷ a .m ∷ [] in
-    laid-next versionField survivalField (a .room .now) (allBytes 2 counts) _ (first .put-all2 .ensures) (c .before .before .put-all4 .ensures)
-    (omega (arith, all-length 2 counts)) (omega arith)
-    ∙ (λ x. laid 0 (allBytes 2 counts ++ allBytes 4 (survivalOffset ∷ systems .before .weights-offset .ensures x ∷ systems .systems-offset .ensures x ∷ [])) (a .room .now))
+    let x = c .before .before .before .before .before .before .before .before .before .before .before .before .before .before .before .before .before .before .before .before .before .args in
+    header-laid (x .version) (x .n) (x .g) (x .m) (x .room .now) (c .before .before .before .before .before .before .before .before .before .before .before .before .before .before .before .before .before .before .before .before .before .pre .fits) (c .before .before .before .before .before .before .before .before .before .before .before .before .before .before .before .before .before .put-all2 .ensures)
+    (rw (c .before .before .before .before .before .before .before .before .before .before .before .before .before .before .header-length .ensures .0, c .before .before .before .before .before .before .before .before .before .before .before .before .before .weights-offset .ensures .0, c .before .before .before .before .before .before .before .before .before .before .before .before .systems-offset .ensures .0) at (c .before .before .before .before .before .before .before .before .before .put-all4 .ensures))
+    (rw (c .before .before .before .before .numbers-read .ensures, c .before .before .before .before .before .before .boards-offset .ensures .0) at (c .before .before .put-all42 .ensures))
 
 pub put-header-spec : {M : Type 1} → statement M
 put-header-spec =
     tie.close
     (tie.spec
-    cast-t9
-    cast-t10
-    cast-t11
+    cast-t13
+    cast-t14
+    cast-t15
     slice-aggregate-put-all2
     put-all2-requires
+    header-length-requires
+    cast-header
     weights-offset-requires
     cast-weights
     systems-offset-requires
     cast-systems
-    cast-t18
     slice-aggregate-put-all4
     put-all4-requires
+    boards-offset-requires
+    cast-boards
+    cast-t26
+    slice-aggregate-numbers-read
+    numbers-read-requires
+    put-all4-requires-2
     same-length
     returns)

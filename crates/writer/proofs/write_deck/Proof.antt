@@ -1,9 +1,11 @@
 -- `writer::write_deck` meets its contract, on a refusal and on none. Assumes nothing.
 use mathlib.Core.Path.{sym, _∙_}
 use native.Mathlib.Omega.{arith}
-use borrow.Author.Needs.{needs}
-use Rattle.writer.proofs.Writable.{bytes-long, writable}
+use lib.ListN.{length}
+use Rattle.rules.specs.Writing.{typedOf}
+use Rattle.writer.proofs.Writable.{bytes-long, few-typed, fans-typed, writable}
 use Rattle.writer.proofs.Outcome.{refused, written}
+use borrow.Author.Needs.{needs}
 use Rattle.writer.proofs.write_deck.Statement.{statement}
 use Rattle.writer.proofs.write_deck.Tie as tie
 
@@ -19,18 +21,26 @@ returns c = refused (c .before .refusal .ensures) (c .if1 .taken)
 put-file-requires : tie.Need-put-file-requires
 put-file-requires c κs = search needs
 
-file-length-requires : tie.Need-file-length-requires
-file-length-requires c κs =
+file-size-requires : tie.Need-file-size-requires
+file-size-requires c κs =
+    let x = c .before .before .before .before .before .before .before .before .before .before .before .before .before .args in
     let w = writable _ _ (sym (c .before .before .before .before .before .refusal .ensures) ∙ c .before .before .before .before .if1 .left) in
-    (omega (arith, w .most-fans), omega (arith, w .most-systems))
+    record {
+      few = w .most-fans;
+      boards = few-typed (x .version) (length (x .survival .now)) (x .boards .now) (x .switchboards .now) (w .counted) (w .placed);
+      fewer = w .most-systems;
+    }
 
 same-length-2 : tie.Need-same-length-2
 same-length-2 c = search needs
 
 returns-2 : tie.Need-returns-2
 returns-2 c =
+    let x = c .before .before .before .before .before .before .before .before .before .before .before .before .before .before .args in
     let none = sym (c .before .before .before .before .before .before .refusal .ensures) ∙ c .before .before .before .before .before .if1 .left in
-    written none (c .file-length .ensures ∙ sym (bytes-long _ (writable _ _ none .weighed))) (c .before .before .before .put-file .ensures)
+    let w = writable _ _ none in
+    let placed = fans-typed (x .version) (length (x .survival .now)) (x .boards .now) (x .switchboards .now) (w .counted) (w .placed) in
+    written none (c .file-size .ensures ∙ sym (bytes-long _ (w .weighed) placed)) (c .before .before .before .put-file .ensures)
 
 pub write-deck-spec : {M : Type 1} → statement M
 write-deck-spec =
@@ -40,6 +50,6 @@ write-deck-spec =
     same-length
     returns
     put-file-requires
-    file-length-requires
+    file-size-requires
     same-length-2
     returns-2)
