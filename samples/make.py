@@ -1,4 +1,4 @@
-"""Writes the sample deck files beside it: the scope document's example, and the four holds of a carrier."""
+"""Writes the sample deck files beside it: the scope document's example, and the five holds of a carrier."""
 
 import sys
 from pathlib import Path
@@ -6,7 +6,7 @@ from pathlib import Path
 here = Path(__file__).resolve().parent
 sys.path.insert(0, str(here.parent / "second"))
 
-from foambeetle import UNIT, Deck, Rule, System, deck_bytes  # noqa: E402
+from foambeetle import UNIT, Boards, Deck, Rule, System, deck_bytes  # noqa: E402
 
 HALF = UNIT // 2
 
@@ -74,7 +74,21 @@ def hold4():
     ], version=2)
 
 
-DECKS = (example, hold1, hold2, hold3, hold4)
+def hold5():
+    """The fans of hold4 as a file of version 3: six on one switchboard, five on another, the last on a supply of its own."""
+    boards = Boards([1] * 6 + [2] * 5 + [0], [999_900_000, 999_200_000])
+    return Deck(hold4().survivals, [2] * 12, [
+        System(Rule(1, 2, 0), 1, 12),
+        System(Rule(4, 2, 0), 1, 12),
+        System(Rule(7, 2, 3), 1, 12),
+        System(Rule(1, 6, 0), 1, 12),
+        System(Rule(1, 1, 0), 9, 12),
+        System(Rule(1, 1, 0), 12, 12),
+        System(Rule(8, 3, 5), 1, 12),
+    ], version=3, boards=boards)
+
+
+DECKS = (example, hold1, hold2, hold3, hold4, hold5)
 
 if __name__ == "__main__":
     for deck in DECKS:

@@ -17,7 +17,7 @@ import worth_cases
 from words import pack
 
 MODULES = {"verdict": (verdict_cases,), "figures": (figures_cases, worth_cases), "counts": (counts_cases,)}
-MOST_BYTES = 5 * 2 ** 18  # the room that a case-running program has for either file
+MOST_BYTES = 6 * 2 ** 18  # the room that a case-running program has for either file
 
 
 def missing_answers(wanted, lines):

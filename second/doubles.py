@@ -8,8 +8,8 @@ from fractions import Fraction
 from math import ceil, floor
 
 from foambeetle import (
-    TABLE_CELLS, UNIT, Refusal, bad_kind, bad_length, bad_rule, bad_stretch, bad_system, bad_weights, file_refusal, low_and_high, number_at, rate_system,
-    read_deck,
+    HEADER_BYTES, TABLE_CELLS, UNIT, Refusal, bad_kind, bad_length, bad_rule, bad_stretch, bad_system, bad_weights, file_refusal, low_and_high, number_at,
+    rate_system, read_deck,
 )
 
 ONE = 2 ** 1074  # document 02, request 10: "parts in 2^1074"
@@ -93,10 +93,11 @@ def planned(rule, a, b, doubles, weights, room=TABLE_CELLS):
 
 def chance(data, system):
     """Low and high as fractions of 1, or the refusal."""
-    # document 02, request 10: "low and high of a version 1 deck are each divided by 2^30"; another version is 11, which stands right after 10
+    # document 02, request 10: "low and high of a version 1 deck are each divided by 2^30"; another version is 11, which stands before all but the
+    # first 10
+    if len(data) >= HEADER_BYTES and number_at(data, 0, 2) != 1:
+        return Refusal(11)
     number = file_refusal(data)
-    if number != 10 and number_at(data, 0, 2) != 1:
-        number = 11
     if number:
         return Refusal(number)
     deck = read_deck(data)

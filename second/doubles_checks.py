@@ -12,7 +12,8 @@ from doubles_samples import (
 )
 from files import random_files
 from foambeetle import (
-    KINDS, UNIT, UNITS, Deck, Refusal, Rule, System, bad_rule, deck_bytes, exact_sum_by_words, figures, file_refusal, low_and_high_by_words, rate, read_deck,
+    KINDS, UNIT, UNITS, Boards, Deck, Refusal, Rule, System, bad_rule, deck_bytes, exact_sum_by_words, figures, file_refusal, low_and_high_by_words,
+    rate, read_deck,
 )
 
 
@@ -129,9 +130,9 @@ def chances_of_files():
                 yield sum(int(end * UNIT) << shift for end, shift in zip(answer, (32, 0))), packed
         yield isinstance(deck, Refusal), file_refusal(data) is not None
     for version in UNITS:
-        data = deck_bytes(Deck([2 ** 29], [0], [System(Rule(1, 1, 0), 1, 1)], version))
+        data = deck_bytes(Deck([2 ** 29], [0], [System(Rule(1, 1, 0), 1, 1)], version, Boards([1], [7])))
         yield chance(data, 1), (Fraction(1, 2),) * 2 if version == 1 else Refusal(11)
-        yield chance(data[:-1], 1), Refusal(13 if version == 1 else 11)
+        yield [chance(data[:length], 1) for length in (19, 20, 27, len(data) - 1)], [Refusal(10), *[Refusal(13 if version == 1 else 11)] * 3]
     yield {0, 10, 11, 14} <= seen, True
 
 

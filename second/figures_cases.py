@@ -1,8 +1,8 @@
 """Cases for the figures of a stretch; a whole list is its stretch 1 to n.
 
 Words of a case: call (0 the figures, 1 the worth of a fan), version, kind, first, second, a, b, fan (0 for the figures), room, seed, N, the
-survival numbers, W, the weights, M, the numbers of further pairs. second/worth_cases.py has the cases of call 1, which stand behind these in the same
-file.
+survival numbers, W, the weights, M, the numbers of further pairs, B, the fans' board numbers, G, the boards' survival numbers. second/worth_cases.py has
+the cases of call 1, which stand behind these in the same file.
 """
 
 import random
@@ -10,17 +10,18 @@ from typing import NamedTuple
 
 import published
 from foambeetle import (
-    KINDS, LONGEST_WINDOW, MOST_PAIRS, MOST_WEIGHT, PAIRS_KIND, SEVEN_KINDS, TABLE_CELLS, UNIT, UNITS, Refusal, Rule, figures, working_table_after,
+    KINDS, LONGEST_WINDOW, MOST_BOARDS, MOST_PAIRS, MOST_WEIGHT, NO_BOARDS, PAIRS_KIND, SEVEN_KINDS, TABLE_CELLS, UNIT, UNITS, Boards, Refusal, Rule,
+    figures, working_table_after,
 )
 from samples import (
-    BINARY, DECIMAL, EDGE_SURVIVALS, HUGE, NO_VERSIONS, OVER_UNIT, all_rules, edge_rules, edges, far_too_many_pairs, over, random_pairs, random_rule,
-    random_stretch, random_survivals, random_weights, rule_for, rules_in_range, same_chances, short_lines, two_windows, unread_more, unread_weights,
-    weights_for, weights_of_total, wrong_further_pairs, wrong_numbers_of_pairs, wrong_rules,
+    BINARY, BOARDED, DECIMAL, EDGE_SURVIVALS, HUGE, NO_VERSIONS, OVER_UNIT, WITHOUT_BOARDS, all_rules, edge_rules, edges, far_too_many_pairs, over,
+    random_boards, random_pairs, random_rule, random_stretch, random_survivals, random_weights, rule_for, rules_in_range, same_chances, short_lines,
+    two_windows, unread_boards, unread_more, unread_weights, weights_for, weights_of_total, wrong_further_pairs, wrong_numbers_of_pairs, wrong_rules,
 )
 from words import checksum, rubbish
 
 FIGURES = 0  # the word `call`
-ANSWERS_WANTED = {"low"} | {f"refused {number}" for number in (*range(1, 8), 11)}
+ANSWERS_WANTED = {"low"} | {f"refused {number}" for number in (*range(1, 8), 11, 20, 21)}
 SEEDS = (0, 1, 3, 2 ** 32, 2 ** 63, 2 ** 64 - 1, 2685821657736338717)
 
 
@@ -33,13 +34,15 @@ class Case(NamedTuple):
     survivals: list
     weights: list
     version: int = BINARY
+    boards: Boards = NO_BOARDS
 
     def words(self, call=FIGURES, fan=0):
+        lists = self.survivals, self.weights, self.rule.more, *self.boards
         return [call, self.version, *self.rule.numbers, self.a, self.b, fan, self.room, self.seed,
-                len(self.survivals), *self.survivals, len(self.weights), *self.weights, len(self.rule.more), *self.rule.more]
+                *(word for numbers in lists for word in (len(numbers), *numbers))]
 
     def answer(self):
-        return figures(self.rule, self.a, self.b, self.survivals, self.weights, self.room, self.version)
+        return figures(self.rule, self.a, self.b, self.survivals, self.weights, self.room, self.version, self.boards)
 
     def line_of(self, answer, first, second):
         """The line of an answer whose two ends have these names."""
@@ -391,8 +394,8 @@ def unit_cases(rng):
 
 def lone_number_cases(rng):
     """One survival number about either unit among fans sure to fail, inside or outside what is read, in both versions."""
-    for version in UNITS:
-        for survival in (more for unit in UNITS.values() for more in (unit - 1, unit, unit + 1)):
+    for version in WITHOUT_BOARDS:
+        for survival in (UNITS[other] + more for other in WITHOUT_BOARDS for more in (-1, 0, 1)):
             for place in range(3):
                 survivals = [0] * 3
                 survivals[place] = survival
@@ -415,7 +418,7 @@ def decimal_refused_cases(rng):
 
 def no_version_cases(rng):
     """Versions that there are none of: nothing else wrong, one thing, and three at once, which all come after."""
-    # document 02, request 08: "11 for versions other than 1 and 2, first where it is an input"
+    # document 02, request 08: 11 "first where it is an input"; request 11: "11 for versions not 1..3"
     for version in NO_VERSIONS:
         for damages in ((), *((damage,) for damage in range(1, 8)), (7, 4, 1), (7, 6, 2)):
             case = whole(rng, Rule(1, 1, 0), random_survivals(rng, 3), [])
@@ -438,11 +441,179 @@ def same_chance_cases(rng):
     yield from (case for pair in same_chance_pairs() for case in pair)
 
 
+def behind(rng, rule, survivals, weights, g=None):
+    """A whole list behind so many boards, or any number of them."""
+    return whole(rng, rule, survivals, weights, BOARDED)._replace(boards=random_boards(rng, len(survivals), g))
+
+
+def board_small_cases(rng):
+    """Version 3: every rule in range for n up to 3, of every kind, behind one to four boards by turns."""
+    # document 02, request 11: "a deck has g boards, 1 to 4"
+    for n in range(1, 4):
+        weights = weights_of_total(rng, n, n + 1)
+        for place, rule in enumerate(all_rules(n, sum(weights))):
+            read = weights if rule.kind == 2 else unread_weights(rng)
+            yield behind(rng, rule, random_survivals(rng, n, UNITS[BOARDED]), read, 1 + place % MOST_BOARDS)
+
+
+def board_kind_cases(rng):
+    """Version 3: every kind behind each number of boards, longer lists, and 64 sound fans behind four boards in rows and in turn."""
+    unit = UNITS[BOARDED]
+    for kind in KINDS:
+        for g in range(1, MOST_BOARDS + 1):
+            n = rng.randint(4, 9)
+            weights = weights_for(rng, kind, n)
+            yield behind(rng, rule_for(rng, kind, n, weights), [rng.randrange(unit + 1) for _ in range(n)], weights, g)
+        n = rng.randint(10, 40)
+        weights = weights_for(rng, kind, n)
+        yield behind(rng, rule_for(rng, kind, n, weights), random_survivals(rng, n, unit), weights)
+        weights = weights_of_total(rng, 64, MOST_WEIGHT) if kind == 2 else []
+        fans, own = ([unit - rng.randrange(unit // 64) for _ in range(count)] for count in (64, MOST_BOARDS))
+        on = [1 + fan // 16 for fan in range(64)] if kind % 2 else [fan % 5 for fan in range(64)]
+        yield whole(rng, rules_in_range(kind, 64, MOST_WEIGHT)[3], fans, weights, BOARDED)._replace(boards=Boards(on, own))
+
+
+def board_edge_cases(rng):
+    """Boards whose survival numbers stand at an edge of the unit, and above it, all of them and one of them; a board that no fan is on too."""
+    # document 02, request 11: "4 for any board's survival number too"
+    unit = UNITS[BOARDED]
+    for kind in KINDS:
+        weights = [1, 2, 0] if kind == 2 else []
+        rule = rule_for(rng, kind, 3, weights)
+        for survival in edges(unit) + over(unit):
+            one = [rng.randrange(unit + 1), survival, rng.randrange(unit + 1)]
+            on, own = rng.choice((([1, 2, 1], [survival] * 2), ([2, 2, 2], one), ([0, 3, 1], one)))
+            yield whole(rng, rule, random_survivals(rng, 3, unit), weights, BOARDED)._replace(boards=Boards(on, own))
+
+
+def board_stretch_case(rng, n):
+    """A stretch of a list behind boards; the board numbers outside are of no board, and must not be read."""
+    # document 02, request 11: "rating calls: a rated fan's"
+    case = stretch_case(rng, n, BOARDED)
+    boards = random_boards(rng, n)
+    on = [board if case.a <= fan <= case.b else rng.choice((0, 1, len(boards.survivals) + 1, 255)) for fan, board in enumerate(boards.of_fans, 1)]
+    return case._replace(boards=Boards(on, boards.survivals))
+
+
+def board_stretch_cases(rng):
+    yield from (board_stretch_case(rng, rng.randint(1, 12)) for _ in range(50))
+    for _ in range(12):
+        n = rng.randint(2, 12)
+        a, b = random_stretch(rng, n)
+        rule = random_pairs(rng, b - a + 1, rng.randint(1, MOST_PAIRS))
+        yield behind(rng, rule, random_survivals(rng, n, UNITS[BOARDED]), [])._replace(a=a, b=b)
+
+
+def board_number_cases(rng):
+    """A board number of g + 1, and of 255, by each fan of a list whose middle is rated; g itself is on a board."""
+    # document 02, request 11: "21, a fan's board number above g (rating calls: a rated fan's)"
+    for g in range(1, MOST_BOARDS + 1):
+        for fan in range(4):
+            for board in (g, g + 1, 255):
+                on = [rng.randint(0, g) for _ in range(4)]
+                on[fan] = board
+                case = part(rng, Rule(rng.choice((1, 4, 5)), 1, 0), 2, 3, random_survivals(rng, 4, UNITS[BOARDED]), [], BOARDED)
+                yield case._replace(boards=Boards(on, random_survivals(rng, g, UNITS[BOARDED])))
+
+
+def board_length_cases(rng):
+    """Board lists that are not n long, whole and of a stretch that they would cover, and numbers of boards outside 1 to 4."""
+    # document 02, request 11: "20, g outside 1..4", "or a board list not n long"
+    for n in (1, 2, 5):
+        for count in (0, n - 1, n, n + 1, 2 * n, 64 if n < 5 else 256):
+            case = part(rng, Rule(1, 1, 0), 1, rng.randint(1, n), random_survivals(rng, n, UNITS[BOARDED]), [], BOARDED)
+            yield case._replace(boards=Boards([rng.randint(0, 1) for _ in range(count)], [rng.randrange(9)]))
+        for g in (0, 1, 4, 5, 8, 255 + n % 2 if n > 1 else 9):
+            case = whole(rng, Rule(1, 1, 0), random_survivals(rng, n, UNITS[BOARDED]), [], BOARDED)
+            yield case._replace(boards=Boards([rng.choice((0, 1, 5)) for _ in range(n)], [7] * g))
+
+
+def spoil_boards(rng, case, damage):
+    """The case with no boards or too many (20), fans on none that there is or a list of the wrong length (21), or a board's number above the unit."""
+    fans, own = case.boards
+    if damage == 20:
+        return case._replace(boards=Boards(fans, rng.choice(([], [1] * 5, [2 ** 32 - 1] * 9))))
+    if damage == 21:
+        above = [len(own) + 1 if rng.random() < 0.6 else board for board in fans]
+        return case._replace(boards=Boards(rng.choice((above, above, [], fans[1:], fans + [0])), own))
+    place = rng.randrange(len(own))
+    return case._replace(boards=Boards(fans, [rng.choice(over(UNITS[BOARDED])) if at == place else number for at, number in enumerate(own)]))
+
+
+def spoil_behind(rng, case, damage):
+    """The case with one thing made wrong, of the boards too."""
+    return spoil_boards(rng, case, damage) if damage in (20, 21) or damage == 4 and rng.random() < 0.5 else spoil(rng, case, damage)
+
+
+BOARD_DAMAGES = (7, 6, 5, 4, 21, 20, 3, 2, 1)  # what is refused last is made wrong first
+
+
+def refused_board_case(rng, count):
+    """A stretch behind boards with so many things wrong at once."""
+    n = rng.choice((1, 2, 3, 5, 7))
+    a, b = random_stretch(rng, n)
+    kind = rng.choice(KINDS)
+    weights = weights_for(rng, kind, n)
+    rule = rule_for(rng, kind, b - a + 1, weights[a - 1:b])
+    case = behind(rng, rule, random_survivals(rng, n, UNITS[BOARDED]), weights)._replace(a=a, b=b)
+    for damage in sorted(rng.sample(BOARD_DAMAGES, count), key=BOARD_DAMAGES.index):
+        case = spoil_behind(rng, case, damage)
+    return case
+
+
+def refused_board_cases(rng):
+    """Version 3: one, two or three things wrong at once; then 20, 21 and 4 beside each other number and each other."""
+    # document 02, request 11: "in a rating call 20 and 21 come just before 4"
+    yield from (refused_board_case(rng, rng.choice((1, 2, 2, 3))) for _ in range(110))
+    for one in BOARD_DAMAGES:
+        for other in (4, 20, 21):
+            case = behind(rng, Rule(1, 1, 0), random_survivals(rng, 3, UNITS[BOARDED]), [])
+            for damage in sorted({one, other}, key=BOARD_DAMAGES.index):
+                case = spoil_behind(rng, case, damage)
+            yield case
+
+
+def unread_board_case(rng, kind, version):
+    """Boards' lists with a version that has none, which are not read, with nothing wrong or one thing."""
+    n = rng.randint(1, 7)
+    weights = weights_for(rng, kind, n)
+    case = whole(rng, rule_for(rng, kind, n, weights), random_survivals(rng, n, UNITS[version]), weights, version)
+    case = case if rng.random() < 0.6 else spoil(rng, case, rng.randint(1, 7))
+    return case._replace(boards=unread_boards(rng, n))
+
+
+def unread_board_cases(rng):
+    # document 02, request 11: "nothing of boards is read with them, and 20 and 21 don't arise"
+    yield from (unread_board_case(rng, kind, version) for kind in KINDS for version in WITHOUT_BOARDS for _ in range(3))
+
+
+def no_board_version_cases(rng):
+    """Versions that would be 3 if they were cut to fewer bits, and those beside the ones that there are, with sound boards and with wrong ones."""
+    for version in (0, 4, *(2 ** bits + 3 for bits in (8, 16, 32, 63))):
+        for damages in ((), (20,), (21,)):
+            case = behind(rng, Rule(1, 1, 0), random_survivals(rng, 2, UNITS[BOARDED]), [])
+            for damage in damages:
+                case = spoil_boards(rng, case, damage)
+            yield case._replace(version=version)
+
+
+def board_refit_cases(rng):
+    """Lists before a refit and after it, with some fans and boards better."""
+    unit = UNITS[BOARDED]
+    for kind in (1, 2, 4, 5, 6, 7, PAIRS_KIND):
+        weights = weights_for(rng, kind, 7)
+        worn = behind(rng, rule_for(rng, kind, 7, weights), random_survivals(rng, 7, unit), weights)
+        fans, own = ([rng.randint(p, unit) if rng.random() < 0.5 else p for p in numbers] for numbers in (worn.survivals, worn.boards.survivals))
+        yield from (worn, worn._replace(survivals=fans, boards=Boards(worn.boards.of_fans, own)))
+
+
 def make_cases():
     rng = random.Random(303)
     makers = (small_cases, alike_cases, every_length_cases, long_cases, sound_fan_cases, weight_cases,
               stretch_cases, rule_cases, room_cases, wrong_stretch_cases, survival_cases, length_cases,
               refused_cases, short_line_cases, single_pair_cases, many_pair_cases, pair_edge_cases, pair_stretch_cases, wrong_pair_cases,
               refused_pair_cases, unread_more_cases, refit_cases, decimal_small_cases, decimal_long_cases, decimal_stretch_cases, unit_cases,
-              lone_number_cases, decimal_refused_cases, no_version_cases, same_chance_cases)
+              lone_number_cases, decimal_refused_cases, no_version_cases, same_chance_cases, board_small_cases, board_kind_cases, board_edge_cases,
+              board_stretch_cases, board_number_cases, board_length_cases, refused_board_cases, unread_board_cases, no_board_version_cases,
+              board_refit_cases)
     return [*published_cases(), *(case for maker in makers for case in maker(rng))]

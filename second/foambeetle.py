@@ -12,13 +12,17 @@ from math import prod
 from typing import Any, Callable, NamedTuple
 
 UNIT = 2 ** 30  # document 01, 'What is rated': S
-# document 02, request 08: "parts per 1,000,000,000. Version 2 of the deck file has that as its unit; version 1 keeps 2^30"
-UNITS = {1: UNIT, 2: 10 ** 9}
+# document 02, request 08: "parts per 1,000,000,000. Version 2 of the deck file has that as its unit; version 1 keeps 2^30"; request 11: "Version 3 of the
+# file, in version 2's unit"
+UNITS = {1: UNIT, 2: 10 ** 9, 3: 10 ** 9}
 MOST_FANS = 64  # document 01, 'Refusal numbers', row 2
 MOST_WEIGHT = 120  # document 01, 'The seven verdicts': "their total at most 120"
 TABLE_CELLS = 7800  # document 01, 'Refusal numbers', row 7
 MOST_SYSTEMS = 32  # document 01, 'Refusal numbers', row 12
 HEADER_BYTES = 20  # document 01, 'Deck file and printing'
+BOARDS_VERSION = 3  # document 02, request 11: "Version 3 of the file"
+BOARDS_HEADER_BYTES = 28  # document 02, request 11: "the 28-byte header"
+MOST_BOARDS = 4  # document 02, request 11: "a deck has g boards, 1 to 4"
 SYSTEM_NUMBERS = 5  # document 01, 'Deck file and printing': "kind, first, second, a, b"
 SEVEN_KINDS = range(1, 8)  # document 01, 'The seven verdicts'
 PAIRS_KIND = 8  # document 02, request 05: "Add kind 8"
@@ -64,11 +68,22 @@ class System(NamedTuple):
     b: int
 
 
+class Boards(NamedTuple):
+    """The fans' board numbers, 0 for none, and the boards' own survival numbers."""
+
+    of_fans: list
+    survivals: list
+
+
+NO_BOARDS = Boards([], [])
+
+
 class Deck(NamedTuple):
     survivals: list
     weights: list
     systems: list
     version: int = 1
+    boards: Boards = NO_BOARDS
 
 
 # ---- verdicts ----------------------------------------------------------------
@@ -311,6 +326,53 @@ def exact_sum_by_words(rule, survivals, weights, unit=UNIT):
     )
 
 
+# ---- fans behind switchboards ------------------------------------------------
+
+
+def boards_read(version, boards):
+    # document 02, request 11: "Versions 1 and 2 read as a deck without boards, unchanged: nothing of boards is read with them"
+    return boards if version == BOARDS_VERSION else NO_BOARDS
+
+
+def with_failed(failed, survivals, of_fans):
+    # document 02, request 11: "For each set of failed boards the figures are worked with those fans' survival 0"
+    lost = [place for place, board in enumerate(of_fans) if board in failed]
+    return tuple(0 if place in lost else survival for place, survival in enumerate(survivals))
+
+
+def low_and_high_behind(rule, survivals, weights, boards, unit=UNIT):
+    """Low and high of fans behind boards; without boards those of the fans alone."""
+    @lru_cache(maxsize=None)
+    def figure(numbers):
+        return low_and_high(rule, numbers, weights, unit)
+
+    def combined(board, failed):
+        # document 02, request 11: "Then the boards are combined by the same rounded step, one rounding each, board 1 last"
+        if board > len(boards.survivals):
+            return figure(with_failed(failed, survivals, boards.of_fans))
+        after_working, after_failed = combined(board + 1, failed), combined(board + 1, failed | {board})
+        return rounded_step(boards.survivals[board - 1], after_working, after_failed, unit)
+
+    return combined(1, frozenset())
+
+
+def fans_failed(n, state, of_fans):
+    """The fans that have failed in a state of fans and boards, whose bits stand above the fans', board 1 lowest."""
+    # document 02, request 11: "A failed board fails its fans"
+    own, failed = state % 2 ** n, state >> n
+    return own | sum(1 << place for place, board in enumerate(of_fans) if board and failed >> board - 1 & 1)
+
+
+def exact_sum_behind(rule, survivals, weights, boards, unit=UNIT):
+    # document 02, request 11: "Condition three then sums over n + g parts"
+    n, parts = len(survivals), [*survivals, *boards.survivals]
+    return sum(
+        prod(unit - p if state >> place & 1 else p for place, p in enumerate(parts))
+        for state in range(2 ** len(parts))
+        if not fails(rule, n, fans_failed(n, state, boards.of_fans), weights)
+    )
+
+
 # ---- counts ------------------------------------------------------------------
 
 
@@ -409,7 +471,7 @@ def counts_by_reading(rule, n, weights):
 
 
 def bad_version(version):
-    # document 02, request 08: "11 for versions other than 1 and 2"
+    # document 02, request 11: "11 for versions not 1..3"
     return version not in UNITS
 
 
@@ -431,6 +493,25 @@ def bad_length(n):
 def bad_stretch(a, b, n):
     # document 01, 'Refusal numbers', row 3
     return a == 0 or b < a or b > n
+
+
+def bad_board_count(g):
+    # document 02, request 11: "20, g outside 1..4"
+    return not 1 <= g <= MOST_BOARDS
+
+
+def bad_boards(n, boards, rated):
+    # document 02, request 11: "21, a fan's board number above g (rating calls: a rated fan's) or a board list not n long"
+    return len(boards.of_fans) != n or any(board > len(boards.survivals) for board in rated)
+
+
+def boards_refusal(version, n, boards, rated):
+    # document 02, request 11: 20 before 21, and of versions 1 and 2 "20 and 21 don't arise"
+    if version != BOARDS_VERSION:
+        return None
+    if bad_board_count(len(boards.survivals)):
+        return 20
+    return 21 if bad_boards(n, boards, rated) else None
 
 
 def bad_survivals(rated, unit):
@@ -493,18 +574,18 @@ def count_refusal(rule, n, weights, room, slots):
     return 8 if slots < n + 1 else None
 
 
-def rated_refusal(rule, a, b, survivals, weights, unit):
-    # document 01, 'Stretches': "Components and weights outside it are not read"
-    if bad_survivals(survivals[a - 1:b], unit):
+def rated_refusal(rule, a, b, survivals, weights, board_survivals, unit):
+    # document 01, 'Stretches': "Components and weights outside it are not read"; document 02, request 11: "4 for any board's survival number too"
+    if bad_survivals(survivals[a - 1:b], unit) or bad_survivals(board_survivals, unit):
         return 4
     if bad_weights(rule, len(survivals), weights, weights[a - 1:b]):
         return 5
     return 6 if bad_rule(rule, b - a + 1, weights[a - 1:b]) else None
 
 
-def figures_refusal(rule, a, b, survivals, weights, room, version):
+def figures_refusal(rule, a, b, survivals, weights, room, version, boards):
     # document 01, 'Refusal numbers': the figures' order; document 02, request 02: "3 now belongs to every figure"; request 08: 11 "first where it is
-    # an input"
+    # an input"; request 11: "in a rating call 20 and 21 come just before 4"
     n = len(survivals)
     if bad_version(version):
         return 11
@@ -514,7 +595,11 @@ def figures_refusal(rule, a, b, survivals, weights, room, version):
         return 2
     if bad_stretch(a, b, n):
         return 3
-    return rated_refusal(rule, a, b, survivals, weights, UNITS[version]) or (7 if room < TABLE_CELLS else None)
+    number = boards_refusal(version, n, boards, boards.of_fans[a - 1:b])
+    if number:
+        return number
+    own = boards_read(version, boards).survivals
+    return rated_refusal(rule, a, b, survivals, weights, own, UNITS[version]) or (7 if room < TABLE_CELLS else None)
 
 
 def bad_fan(a, b, fan):
@@ -522,9 +607,9 @@ def bad_fan(a, b, fan):
     return not a <= fan <= b
 
 
-def worth_refusal(rule, a, b, fan, survivals, weights, room, version):
+def worth_refusal(rule, a, b, fan, survivals, weights, room, version, boards):
     # document 02, request 06: "as for the figures, the chosen fan's own survival number included under 4", "then 17"
-    return figures_refusal(rule, a, b, survivals, weights, room, version) or (17 if bad_fan(a, b, fan) else None)
+    return figures_refusal(rule, a, b, survivals, weights, room, version, boards) or (17 if bad_fan(a, b, fan) else None)
 
 
 # ---- the public calls --------------------------------------------------------
@@ -547,12 +632,19 @@ def count_table(rule, n, weights, room=TABLE_CELLS, slots=MOST_FANS + 1):
     return counts_by_words(rule, n, weights) if n <= 10 else counts_by_choice(rule, n, weights)
 
 
-def figures(rule, a, b, survivals, weights, room=TABLE_CELLS, version=1):
+def rated_boards(version, boards, a, b):
+    """What a stretch has of boards: its own fans' numbers, and every board of the deck."""
+    # document 02, request 11: "a deck has g boards"; document 01, 'Stretches': "as a list of those components alone would"
+    read = boards_read(version, boards)
+    return read._replace(of_fans=read.of_fans[a - 1:b])
+
+
+def figures(rule, a, b, survivals, weights, room=TABLE_CELLS, version=1, boards=NO_BOARDS):
     # document 01, 'Stretches': "answers as a list of those components alone would, weights too"
-    number = figures_refusal(rule, a, b, survivals, weights, room, version)
+    number = figures_refusal(rule, a, b, survivals, weights, room, version, boards)
     if number:
         return Refusal(number)
-    return low_and_high(rule, survivals[a - 1:b], weights[a - 1:b], UNITS[version])
+    return low_and_high_behind(rule, survivals[a - 1:b], weights[a - 1:b], rated_boards(version, boards, a, b), UNITS[version])
 
 
 def with_fan(survivals, fan, survival):
@@ -560,19 +652,20 @@ def with_fan(survivals, fan, survival):
     return [survival if place == fan else other for place, other in enumerate(survivals, 1)]
 
 
-def lower_and_upper(rule, fan, survivals, weights, unit=UNIT):
-    # document 02, request 06: "the lower is the first's low less the second's high, the upper the first's high less the second's low"
-    first = low_and_high(rule, with_fan(survivals, fan, unit), weights, unit)
-    second = low_and_high(rule, with_fan(survivals, fan, 0), weights, unit)
+def lower_and_upper(rule, fan, survivals, weights, unit=UNIT, boards=NO_BOARDS):
+    # document 02, request 06: "the lower is the first's low less the second's high, the upper the first's high less the second's low"; request 11: "a
+    # fan sure to work may still lose its board"
+    first = low_and_high_behind(rule, with_fan(survivals, fan, unit), weights, boards, unit)
+    second = low_and_high_behind(rule, with_fan(survivals, fan, 0), weights, boards, unit)
     return first[0] - second[1], first[1] - second[0]
 
 
-def worth(rule, a, b, fan, survivals, weights, room=TABLE_CELLS, version=1):
+def worth(rule, a, b, fan, survivals, weights, room=TABLE_CELLS, version=1, boards=NO_BOARDS):
     # document 02, request 06: "the deck's chance with that fan sure to work less its chance with it sure to fail", of the stretch as of a list
-    number = worth_refusal(rule, a, b, fan, survivals, weights, room, version)
+    number = worth_refusal(rule, a, b, fan, survivals, weights, room, version, boards)
     if number:
         return Refusal(number)
-    return lower_and_upper(rule, fan - a + 1, survivals[a - 1:b], weights[a - 1:b], UNITS[version])
+    return lower_and_upper(rule, fan - a + 1, survivals[a - 1:b], weights[a - 1:b], UNITS[version], rated_boards(version, boards, a, b))
 
 
 def working_table_after(cells, answer):
@@ -597,24 +690,66 @@ def number_at(data, at, size):
     return sum(data[at + place] << 8 * place for place in range(size))
 
 
-def layout(n, m):
-    # document 01, 'Deck file and printing': offsets 20, 20 + 4n, 20 + 6n, length 20 + 6n + 10m
-    return HEADER_BYTES, HEADER_BYTES + 4 * n, HEADER_BYTES + 6 * n, HEADER_BYTES + 6 * n + 10 * m
+class Layout(NamedTuple):
+    """Where each part of a file begins, and where the file ends."""
+
+    survivals: int
+    weights: int
+    boards: int
+    board_survivals: int
+    systems: int
+    length: int
+
+    def offsets(self, version):
+        """Those that the header has, in its order."""
+        # document 02, request 11: "the 28-byte header ends in g (4) and the offset of those bytes (4)"
+        return [self.survivals, self.weights, self.systems, *([self.boards] if version == BOARDS_VERSION else [])]
+
+
+def layout(version, n, g, m):
+    # document 01, 'Deck file and printing': offsets 20, 20 + 4n, 20 + 6n, length 20 + 6n + 10m; document 02, request 11: version 3 "adds a byte per fan
+    # and the boards' numbers, in that order between weights and systems (a number takes 4 bytes)"
+    if version == BOARDS_VERSION:
+        head = BOARDS_HEADER_BYTES
+        return Layout(head, head + 4 * n, head + 6 * n, head + 7 * n, head + 7 * n + 4 * g, head + 7 * n + 4 * g + 10 * m)
+    head = HEADER_BYTES
+    return Layout(head, head + 4 * n, head + 6 * n, head + 6 * n, head + 6 * n, head + 6 * n + 10 * m)
+
+
+def boards_in(data):
+    """g, as a header has it that has it."""
+    return number_at(data, HEADER_BYTES, 4) if number_at(data, 0, 2) == BOARDS_VERSION else 0
+
+
+def header_refusal(data):
+    # document 02, request 11: "10 also for a version 3 file under 28 bytes, right after 11", "20 .. after 12"
+    version, n, m = number_at(data, 0, 2), number_at(data, 4, 2), number_at(data, 6, 2)
+    if bad_version(version) or number_at(data, 2, 2) != 0:
+        return 11
+    if version == BOARDS_VERSION and len(data) < BOARDS_HEADER_BYTES:
+        return 10
+    if bad_length(n):
+        return 2
+    if not 1 <= m <= MOST_SYSTEMS:
+        return 12
+    return 20 if version == BOARDS_VERSION and bad_board_count(boards_in(data)) else None
+
+
+def layout_refusal(data):
+    # document 01, 'Refusal numbers', row 13; document 02, request 11: "21 .. after 13"
+    version, n, m, g = number_at(data, 0, 2), number_at(data, 4, 2), number_at(data, 6, 2), boards_in(data)
+    laid = layout(version, n, g, m)
+    places = (8, 12, 16, *([24] if version == BOARDS_VERSION else []))
+    if [number_at(data, at, 4) for at in places] != laid.offsets(version) or len(data) != laid.length:
+        return 13
+    return 21 if version == BOARDS_VERSION and any(board > g for board in data[laid.boards:laid.board_survivals]) else None
 
 
 def file_refusal(data):
     # document 01, 'Refusal numbers': "A file is checked 10, 11, 2, 12, 13"
     if len(data) < HEADER_BYTES:
         return 10
-    if bad_version(number_at(data, 0, 2)) or number_at(data, 2, 2) != 0:
-        return 11
-    n, m = number_at(data, 4, 2), number_at(data, 6, 2)
-    if bad_length(n):
-        return 2
-    if not 1 <= m <= MOST_SYSTEMS:
-        return 12
-    found = (number_at(data, 8, 4), number_at(data, 12, 4), number_at(data, 16, 4), len(data))
-    return 13 if found != layout(n, m) else None
+    return header_refusal(data) or layout_refusal(data)
 
 
 def system_at(data, at):
@@ -628,23 +763,28 @@ def read_deck(data):
     number = file_refusal(data)
     if number:
         return Refusal(number)
-    n, m = number_at(data, 4, 2), number_at(data, 6, 2)
-    at_survivals, at_weights, at_systems, _ = layout(n, m)
+    version, n, m, g = number_at(data, 0, 2), number_at(data, 4, 2), number_at(data, 6, 2), boards_in(data)
+    laid = layout(version, n, g, m)
     return Deck(
-        [number_at(data, at_survivals + 4 * place, 4) for place in range(n)],
-        [number_at(data, at_weights + 2 * place, 2) for place in range(n)],
-        [system_at(data, at_systems + 10 * place) for place in range(m)],
-        number_at(data, 0, 2),
+        [number_at(data, laid.survivals + 4 * place, 4) for place in range(n)],
+        [number_at(data, laid.weights + 2 * place, 2) for place in range(n)],
+        [system_at(data, laid.systems + 10 * place) for place in range(m)],
+        version,
+        Boards(list(data[laid.boards:laid.board_survivals]), [number_at(data, laid.board_survivals + 4 * place, 4) for place in range(g)]),
     )
 
 
 def deck_bytes(deck):
-    # document 01, 'Deck file and printing': the header's fields in order, then the three lists
-    n, m = len(deck.survivals), len(deck.systems)
-    at_survivals, at_weights, at_systems, _ = layout(n, m)
-    fields = [(deck.version, 2), (0, 2), (n, 2), (m, 2), (at_survivals, 4), (at_weights, 4), (at_systems, 4)]
+    # document 01, 'Deck file and printing': the header's fields in order, then the lists; document 02, request 11: the boards' "between weights and
+    # systems"
+    boards = boards_read(deck.version, deck.boards)
+    n, m, g = len(deck.survivals), len(deck.systems), len(boards.survivals)
+    laid = layout(deck.version, n, g, m)
+    fields = [(deck.version, 2), (0, 2), (n, 2), (m, 2), (laid.survivals, 4), (laid.weights, 4), (laid.systems, 4)]
+    fields += [(g, 4), (laid.boards, 4)] if deck.version == BOARDS_VERSION else []
     fields += [(survival, 4) for survival in deck.survivals]
     fields += [(weight, 2) for weight in deck.weights]
+    fields += [(board, 1) for board in boards.of_fans] + [(survival, 4) for survival in boards.survivals]
     fields += [(number, 2) for number in system_numbers(deck.systems)]
     return b"".join(number.to_bytes(size, "little") for number, size in fields)
 
@@ -665,9 +805,9 @@ def part_system(numbers):
     return len(numbers) % SYSTEM_NUMBERS != 0
 
 
-def write_refusal(version, survivals, weights, numbers, room):
+def write_refusal(version, survivals, weights, boards, numbers, room):
     # document 02, request 01: "Refusals: 2, weights' length not n as 5, 12 (a part system too), then 16, room too short, in that order"; request 08:
-    # 11 "first where it is an input"
+    # 11 "first where it is an input"; request 11: "with 20 and 21 before 16"
     n, m = len(survivals), len(numbers) // SYSTEM_NUMBERS
     if bad_version(version):
         return 11
@@ -677,22 +817,23 @@ def write_refusal(version, survivals, weights, numbers, room):
         return 5
     if part_system(numbers) or not 1 <= m <= MOST_SYSTEMS:
         return 12
-    return 16 if len(room) < layout(n, m)[-1] else None
+    number = boards_refusal(version, n, boards, boards.of_fans)
+    return number or (16 if len(room) < layout(version, n, len(boards.survivals), m).length else None)
 
 
-def write_deck(version, survivals, weights, numbers, room):
+def write_deck(version, survivals, weights, boards, numbers, room):
     """The length or the refusal, and the room afterwards."""
     # document 02, request 01: "bytes out into lent room, whose rest stays untouched", "nothing is written on any of them"
-    number = write_refusal(version, survivals, weights, numbers, room)
+    number = write_refusal(version, survivals, weights, boards, numbers, room)
     if number:
         return Refusal(number), room
-    data = deck_bytes(Deck(survivals, weights, listed_systems(numbers), version))
+    data = deck_bytes(Deck(survivals, weights, listed_systems(numbers), version, boards))
     return len(data), data + room[len(data):]
 
 
 def rate_system(deck, system):
     # document 01, 'Refusal numbers': "only then the system's own 1 and 3 to 6"; 7 doesn't arise
-    return figures(system.rule, system.a, system.b, deck.survivals, deck.weights, version=deck.version)
+    return figures(system.rule, system.a, system.b, deck.survivals, deck.weights, version=deck.version, boards=deck.boards)
 
 
 def decklist_output(data):
@@ -712,7 +853,7 @@ def decklist_output(data):
 
 def worth_of_system(deck, system, fan):
     # document 02, request 06: "Refusals: as for the figures", "then 17"; 7 doesn't arise, as in a rating
-    return worth(system.rule, system.a, system.b, fan, deck.survivals, deck.weights, version=deck.version)
+    return worth(system.rule, system.a, system.b, fan, deck.survivals, deck.weights, version=deck.version, boards=deck.boards)
 
 
 def deckworth_output(data):

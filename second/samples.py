@@ -2,11 +2,12 @@
 
 from collections.abc import Sequence
 
-from foambeetle import KINDS, LONGEST_WINDOW, MOST_FANS, MOST_PAIRS, MOST_WEIGHT, PAIRS_KIND, UNIT, UNITS, Rule
+from foambeetle import KINDS, LONGEST_WINDOW, MOST_BOARDS, MOST_FANS, MOST_PAIRS, MOST_WEIGHT, PAIRS_KIND, UNIT, UNITS, Boards, Rule
 
 HUGE = (2 ** 16, 2 ** 32, 2 ** 63, 2 ** 64 - 1)
-BINARY, DECIMAL = UNITS  # the versions
-NO_VERSIONS = (0, 3, 2 ** 16 + 1, 2 ** 32 + 2, 2 ** 63 + 1, 2 ** 64 - 1)
+BINARY, DECIMAL, BOARDED = UNITS  # the versions
+WITHOUT_BOARDS = BINARY, DECIMAL
+NO_VERSIONS = (0, 4, 2 ** 16 + 1, 2 ** 32 + 2, 2 ** 63 + 1, 2 ** 64 - 1)
 
 
 def over(unit):
@@ -189,9 +190,9 @@ def random_survivals(rng, n, unit=UNIT):
 
 
 def same_chances(rng, n):
-    """n chances as survival numbers of each version: parts of 2^9, which are whole in both units, as 10^9 is 2^9 times 5^9."""
+    """n chances as survival numbers of either version without boards: parts of 2^9, which are whole in both units, as 10^9 is 2^9 times 5^9."""
     parts = [rng.choice((0, 1, 2 ** 9 - 1, 2 ** 9, *(rng.randint(1, 2 ** 9) for _ in range(12)))) for _ in range(n)]
-    return {version: [part * unit // 2 ** 9 for part in parts] for version, unit in UNITS.items()}
+    return {version: [part * UNITS[version] // 2 ** 9 for part in parts] for version in WITHOUT_BOARDS}
 
 
 def weights_of_total(rng, n, total):
@@ -223,6 +224,33 @@ def rule_for(rng, kind, n, weights):
     if kind == PAIRS_KIND:
         return random_pairs(rng, n, rng.randint(1, MOST_PAIRS))
     return random_rule(rng, kind, n, sum(weights)) or Rule(1, 1, 0)
+
+
+def board_numbers(rng, n, g):
+    """The board numbers of n fans: none at all, one for all, in turn, in rows, any, or not on every board."""
+    manner = rng.choice(("none", "one", "turns", "rows", "any", "any", "any", "few"))
+    if manner in ("none", "one"):
+        return [0 if manner == "none" else rng.randint(1, g)] * n
+    if manner == "turns":
+        return [fan % (g + 1) for fan in range(n)]
+    if manner == "rows":
+        return [1 + fan * g // n for fan in range(n)]
+    some = range(g + 1) if manner == "any" else rng.sample(range(g + 1), rng.randint(1, g))
+    return [rng.choice(some) for _ in range(n)]
+
+
+def random_boards(rng, n, g=None, unit=UNITS[BOARDED]):
+    """One to four boards, or so many, and the fans on them."""
+    # document 02, request 11: "a deck has g boards, 1 to 4"
+    g = g or rng.randint(1, MOST_BOARDS)
+    return Boards(board_numbers(rng, n, g), random_survivals(rng, g, unit))
+
+
+def unread_boards(rng, n):
+    """Boards' lists for the versions that don't read them: any length, any size."""
+    # document 02, request 11: "nothing of boards is read with them"
+    fans = [rng.choice((0, 1, 4, 5, 255)) for _ in range(rng.choice((0, 1, n, n, n + 1, 64, 65)))]
+    return Boards(fans, [rng.choice((0, 1, *over(UNITS[BOARDED]))) for _ in range(rng.choice((0, 1, 4, 5, 9)))])
 
 
 def spoil_rule(rng, case, damage, sizes):

@@ -9,6 +9,7 @@ from fractions import Fraction
 from functools import wraps
 from math import factorial
 
+import boards_checks
 import doubles_checks
 import figures_cases
 import published
@@ -16,15 +17,16 @@ import sources
 import words
 from files import DAMAGES, random_deck, random_files
 from foambeetle import (
-    DEAD, KINDS, LONGEST_WINDOW, MOST_PAIRS, PAIRS_KIND, SEVEN_KINDS, TABLE_CELLS, UNIT, UNITS, WORKS, Deck, Fails, Refusal, Rule, System, bad_rule,
-    count_slots_after, count_table, counts_by_choice, counts_by_reading, counts_by_words, deck_bytes, decklist_output, deckworth_output, exact_sum,
-    exact_sum_by_words, fails, figures, file_refusal, line_windows, listed_systems, low_and_high, low_and_high_by_words, lower_and_upper,
-    pascal_row, rate, read_deck, row_of, system_numbers, unit_of_file, verdict, working_table_after, worth, worth_of_file, write_deck,
+    DEAD, KINDS, LONGEST_WINDOW, MOST_PAIRS, NO_BOARDS, PAIRS_KIND, SEVEN_KINDS, TABLE_CELLS, UNIT, UNITS, WORKS, Deck, Fails, Refusal, Rule,
+    System, bad_rule, count_slots_after, count_table, counts_by_choice, counts_by_reading, counts_by_words, deck_bytes, decklist_output,
+    deckworth_output, exact_sum, exact_sum_by_words, fails, figures, file_refusal, line_windows, listed_systems, low_and_high,
+    low_and_high_by_words, lower_and_upper, pascal_row, rate, read_deck, row_of, system_numbers, unit_of_file, verdict, working_table_after, worth,
+    worth_of_file, write_deck,
 )
 from published import DECK_FILE, DECK_LINES
 from samples import (
-    NO_VERSIONS, all_rules, longer_windows, random_pairs, random_rule, random_survivals, random_weights, rule_for, rules_in_range,
-    same_chances, short_lines, two_windows, unread_more, wrong_further_pairs, wrong_numbers_of_pairs, wrong_rules,
+    NO_VERSIONS, WITHOUT_BOARDS, all_rules, longer_windows, random_pairs, random_rule, random_survivals, random_weights, rule_for, rules_in_range,
+    same_chances, short_lines, two_windows, unread_boards, unread_more, wrong_further_pairs, wrong_numbers_of_pairs, wrong_rules,
 )
 
 SMALL_WEIGHTS = ([], [3], [2, 1], [2, 1, 1], [0, 3, 1, 2], [1, 0, 4, 0, 2], [1, 2, 0, 1, 3, 1],
@@ -32,11 +34,11 @@ SMALL_WEIGHTS = ([], [3], [2, 1], [2, 1, 1], [0, 3, 1, 2], [1, 0, 4, 0, 2], [1, 
 
 
 def in_either_version(group):
-    """The group's checks for each version and its unit."""
+    """The group's checks for each version without boards and its unit."""
     @wraps(group)
     def checks():
-        for version, unit in UNITS.items():
-            yield from group(version, unit)
+        for version in WITHOUT_BOARDS:
+            yield from group(version, UNITS[version])
     return checks
 
 
@@ -606,7 +608,7 @@ def same_chances_in_either_version():
 
 
 def refusals_of_versions():
-    # document 02, request 08: "11 for versions other than 1 and 2, first where it is an input; 4 against the file's unit"
+    # document 02, request 08: 11 "first where it is an input; 4 against the file's unit"; request 11: "11 for versions not 1..3"
     decimal = UNITS[2]
     for version in NO_VERSIONS:
         for rule, a, b, survivals, room in ((Rule(9, 0, 0), 0, 9, [], 0), (Rule(1, 1, 0), 1, 1, [UNIT + 1], 7800), (Rule(1, 1, 0), 1, 1, [0], 7800)):
@@ -624,9 +626,9 @@ def refusals_of_versions():
 
 def units_of_files():
     """A file's unit by its first two bytes, and 0 where it is refused."""
-    # document 02, request 08: "both are read for good"
+    # document 02, request 08: "both are read for good"; request 11: "Version 3 of the file, in version 2's unit"
     for data in random_files(44, 120):
-        unit = {b"\1\0": 2 ** 30, b"\2\0": 1000000000}.get(data[:2])
+        unit = {b"\1\0": 2 ** 30, b"\2\0": 1000000000, b"\3\0": 1000000000}.get(data[:2])
         yield unit_of_file(data), 0 if file_refusal(data) else unit
 
 
@@ -647,9 +649,10 @@ def deck_files():
         deck = random_deck(rng)
         data = deck_bytes(deck)
         yield read_deck(data), deck
-        yield len(data), 20 + 6 * len(deck.survivals) + 10 * len(deck.systems)
-        for length in {0, 1, 19, 20, rng.randrange(len(data)), len(data) - 1}:
-            yield file_refusal(data[:length]), 10 if length < 20 else 13
+        head, fan = (28, 7) if deck.version == 3 else (20, 6)
+        yield len(data), head + fan * len(deck.survivals) + 4 * len(deck.boards.survivals) + 10 * len(deck.systems)
+        for length in {0, 1, 19, 20, 27, 28, rng.randrange(len(data)), len(data) - 1}:
+            yield file_refusal(data[:length]), 10 if length < head else 13
     for place, data in enumerate(random_files(10, 20 * len(DAMAGES))):
         if place % 2 == 0:
             yield file_refusal(data), None
@@ -680,8 +683,9 @@ def decks_written():
         yield listed_systems(numbers), deck.systems
         for more in (0, 1, rng.randrange(900)):
             room = bytes(rng.randrange(256) for _ in range(len(data) + more))
-            yield write_deck(deck.version, deck.survivals, deck.weights, numbers, room), (len(data), data + room[len(data):])
-        yield write_deck(deck.version, deck.survivals, deck.weights, numbers, room[:len(data) - 1]), (Refusal(16), room[:len(data) - 1])
+            yield write_deck(deck.version, deck.survivals, deck.weights, deck.boards, numbers, room), (len(data), data + room[len(data):])
+        short = room[:len(data) - 1]
+        yield write_deck(deck.version, deck.survivals, deck.weights, deck.boards, numbers, short), (Refusal(16), short)
 
 
 def refusals_of_writing():
@@ -694,19 +698,21 @@ def refusals_of_writing():
         ([0], [1], [], short, 12), ([0], [1], five[:4], short, 12), ([0], [1], five + [1], room + room, 12), ([0], [1], five * 33, room * 12, 12),
         ([0], [1], five, short, 16), ([0], [1], five, b"", 16), ([0], [1], five * 2, room + b"\7" * 9, 16),
     )
+    rng = random.Random(34)
     for survivals, weights, numbers, lent, number in cases:
-        yield [write_deck(version, survivals, weights, numbers, lent) for version in UNITS], [(Refusal(number), lent)] * 2
-        # document 02, request 08: 11 "first where it is an input"
-        yield [write_deck(version, survivals, weights, numbers, lent) for version in NO_VERSIONS], [(Refusal(11), lent)] * len(NO_VERSIONS)
+        for boards in (NO_BOARDS, unread_boards(rng, len(survivals))):
+            yield [write_deck(version, survivals, weights, boards, numbers, lent) for version in WITHOUT_BOARDS], [(Refusal(number), lent)] * 2
+            # document 02, request 08: 11 "first where it is an input"
+            yield [write_deck(version, survivals, weights, boards, numbers, lent) for version in NO_VERSIONS], [(Refusal(11), lent)] * len(NO_VERSIONS)
     # "It doesn't judge rules or survival numbers"
-    yield [write_deck(version, [2 ** 32 - 1], [65535], [65535] * 5, room)[0] for version in UNITS], [36] * 2
-    yield [write_deck(version, [0] * 64, [0] * 64, five * 32, b"\7" * 724)[0] for version in UNITS], [724] * 2
-    yield [write_deck(version, [0], [1], five, room)[0] for version in NO_VERSIONS], [Refusal(11)] * len(NO_VERSIONS)
+    yield [write_deck(version, [2 ** 32 - 1], [65535], NO_BOARDS, [65535] * 5, room)[0] for version in WITHOUT_BOARDS], [36] * 2
+    yield [write_deck(version, [0] * 64, [0] * 64, NO_BOARDS, five * 32, b"\7" * 724)[0] for version in WITHOUT_BOARDS], [724] * 2
+    yield [write_deck(version, [0], [1], NO_BOARDS, five, room)[0] for version in NO_VERSIONS], [Refusal(11)] * len(NO_VERSIONS)
 
 
 def header_damage():
     # document 01, 'Refusal numbers': "A file is checked 10, 11, 2, 12, 13", the earlier wins
-    order = ((0, 3, 11), (2, 1, 11), (4, 0, 2), (4, 65, 2), (6, 0, 12), (6, 33, 12), (8, 21, 13),
+    order = ((0, 4, 11), (2, 1, 11), (4, 0, 2), (4, 65, 2), (6, 0, 12), (6, 33, 12), (8, 21, 13),
              (9, 1, 13), (12, 33, 13), (13, 1, 13), (16, 39, 13), (19, 1, 13))
     for at, number, refused in order:
         data = bytearray(DECK_FILE)
@@ -745,7 +751,7 @@ GROUPS = (
     further_numbers_unread, rules_accepted, refusals_of_calls,
     refusals_of_states_and_counts, stretches_read_inside_only, deck_files, printed_and_packed,
     decks_written, refusals_of_writing, header_damage, lent_tables, worths_by_words, worths_of_parts, plain_worths, refusals_of_worths,
-    worths_of_files, same_chances_in_either_version, refusals_of_versions, units_of_files, *doubles_checks.GROUPS,
+    worths_of_files, same_chances_in_either_version, refusals_of_versions, units_of_files, *doubles_checks.GROUPS, *boards_checks.GROUPS,
 )
 
 

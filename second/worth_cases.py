@@ -4,18 +4,24 @@ import random
 from typing import NamedTuple
 
 from figures_cases import Case as Asked
+from figures_cases import no_board_version_cases as asked_of_no_board_version
 from figures_cases import no_version_cases as asked_of_no_version
-from figures_cases import part, refused_pair_case, same_chance_pairs, spoil, stretch_case, unread_more_case, whole
-from foambeetle import KINDS, LONGEST_WINDOW, MOST_PAIRS, MOST_WEIGHT, PAIRS_KIND, SEVEN_KINDS, TABLE_CELLS, UNIT, UNITS, Rule, worth
+from figures_cases import (
+    behind, board_number_cases, board_stretch_case, part, refused_board_case, refused_pair_case, same_chance_pairs, spoil, stretch_case, unread_board_case,
+    unread_more_case, whole,
+)
+from foambeetle import (
+    KINDS, LONGEST_WINDOW, MOST_BOARDS, MOST_PAIRS, MOST_WEIGHT, PAIRS_KIND, SEVEN_KINDS, TABLE_CELLS, UNIT, UNITS, Boards, Rule, worth,
+)
 from samples import (
-    DECIMAL, EDGE_SURVIVALS, HUGE, OVER_UNIT, all_rules, edge_rules, edges, over, random_pairs, random_rule, random_stretch, random_survivals,
-    random_weights, rule_for, rules_in_range, short_lines, two_windows, unread_weights, weights_for, weights_of_total, wrong_numbers_of_pairs,
-    wrong_rules,
+    BOARDED, DECIMAL, EDGE_SURVIVALS, HUGE, OVER_UNIT, WITHOUT_BOARDS, all_rules, edge_rules, edges, over, random_pairs, random_rule, random_stretch,
+    random_survivals, random_weights, rule_for, rules_in_range, short_lines, two_windows, unread_weights, weights_for, weights_of_total,
+    wrong_numbers_of_pairs, wrong_rules,
 )
 
 WORTH = 1  # the word `call`
 OUTSIDE = 17  # the refusal of the fan
-ANSWERS_WANTED = {"lower"} | {f"refused {number}" for number in (*range(1, 8), 11, OUTSIDE)}
+ANSWERS_WANTED = {"lower"} | {f"refused {number}" for number in (*range(1, 8), 11, OUTSIDE, 20, 21)}
 
 
 class Case(NamedTuple):
@@ -26,8 +32,9 @@ class Case(NamedTuple):
         return self.asked.words(WORTH, self.fan)
 
     def line(self):
-        rule, a, b, room, _, survivals, weights, version = self.asked
-        return self.asked.line_of(worth(rule, a, b, self.fan, survivals, weights, room, version), "lower", "upper")
+        rule, a, b, room, _, *read = self.asked
+        survivals, weights, version, boards = read
+        return self.asked.line_of(worth(rule, a, b, self.fan, survivals, weights, room, version, boards), "lower", "upper")
 
 
 def with_number(asked, fan, survival):
@@ -263,10 +270,62 @@ def same_chance_cases(rng):
         yield from (Case(asked, fan) for asked in pair)
 
 
+def board_small_cases(rng):
+    """Version 3: every rule in range for n up to 2, of every kind, and every fan, behind one to four boards by turns."""
+    for n in (1, 2):
+        weights = weights_of_total(rng, n, n + 1)
+        for place, rule in enumerate(all_rules(n, sum(weights))):
+            read = weights if rule.kind == 2 else unread_weights(rng)
+            asked = behind(rng, rule, random_survivals(rng, n, UNITS[BOARDED]), read, 1 + place % MOST_BOARDS)
+            yield from (Case(asked, fan) for fan in range(1, n + 1))
+
+
+def board_kind_cases(rng):
+    """Version 3: every kind behind each number of boards, and longer lists."""
+    unit = UNITS[BOARDED]
+    for kind in KINDS:
+        for g in range(1, MOST_BOARDS + 1):
+            n = rng.randint(3, 8)
+            weights = weights_for(rng, kind, n)
+            asked = behind(rng, rule_for(rng, kind, n, weights), [rng.randrange(unit + 1) for _ in range(n)], weights, g)
+            yield Case(asked, rng.randint(1, n))
+        n = rng.randint(10, 24)
+        weights = weights_for(rng, kind, n)
+        yield Case(behind(rng, rule_for(rng, kind, n, weights), random_survivals(rng, n, unit), weights), rng.choice((1, n, rng.randint(1, n))))
+
+
+def own_board_cases(rng):
+    """A fan whose own board stands at an edge of the unit, and above it, and a fan on no board beside it: one that is sure to work may lose its board."""
+    # document 02, request 11: "a fan sure to work may still lose its board"
+    unit = UNITS[BOARDED]
+    for survival in edges(unit) + over(unit):
+        for rule in (Rule(1, 1, 0), Rule(4, 2, 0)):
+            asked = whole(rng, rule, random_survivals(rng, 3, unit), [], BOARDED)._replace(boards=Boards([1, 0, 2], [survival, rng.randrange(unit)]))
+            yield from (Case(asked, fan) for fan in (1, 2))
+
+
+def board_stretch_cases(rng):
+    """Version 3: stretches, with the fans at both ends of each and those just outside; board numbers above g inside and outside."""
+    for _ in range(12):
+        asked = board_stretch_case(rng, rng.randint(1, 9))
+        yield from (Case(asked, fan) for fan in sorted({asked.a, asked.b, asked.a - 1, asked.b + 1}))
+    yield from (Case(asked, rng.randint(1, 4)) for asked in list(board_number_cases(rng))[1::3])
+
+
+def refused_board_cases(rng):
+    """Version 3: things wrong at once, and a fan in the stretch or outside; versions without boards, or none at all, beside boards' lists."""
+    for _ in range(60):
+        asked = refused_board_case(rng, rng.choice((0, 1, 2, 3)))
+        yield Case(asked, rng.choice((0, asked.a, asked.b, asked.b + 1, HUGE[-1])))
+    for kind in KINDS:
+        yield from (Case(unread_board_case(rng, kind, version), rng.randint(0, 4)) for version in WITHOUT_BOARDS)
+    yield from (Case(asked, rng.choice((0, 1, 2))) for asked in list(asked_of_no_board_version(rng))[::2])
+
+
 def make_cases():
     rng = random.Random(606)
     makers = (small_cases, own_number_cases, long_cases, sound_fan_cases, no_weight_cases, harmful_fan_cases, stretch_cases, outside_cases,
               room_cases, rule_cases, length_cases, refused_cases, short_line_cases, pair_cases, long_pair_cases, pair_stretch_cases,
               wrong_pair_cases, decimal_small_cases, decimal_long_cases, decimal_stretch_cases, decimal_own_number_cases, no_version_cases,
-              same_chance_cases)
+              same_chance_cases, board_small_cases, board_kind_cases, own_board_cases, board_stretch_cases, refused_board_cases)
     return [case for maker in makers for case in maker(rng)]

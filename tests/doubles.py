@@ -1,6 +1,6 @@
 """The office's calls over doubles against the second program, bit for bit.
 
-Out: 1,600 random deck files of either version, sound and damaged, and the samples, each asked for its systems and for some that it has not. In: every
+Out: 1,600 random deck files of every version, sound and damaged, and the samples, each asked for its systems and for some that it has not. In: every
 edge of the doubles, the grid's points and their neighbours, one fan each; 6,000 random lists under every kind; and 2,560 with every choice of things wrong,
 so that the order of the refusals shows. All of it through a C program linked with libfoambeetle_office.a, with guard pages on either side of what it
 lends.

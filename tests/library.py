@@ -15,7 +15,7 @@ from common import (
     LIBRARIES, OFFICE, SAMPLES, SHIP, WRITER, build, compare, compare_example, compare_samples, decks, make, root, run, sample, static, tools,
 )
 
-from foambeetle import UNITS, Refusal, rate, read_deck, system_numbers, unit_of_file, worth_of_file, write_deck
+from foambeetle import NO_BOARDS, UNITS, Boards, Refusal, rate, read_deck, system_numbers, unit_of_file, worth_of_file, write_deck
 
 LIBRARY = root / "target/lib"
 NEEDED = {"memcpy", "memset"}
@@ -96,9 +96,10 @@ def worth_by_ctypes(library, data, system, fan):
     return Refusal(refusal) if refusal and tuple(ends) == before else tuple(ends)
 
 
-def written_by_ctypes(library, version, survivals, weights, numbers, room):
+def written_by_ctypes(library, version, survivals, weights, boards, numbers, room):
     """The answer, and the room afterwards."""
-    lists = (ctypes.c_uint32, survivals), (ctypes.c_uint16, weights), (ctypes.c_uint16, numbers), (ctypes.c_uint8, room)
+    lists = ((ctypes.c_uint32, survivals), (ctypes.c_uint16, weights), (ctypes.c_uint8, boards.of_fans), (ctypes.c_uint32, boards.survivals),
+             (ctypes.c_uint16, numbers), (ctypes.c_uint8, room))
     lent = [(kind * len(values))(*values) for kind, values in lists]
     call = library.foambeetle_write
     call.argtypes, call.restype = [ctypes.c_uint64, *(word for one in lent for word in (type(one), ctypes.c_size_t))], ctypes.c_uint64
@@ -107,10 +108,12 @@ def written_by_ctypes(library, version, survivals, weights, numbers, room):
 
 
 def python_written():
-    """The sample decks, written again in either version."""
+    """The sample decks, written again in every version; of those that have no boards, each fan on a board of its own turn."""
     library = ctypes.CDLL(str(shared(OFFICE)))
     found = [read_deck(deck.read_bytes()) for deck in decks()]
-    typed = [(version, deck.survivals, deck.weights, system_numbers(deck.systems), b"\7" * 800) for deck in found for version in UNITS]
+    turns = [Boards([fan % 5 for fan in range(len(deck.survivals))], [7, 8, 9, 10]) for deck in found]
+    typed = [(version, deck.survivals, deck.weights, boards if deck.boards == NO_BOARDS else deck.boards, system_numbers(deck.systems), b"\7" * 900)
+             for deck, boards in zip(found, turns) for version in UNITS]
     return compare("decks written through ctypes", [written_by_ctypes(library, *one) for one in typed], [write_deck(*one) for one in typed])
 
 

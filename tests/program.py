@@ -8,7 +8,7 @@ import sys
 from common import PROGRAMS, compare, decks, held, prove, root, run, started
 
 from files import random_files
-from foambeetle import UNITS, Deck, Rule, System, deck_bytes, decklist_output
+from foambeetle import UNITS, Boards, Deck, Rule, System, deck_bytes, decklist_output
 
 SAMPLE = root / "samples/hold1.deck"
 FILES = 60
@@ -41,10 +41,11 @@ def with_percents(data):
 
 
 def near(version):
-    """A fan for each figure, and a system for each fan, so that low and high are that figure."""
+    """A fan for each figure, and a system for each fan, so that low and high are that figure; its board, where the version has them, is sure to work."""
     unit = UNITS[version]
     fans = [*NEAR, unit // 2, unit - 1, unit]
-    return deck_bytes(Deck(fans, [0] * len(fans), [System(Rule(1, 1, 0), place, place) for place in range(1, len(fans) + 1)], version))
+    systems = [System(Rule(1, 1, 0), place, place) for place in range(1, len(fans) + 1)]
+    return deck_bytes(Deck(fans, [0] * len(fans), systems, version, Boards([1] * len(fans), [unit])))
 
 
 def percents():

@@ -1,9 +1,9 @@
 """The library's calls, decklist and deckworth against the second program, byte for byte.
 
-5,200 random deck files of either version, sound and damaged by turns, one of lines shorter than their window, one of pairs, and two whose fans stand
-about the units, go through a C program linked with libfoambeetle.a, which rates their systems, asks for the worth of a fan under each and for the
-file's unit, with guard pages on either side of what it lends and a stack that shows how deep a call goes; some of them, and inputs of odd lengths,
-through the programs; the samples through the programs and through the C samples.
+5,200 random deck files of every version, sound and damaged by turns, one of lines shorter than their window, one of pairs, three whose fans stand about
+the units, and some whose boards do, go through a C program linked with libfoambeetle.a, which rates their systems, asks for the worth of a fan under
+each and for the file's unit, with guard pages on either side of what it lends and a stack that shows how deep a call goes; some of them, and inputs of
+odd lengths, through the programs; the samples through the programs and through the C samples.
 """
 
 import random
@@ -13,7 +13,8 @@ import sys
 from common import PROGRAMS, SAMPLES, compare, compare_samples, make, prove, root, run, sample, started, static
 
 from files import random_files
-from foambeetle import UNITS, Deck, Refusal, Rule, System, deck_bytes, rate, unit_of_file, worth_of_file
+from foambeetle import BOARDS_VERSION, UNITS, Boards, Deck, Refusal, Rule, System, deck_bytes, rate, unit_of_file, worth_of_file
+from samples import edges, over
 
 FILES = 5200
 PRINTED = 150  # a process each, so fewer
@@ -47,9 +48,11 @@ def answered(data, system, fan):
     return f"system {system} {rate(data, system):x} fan {fan} {text} unit {unit_of_file(data)}"
 
 
-def largest():
-    """A sound file of the greatest length, 724 bytes, and of the longest lines: all fans are sure to fail, and one that did not would be the end."""
-    return deck_bytes(Deck([0] * 64, [1] * 64, [System(Rule(3, 63, 63), 1, 64)] * 32))
+def largest(version):
+    """A sound file of the greatest length, 724 bytes or with boards 812, and of the longest lines: all fans are sure to fail, and one that did not would
+    be the end."""
+    boards = Boards([fan % 5 for fan in range(64)], [UNITS[version] - 1] * 4)
+    return deck_bytes(Deck([0] * 64, [1] * 64, [System(Rule(3, 63, 63), 1, 64)] * 32, version, boards))
 
 
 def short_lines():
@@ -71,18 +74,29 @@ def pairs():
 def about_units(version):
     """A file whose fans stand just below, at and just above either unit, with a system for each."""
     # document 02, request 08: "4 against the file's unit"
-    fans = [unit + more for unit in UNITS.values() for more in (-1, 0, 1)]
-    return deck_bytes(Deck(fans, [0] * len(fans), [System(Rule(1, 1, 0), fan, fan) for fan in range(1, len(fans) + 1)], version))
+    fans = [unit + more for unit in sorted(set(UNITS.values())) for more in (-1, 0, 1)]
+    systems = [System(Rule(1, 1, 0), fan, fan) for fan in range(1, len(fans) + 1)]
+    return deck_bytes(Deck(fans, [0] * len(fans), systems, version, Boards([1] * len(fans), [UNITS[version]])))
+
+
+def about_boards():
+    """Files with a board at each edge of the unit and above it, of fans on it, on another and on none, rated by themselves and together."""
+    # document 02, request 11: "4 for any board's survival number too"
+    unit = UNITS[BOARDS_VERSION]
+    systems = [System(rule, *stretch) for rule in (Rule(1, 1, 0), Rule(3, 0, 0)) for stretch in ((1, 1), (2, 2), (3, 3), (1, 3))]
+    for number in edges(unit) + over(unit):
+        yield deck_bytes(Deck([unit, unit - 1, unit // 3], [0] * 3, systems, BOARDS_VERSION, Boards([2, 0, 1], [unit // 2, number])))
 
 
 def odd_inputs():
     """Empty input, input that stops early, and files, sound or not, with more behind them than any file has."""
     sound = next(random_files(11, 1))
     yield from (sound[:length] for length in (0, 1, 7, 19, 20, 21, len(sound) - 1))
-    full = largest()
-    no_version, too_many = b"\3" + full[1:], full[:6] + b"\x21\0" + full[8:]
-    for front in (sound, full, no_version, too_many):
-        yield from (front[:length] + b"\0" * (length - len(front)) for length in (723, 724, 725, 1023, 1024, 1025, 4096, 70000))
+    full, longest = largest(1), largest(BOARDS_VERSION)
+    no_version, too_many, no_boards = b"\4" + longest[1:], longest[:6] + b"\x21\0" + longest[8:], longest[:20] + b"\0" + longest[21:]
+    for front in (sound, full, longest, no_version, too_many, no_boards):
+        yield from (front[:length] + b"\0" * (length - len(front)) for length in (723, 724, 725, 811, 812, 813, 1023, 1024, 1025, 4096, 70000))
+    yield from (longest[:length] for length in (20, 27, 28))
 
 
 def compare_stacks(lines):
@@ -93,7 +107,7 @@ def compare_stacks(lines):
 
 
 def units_seen(lines):
-    """Files of either version and refused ones were met, by the unit that is answered."""
+    """Files of either unit and refused ones were met, by the unit that is answered."""
     met = {int(line.rpartition(" ")[2]) for line in lines}
     print(f"units met: {sorted(met)}")
     return met == {0, *UNITS.values()}
@@ -119,7 +133,7 @@ def compare_stored():
 def main():
     make("lib")
     prove()
-    files = [short_lines(), pairs(), *map(about_units, UNITS), *random_files(2026, FILES)]
+    files = [short_lines(), pairs(), *map(about_units, UNITS), *about_boards(), *random_files(2026, FILES)]
     good = compare_stored() & compare_calls(files)
     inputs = files[:PRINTED] + list(odd_inputs())
     for program, output in PROGRAMS.items():

@@ -1,7 +1,7 @@
 """The stack that each of the library's calls can need: the frames of the compiled code, added up along the deepest chain of calls.
 
 tests/run.py runs the calls on a stack of just the bytes that are granted; here the paths that no case takes are counted too. What moves the stack in
-a way that is not known here, or is called where the code does not say whom, is a failure.
+a way that is not known here, is called where the code does not say whom, or calls itself without a bound that is known here, is a failure.
 """
 
 import re
@@ -13,12 +13,14 @@ from common import make, reported, root, run, tools
 MOST_STACK = 70000  # document 02, request 07
 CALLS = ("foambeetle_rate", "foambeetle_worth", "foambeetle_unit")
 OUTSIDE = {"memcpy": 256, "memset": 256}  # of a C library, whose own code is not ours to read
+AGAIN = {"combine": 5}  # of crate boards, which calls itself for each of at most four boards, and stands once more past them
 RED_ZONE = 128  # what a function that calls nothing may use below its frame
 WORD = 8
 
 FUNCTION = re.compile(r"^[0-9a-f]+ <(\S+)>:$")
 INSTRUCTION = re.compile(r"^\s+[0-9a-f]+:\s+([a-z]\S*)\s*(.*)$")
 TARGET = re.compile(r"^\s+[0-9a-f]+: R_X86_64_PLT32\s+(?:\.text\.)?([^\s+-]+)")
+INSIDE = re.compile(r"<([^+>]+)>$")  # a call that the compiler has settled itself, of the function that it stands in
 BELOW = re.compile(r"^\$(0x[0-9a-f]+|\d+),%(rsp|r11)$")
 PAGE = 0x1000
 
@@ -56,13 +58,15 @@ def read(lines, wrong):
     """A function's frame, with the place that it returns to, and whom it calls."""
     name = FUNCTION.match(lines[0])[1]
     code, called = [], set()
-    for line in lines[1:]:
+    for line, after in zip(lines[1:], [*lines[2:], ""]):
         if found := TARGET.match(line):
             called.add(found[1])
         elif found := INSTRUCTION.match(line):
             code.append((found[1], found[2]))
-            if found[1].startswith("call") and found[2].startswith("*"):
-                wrong.append(f"{name}: {found[1]} {found[2]} does not say whom")
+            if found[1].startswith("call") and not TARGET.match(after):
+                inside = INSIDE.search(found[2])
+                called.update(inside.groups() if inside else ())
+                wrong += [] if inside else [f"{name}: {found[1]} {found[2]} does not say whom"]
     return WORD + moved(code, wrong, name), called
 
 
@@ -71,12 +75,21 @@ def main():
     wrong = []
     functions = {name: read(lines, wrong) for name, lines in disassembled().items()}
 
+    standing = set()
+
     @lru_cache(maxsize=None)
     def deepest(name):
         if name in OUTSIDE:
             return OUTSIDE[name]
+        if name in standing:
+            wrong.append(f"{name} calls itself, and nobody says how often")
+            return 0
         frame, called = functions[name]
-        return frame + max(map(deepest, called), default=RED_ZONE)
+        times = max((AGAIN[part] for part in AGAIN if part in name), default=1) if name in called else 1
+        standing.add(name)
+        below = max(map(deepest, called - {name} if times > 1 else called), default=RED_ZONE)
+        standing.remove(name)
+        return frame * times + below
 
     depths = {call: deepest(call) for call in CALLS}
     wrong += [f"{call} can need {depth} bytes" for call, depth in depths.items() if depth > MOST_STACK]

@@ -2,7 +2,7 @@
 use Prim.Native.Nat.{ℕ}
 
 abbrev pub mostBytes : ℕ
-mostBytes = 1310720
+mostBytes = 1572864
 
 abbrev pub mostNumbers : ℕ
 mostNumbers = 256

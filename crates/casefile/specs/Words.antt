@@ -21,6 +21,9 @@ wordsFrom bytes at k = wordAt bytes (at + k)
 abbrev pub lowWords : (limit : ℕ) (bytes : List ℕ) (at k : ℕ) → ℕ
 lowWords limit bytes at k = wordsFrom bytes at k % limit
 
+abbrev pub octetLimit : ℕ
+octetLimit = 2 ^ 8
+
 abbrev pub shortLimit : ℕ
 shortLimit = 2 ^ 16
 

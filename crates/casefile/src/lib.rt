@@ -8,7 +8,7 @@ ghost use lib.ListN.{replicate};
 ghost use Rattle.casefile.specs.Rooms.{mostBytes, mostNumbers};
 
 // The bytes of a case file, or of the lines that answer it, and the numbers of one of a case's lists, at most.
-pub const MOST_BYTES: usize = 1310720;
+pub const MOST_BYTES: usize = 1572864;
 
 pub const MOST_NUMBERS: usize = 256;
 

@@ -4,13 +4,15 @@ ghost use mathlib.Core.Logic.{_↔_};
 ghost use mathlib.Core.Path.{_≡_};
 ghost use Prim.Native.Nat.{ℕ, _+_, _/_, _≤_, _<_};
 ghost use lib.ListN.{length};
-ghost use Rattle.casefile.specs.Words.{wordBytes, wordAt, wordsFrom, lowWords, shortLimit, longLimit};
+ghost use Rattle.casefile.specs.Words.{wordBytes, wordAt, wordsFrom, lowWords, octetLimit, shortLimit, longLimit};
 ghost use Rattle.casefile.specs.Begins.{Begins};
 
 // The bytes of a word.
 const WORD_BYTES: usize = 8;
 
-// What 16 and what 32 bits hold is below these.
+// What 8, what 16 and what 32 bits hold is below these.
+pub const OCTET_LIMIT: u64 = 256;
+
 pub const SHORT_LIMIT: u64 = 65536;
 
 pub const LONG_LIMIT: u64 = 4294967296;
@@ -53,6 +55,18 @@ pub fn fit(bytes: &[u8], at: usize, count: usize, limit: u64) -> bool
         k += 1;
     }
     true
+}
+
+// Fills a list of 8-bit numbers with the words from `at` on.
+pub fn octets(bytes: &[u8], at: usize, into: &mut [u8])
+    requires { ⌜ at ≤ length (now bytes) ⌝ }
+    ensures { λ _. ⌜ Begins (lowWords octetLimit (now (bytes .entry)) at) (now (into .entry)) (now (into .exit)) (length (now (into .entry))) ⌝ }
+{
+    let mut k: usize = 0;
+    while k < into.len() {
+        into[k] = (word(bytes, at + k) % OCTET_LIMIT) as u8;
+        k += 1;
+    }
 }
 
 // Fills a list of 16-bit numbers with the words from `at` on.

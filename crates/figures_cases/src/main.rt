@@ -1,7 +1,7 @@
 // Runs the cases of standard input and writes an answer and the checksum of the lent table a line. All of the input is words of 64 bits, lowest
 // byte first: the number of cases, then each case: the call (1 the worth of a fan, else the figures), the version, kind, first, second, a, b, the fan,
 // room, seed, the number of survival numbers, the survival numbers, the number of weights, the weights, how many numbers the further pairs have,
-// these. A case that is cut short ends the run.
+// these, the number of board numbers, these, the number of boards, their survival numbers. A case that is cut short ends the run.
 mod size; // size.rt: how long a case is
 
 ghost use Prim.Native.Nat.{_+_, _≤_};
@@ -37,12 +37,17 @@ const SEED: usize = 9;
 
 const FANS: usize = 10;
 
-// The words before the survival numbers; with the number of weights; and with the number of the further pairs' numbers, all of a case beside its lists.
+// The words before the survival numbers; with the number of weights; with that of the further pairs' numbers; with that of the board numbers; and with
+// the number of boards, all of a case beside its lists.
 const HEAD: usize = 11;
 
 const WEIGHED: usize = 12;
 
-const OTHERS: usize = 13;
+const PAIRED: usize = 13;
+
+const PLACED: usize = 14;
+
+const OTHERS: usize = 15;
 
 // The call for the worth of a fan.
 const WORTH: u64 = 1;
@@ -53,11 +58,14 @@ const MOST_CELLS: usize = 8000;
 // The bytes that the two ends of a worth take with their names, at most.
 const ENDS: usize = 55;
 
-// How many survival numbers, weights, numbers of further pairs and cells a case has, and whether it is whole.
+// How many survival numbers, weights, numbers of further pairs, board numbers, boards, words and cells a case has, and whether it is whole.
 pub struct Sizes {
     pub fans: usize,
     pub weights: usize,
     pub more: usize,
+    pub boards: usize,
+    pub switchboards: usize,
+    pub long: usize,
     pub room: usize,
     pub whole: bool,
 }
@@ -75,6 +83,8 @@ fn asked(
     survival: &[u32],
     weights: &[u16],
     more: &[u64],
+    boards: &[u8],
+    switchboards: &[u32],
     table: &mut [u64],
 ) -> Answer
     requires { ⌜ at + headWords ≤ length (now bytes) ⌝ }
@@ -94,10 +104,23 @@ fn asked(
             survival,
             weights,
             more,
+            boards,
+            switchboards,
             table,
         ));
     }
-    Answer::Rated(figures::figures(version, rule, a, b, survival, weights, more, table))
+    Answer::Rated(figures::figures(
+        version,
+        rule,
+        a,
+        b,
+        survival,
+        weights,
+        more,
+        boards,
+        switchboards,
+        table,
+    ))
 }
 
 // The same, with the lists read from the case.
@@ -107,13 +130,28 @@ fn answered(bytes: &[u8], at: usize, s: Sizes, table: &mut [u64]) -> Answer
     let n = s.fans;
     let w = s.weights;
     let m = s.more;
+    let p = s.boards;
+    let g = s.switchboards;
     let mut survival = [0u32; MOST_NUMBERS];
     words::longs(bytes, at + HEAD, &mut survival[..n]);
     let mut weights = casefile::weights_room();
     words::shorts(bytes, at + WEIGHED + n, &mut weights[..w]);
     let mut more = casefile::more_room();
-    words::fulls(bytes, at + OTHERS + n + w, &mut more[..m]);
-    asked(bytes, at, &survival[..n], &weights[..w], &more[..m], table)
+    words::fulls(bytes, at + PAIRED + n + w, &mut more[..m]);
+    let mut boards = [0u8; MOST_NUMBERS];
+    words::octets(bytes, at + PLACED + n + w + m, &mut boards[..p]);
+    let mut switchboards = [0u32; MOST_NUMBERS];
+    words::longs(bytes, at + OTHERS + n + w + m + p, &mut switchboards[..g]);
+    asked(
+        bytes,
+        at,
+        &survival[..n],
+        &weights[..w],
+        &more[..m],
+        &boards[..p],
+        &switchboards[..g],
+        table,
+    )
 }
 
 // Puts a rating into the buffer and answers where it ends.
@@ -219,7 +257,7 @@ fn run(bytes: &[u8], out: &mut [u8]) -> usize
             return end;
         }
         end = run_case(bytes, at, s, out, end);
-        at += OTHERS + s.fans + s.weights + s.more;
+        at += s.long;
         done += 1;
     }
     end

@@ -4,12 +4,14 @@ ghost use mathlib.Core.Bool.{true, false};
 ghost use Prim.Native.Nat.{_+_, _≤_};
 ghost use lib.ListN.{length};
 ghost use Rattle.casefile.specs.Rooms.{mostNumbers};
-ghost use Rattle.figures_cases.specs.Whole.{otherWords, Whole};
+ghost use Rattle.figures_cases.specs.Whole.{otherWords, mostCells, Whole};
 use crate::CELLS;
 use crate::FANS;
 use crate::HEAD;
 use crate::MOST_CELLS;
 use crate::OTHERS;
+use crate::PAIRED;
+use crate::PLACED;
 use crate::Sizes;
 use crate::WEIGHED;
 use casefile::MOST_NUMBERS;
@@ -23,26 +25,71 @@ fn cut_short() -> Sizes
         fans: 0,
         weights: 0,
         more: 0,
+        boards: 0,
+        switchboards: 0,
+        long: 0,
         room: 0,
         whole: false,
     }
 }
 
-// Does the case at `at`, of n survival numbers, w weights and m numbers of further pairs, end within the file, and does each number fit its list?
-fn fits(bytes: &[u8], at: usize, n: usize, w: usize, m: usize) -> bool
+// Does the case at `at`, of n survival numbers, w weights, m numbers of further pairs, p board numbers and g boards, end within the file, and does each
+// number fit its list?
+fn fits(bytes: &[u8], at: usize, n: usize, w: usize, m: usize, p: usize, g: usize) -> bool
     requires begins { ⌜ at ≤ length (now bytes) ⌝ }
     requires few { ⌜ n ≤ mostNumbers ⌝ }
     requires light { ⌜ w ≤ mostNumbers ⌝ }
     requires paired { ⌜ m ≤ mostNumbers ⌝ }
-    ensures { λ r. ⌜ (r ≡ true → at + otherWords + n + w + m ≤ length (now (bytes .entry))) ⌝ }
+    requires placed { ⌜ p ≤ mostNumbers ⌝ }
+    requires boarded { ⌜ g ≤ mostNumbers ⌝ }
+    ensures { λ r. ⌜ (r ≡ true → at + otherWords + n + w + m + p + g ≤ length (now (bytes .entry))) ⌝ }
 {
-    if words::whole(bytes) < at + OTHERS + n + w + m {
+    if words::whole(bytes) < at + OTHERS + n + w + m + p + g {
         return false;
     }
-    if words::fit(bytes, at + HEAD, n, words::LONG_LIMIT) {
-        return words::fit(bytes, at + WEIGHED + n, w, words::SHORT_LIMIT);
+    if !words::fit(bytes, at + HEAD, n, words::LONG_LIMIT) {
+        return false;
     }
-    false
+    if !words::fit(bytes, at + WEIGHED + n, w, words::SHORT_LIMIT) {
+        return false;
+    }
+    if !words::fit(bytes, at + PLACED + n + w + m, p, words::OCTET_LIMIT) {
+        return false;
+    }
+    words::fit(bytes, at + OTHERS + n + w + m + p, g, words::LONG_LIMIT)
+}
+
+// The sizes of the case at `at`, of n survival numbers, w weights and m numbers of further pairs, whose table has so many cells.
+fn boarded_at(bytes: &[u8], at: usize, n: usize, w: usize, m: usize, room: usize) -> Sizes
+    requires begins { ⌜ at ≤ length (now bytes) ⌝ }
+    requires few { ⌜ n ≤ mostNumbers ⌝ }
+    requires light { ⌜ w ≤ mostNumbers ⌝ }
+    requires paired { ⌜ m ≤ mostNumbers ⌝ }
+    requires celled { ⌜ room ≤ mostCells ⌝ }
+    ensures { λ r. ⌜ (r .whole ≡ true → Whole (now (bytes .entry)) at r) ⌝ }
+{
+    let p = words::word(bytes, at + PAIRED + n + w + m);
+    if p > MOST_NUMBERS as u64 {
+        return cut_short();
+    }
+    let boards = p as usize;
+    let g = words::word(bytes, at + PLACED + n + w + m + boards);
+    if g > MOST_NUMBERS as u64 {
+        return cut_short();
+    }
+    let switchboards = g as usize;
+    let long = OTHERS + n + w + m + boards + switchboards;
+    let whole = fits(bytes, at, n, w, m, boards, switchboards);
+    Sizes {
+        fans: n,
+        weights: w,
+        more: m,
+        boards,
+        switchboards,
+        long,
+        room,
+        whole,
+    }
 }
 
 // The sizes of the case at `at`.
@@ -68,12 +115,5 @@ pub fn sizes_at(bytes: &[u8], at: usize) -> Sizes
     if m > MOST_NUMBERS as u64 {
         return cut_short();
     }
-    let whole = fits(bytes, at, fans, weights, m as usize);
-    Sizes {
-        fans,
-        weights,
-        more: m as usize,
-        room: room as usize,
-        whole,
-    }
+    boarded_at(bytes, at, fans, weights, m as usize, room as usize)
 }

@@ -44,15 +44,6 @@ run-case-requires c κs = (c .before .before .before .sizes-at .ensures (not-fal
 add-at : tie.Need-add-at Inv-loop μ-loop
 add-at c = omega (arith, c .before .before .before .before .before .before .before .sizes-at .ensures (not-false _ (c .before .before .before .before .before .if2 .left)))
 
-add-at-2 : tie.Need-add-at-2 Inv-loop μ-loop
-add-at-2 c = omega (arith, c .before .before .before .before .before .before .before .before .sizes-at .ensures (not-false _ (c .before .before .before .before .before .before .if2 .left)))
-
-add-at-3 : tie.Need-add-at-3 Inv-loop μ-loop
-add-at-3 c = omega (arith, c .before .before .before .before .before .before .before .before .before .sizes-at .ensures (not-false _ (c .before .before .before .before .before .before .before .if2 .left)))
-
-add-at-4 : tie.Need-add-at-4 Inv-loop μ-loop
-add-at-4 c = omega (arith, c .before .before .before .before .before .before .before .before .before .sizes-at .ensures (not-false _ (c .before .before .before .before .before .before .before .if2 .left)))
-
 add-done : tie.Need-add-done Inv-loop μ-loop
 add-done c = omega arith
 
@@ -61,10 +52,10 @@ loop-less c = omega arith
 
 loop-again : tie.Need-loop-again Inv-loop μ-loop
 loop-again c =
-    let l = c .before .before .before .before .before .before .before .before .before .before .before .loop in
-    let case = c .before .before .before .before .before .run-case in
-    let whole = c .before .before .before .before .before .before .before .before .before .sizes-at .ensures (not-false _ (c .before .before .before .before .before .before .before .if2 .left)) in
-    case-passed (l .inv) (omega (arith, whole .ends)) (omega (arith, case .kept)) (case .ensures)
+    let l = c .before .before .before .before .before .before .before .before .before .loop in
+    let case = c .before .before .before .run-case in
+    let whole = c .before .before .before .before .before .before .before .sizes-at .ensures (not-false _ (c .before .before .before .before .before .if2 .left)) in
+    case-passed (l .inv) (omega (arith, whole .ends, whole .long)) (omega (arith, case .kept)) (case .ensures)
 
 same-length-2 : tie.Need-same-length-2 Inv-loop μ-loop
 same-length-2 c = c .before .loop .inv .kept
@@ -87,9 +78,6 @@ run-spec =
     returns-2
     run-case-requires
     add-at
-    add-at-2
-    add-at-3
-    add-at-4
     add-done
     loop-less
     loop-again

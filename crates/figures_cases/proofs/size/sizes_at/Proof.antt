@@ -1,4 +1,4 @@
--- `size::sizes_at` meets its contract: each size was tested on the way to `fits`. Assumes nothing.
+-- `size::sizes_at` meets its contract: each size was tested on the way to `boarded_at`. Assumes nothing.
 use mathlib.Core.Path.{sym, _∙_}
 use mathlib.Core.Bool.{true≢false}
 use borrow.Author.Needs.{needs}
@@ -62,17 +62,11 @@ cut-short-requires-4 c κs = search needs
 returns-4 : tie.Need-returns-4
 returns-4 c = λ e. absurd (true≢false (sym e ∙ c .cut-short4 .ensures))
 
-fits-requires : tie.Need-fits-requires
-fits-requires c κs = search needs
+boarded-at-requires : tie.Need-boarded-at-requires
+boarded-at-requires c κs = search needs
 
 returns-5 : tie.Need-returns-5
-returns-5 c = λ e. record {
-  fans = c .before .before .before .before .before .if2 .left;
-  weights = c .before .before .before .if3 .left;
-  more = c .before .if4 .left;
-  room = c .before .before .before .before .before .before .if1 .left;
-  ends = c .fits2 .ensures e;
-}
+returns-5 c = c .boarded-at .ensures
 
 pub sizes-at-spec : {M : Type 1} → statement M
 sizes-at-spec =
@@ -97,5 +91,5 @@ sizes-at-spec =
     word-requires-4
     cut-short-requires-4
     returns-4
-    fits-requires
+    boarded-at-requires
     returns-5)
