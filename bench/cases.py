@@ -6,7 +6,7 @@ import sys
 from typing import NamedTuple
 
 sys.path.insert(0, os.path.join(os.path.dirname(os.path.abspath(__file__)), "..", "second"))
-from foambeetle import DEAD, LONGEST_WINDOW, MOST_PAIRS, PAIRS_KIND, SEVEN_KINDS, UNIT, Rule, row_of  # noqa: E402
+from foambeetle import BOARDS_VERSION, DEAD, LONGEST_WINDOW, MOST_PAIRS, PAIRS_KIND, SEVEN_KINDS, UNIT, Boards, Rule, figures, row_of  # noqa: E402
 from samples import random_pairs, rules_in_range, two_windows  # noqa: E402
 
 SIZES = (8, 16, 32, 64)
@@ -15,6 +15,8 @@ KINDS = SEVEN_KINDS  # kind 8 has peers of its own
 WEIGHTS = (1, 2, 4, 8, 16, 32, 57)
 HEAVIEST = 120
 DECIMAL = 10 ** 9
+# As bench/peers/boards.h has them.
+BOARDS = Boards([1, 2, 3, 4] * 16, [999999999, 999500000, 990000001, 900000000])
 
 
 class Case(NamedTuple):
@@ -29,6 +31,10 @@ class Case(NamedTuple):
     def in_decimal(self):
         """The same chances in version 2's unit, as near as it comes."""
         return self._replace(survivals=tuple(p * DECIMAL // UNIT for p in self.survivals))
+
+    def behind_boards(self):
+        """What the second program answers of a list in version 2's unit behind the boards."""
+        return figures(self.rule, 1, len(self.survivals), self.survivals, self.weights, version=BOARDS_VERSION, boards=BOARDS)
 
     def with_middle(self, survival):
         """The same with another survival number of the middle fan, whose worth is asked for (bench/peers/worth.c)."""

@@ -8,7 +8,7 @@ from datetime import date
 from typing import NamedTuple
 
 from cases import (
-    DECIMAL, KINDS, PAIRS_KIND, SIZES, UNIT, agreed_cases, agreed_windows, count_cases, living, longest_cases, steps, weights, window_cases, worst_cases,
+    BOARDS, DECIMAL, KINDS, PAIRS_KIND, SIZES, UNIT, agreed_cases, agreed_windows, count_cases, living, longest_cases, steps, weights, window_cases, worst_cases,
 )
 
 # A double that has gone through n rounded steps is this near, in units of 2^-30.
@@ -16,6 +16,8 @@ NEAR = 0.001
 # How far apart a chance may be in the two units, and how much dearer a rating may be in the second.
 NEAR_UNITS = 1e-6
 DEARER = 1.6
+# The sets of failed boards.
+SETS = 2 ** len(BOARDS.survivals)
 # The instructions of the loop that the driver runs first.
 KNOWN = 2001
 # The instructions of clearing a working table, which a count table's peers do not do.
@@ -123,6 +125,7 @@ class Results:
         self.measure_dearest()
         self.measure_windows()
         self.measure_units()
+        self.measure_boards()
         self.measure_worths()
         self.measure_counts()
 
@@ -174,6 +177,16 @@ class Results:
             if any(abs(a / UNIT - b / DECIMAL) > NEAR_UNITS for a, b in zip(one, other)):
                 fail("the two units give", one, other, "of", case.line())
         self.units = list(zip(cases, ours.costs, decimal.costs))
+
+    def measure_boards(self):
+        """The longest of the first table and the dearest of kind 8 behind four boards, beside the same without them; the second program must agree."""
+        cases = [self.cases[self.at[kind, SIZES[-1]]] for kind in KINDS] + [self.windows[self.dearest_window]]
+        cases = [case.in_decimal() for case in cases]
+        alone, behind = counted(self.room, "decimal", cases), counted(self.room, "boarded", cases)
+        for case, answer in zip(cases, behind.answers):
+            if answer != case.behind_boards():
+                fail("behind boards the library has", answer, "and the second program", case.behind_boards(), "of", case.line())
+        self.boarded = list(zip(cases, alone.costs, behind.costs))
 
     def measure_worths(self):
         """Each worth beside the two ratings whose difference it is, with the fan sure to work and with it sure to fail."""
@@ -241,6 +254,10 @@ class Results:
         rows = [[str(case.rule.kind), asked(case.rule) + laid(case), comma(one), comma(two), f"{two / one:.3f}"] for case, one, two in self.units]
         return table(["kind", "rule", "version 1", "version 2", "version 2 / version 1"], rows)
 
+    def boards_table(self):
+        rows = [[str(case.rule.kind), asked(case.rule), comma(alone), comma(behind), ratio(behind, alone)] for case, alone, behind in self.boarded]
+        return table(["kind", "rule", "without boards", "behind four", "times"], rows)
+
     def wholes(self):
         """Of each kind, the whole call and the rating in it."""
         for kind in KINDS:
@@ -286,6 +303,8 @@ class Results:
             yield f"kind 8, at least {asked(case.rule)}: no more than (e)", ours, listed
         for case, one, two in self.units:
             yield f"kind {case.rule.kind}, {asked(case.rule)}{laid(case)}: version 2 at most {DEARER} times version 1", two, DEARER * one
+        for case, alone, behind in self.boarded:
+            yield f"kind {case.rule.kind}, {asked(case.rule)}: behind four boards {SETS} ratings", behind, SETS * alone
         for kind, whole, library in self.wholes() if "whole" in self.ways else ():
             yield f"kind {kind}: whole call 20,000 over the rating", whole - library, 20000
         for rule, (worth, works, fails) in self.worths.items():
@@ -320,6 +339,8 @@ class Results:
             self.windows_table(),
             "Either unit, at n = 64: the rules of the first table, the dearest, and kind 8:\n",
             self.units_table(),
+            "Behind four boards with the fans on them by turns, at n = 64, in version 3 and without boards in version 2:\n",
+            self.boards_table(),
             "The whole call from a file's bytes, at n = 64:\n",
             self.whole_table(),
             "The worth of fan 32, at n = 64:\n",

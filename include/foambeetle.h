@@ -4,29 +4,36 @@
  * deck file's bytes: foambeetle_rate rates one of its systems and answers one 64-bit number, foambeetle_worth tells what
  * one of its fans is worth to a system, foambeetle_unit what the figures of the file are parts of. A call writes nothing
  * of the caller's but the two ends of a worth, keeps nothing between calls, and may run in several threads at once. It
- * uses up to 65,000 bytes of stack, 62,400 of them its working table.
+ * uses up to 69,600 bytes of stack, 62,400 of them its working table.
  *
  * Figures are parts of the file's unit, which its survival numbers are parts of too: FOAMBEETLE_UNIT (2^30) in a file of
- * version 1, FOAMBEETLE_DECIMAL_UNIT (10^9) in one of version 2. With u for what foambeetle_unit answers of the file, the
- * exact chance that the system works lies between low / u and high / u. So do the ends of a worth read, which may be
+ * version 1, FOAMBEETLE_DECIMAL_UNIT (10^9) in one of version 2 or 3. With u for what foambeetle_unit answers of the file,
+ * the exact chance that the system works lies between low / u and high / u. So do the ends of a worth read, which may be
  * negative: ends[0] / u and ends[1] / u.
  *
- * A refusal is a number of this table. 2 and 10 to 13 refuse the whole file, 14 the system number, 17 the fan's, and the
- * others the system alone:
+ * A file of version 3 has one to four switchboards, each with a survival number, and for each fan the number of its board,
+ * 0 for none. A board that fails takes its fans with it, and the exact chance counts that.
+ *
+ * A refusal is a number of this table. 2, 10 to 13, 20 and 21 refuse the whole file, 14 the system number, 17 the fan's,
+ * and the others the system alone:
  *
  *    1  kind not 1..8
  *    2  number of fans 0 or above 64
  *    3  stretch: a = 0, b < a, or b above the number of fans
- *    4  a survival number above the file's unit in the stretch
+ *    4  a survival number above the file's unit, of a fan in the stretch or of any board
  *    5  kind 2: the stretch's weights add up to more than 120
  *    6  first or second out of range; kind 6 takes a window of 2 to 64 over a stretch of any length, kind 8 a window of
  *       1 to 10 and no longer than the stretch
- *   10  file under 20 bytes
- *   11  version not 1 or 2, or the zero field not 0
+ *   10  file under 20 bytes, or of version 3 and under 28
+ *   11  version not 1, 2 or 3, or the zero field not 0
  *   12  number of systems not 1..32
  *   13  an offset or the file's length differs from the layout
  *   14  system number 0 or above the file's count
  *   17  worth: the fan is not in the system's stretch
+ *   20  version 3: number of boards not 1..4
+ *   21  version 3: a fan's board number above the number of boards
+ *
+ * Of a file 10 is told first, then 11, then 10 for a short header of version 3, 2, 12, 20, 13 and 21.
  */
 #ifndef FOAMBEETLE_H
 #define FOAMBEETLE_H
@@ -41,7 +48,7 @@ extern "C" {
 /* The file VERSION. */
 #define FOAMBEETLE_VERSION "1.0.0"
 
-/* What a chance of 1 is in a file of version 1, and in one of version 2. */
+/* What a chance of 1 is in a file of version 1, and in one of version 2 or 3. */
 #define FOAMBEETLE_UNIT 1073741824u
 #define FOAMBEETLE_DECIMAL_UNIT 1000000000u
 
@@ -79,8 +86,9 @@ static inline uint32_t foambeetle_high(uint64_t answer)
 
 /* The worth of a fan to a system, both counted from 1, of the same file: the system's chance with that fan sure to work,
  * less its chance with it sure to fail. With u for the file's unit, the exact difference lies between ends[0] / u, the
- * lower, and ends[1] / u, the upper; both run from -u to u, and they are at most 2n - 2 apart for a stretch of n fans.
- * The answer is 0 where they are written, and the refusal's number where nothing is. `ends` has room for two numbers. */
+ * lower, and ends[1] / u, the upper; both run from -u to u, and they are at most 2n - 2 apart for a stretch of n fans,
+ * 2(n + g) - 2 behind g boards. A fan that is sure to work may still lose its board. The answer is 0 where they are written,
+ * and the refusal's number where nothing is. `ends` has room for two numbers. */
 uint64_t foambeetle_worth(const uint8_t *file, size_t length, uint64_t system, uint64_t fan, int64_t *ends);
 
 #ifdef __cplusplus

@@ -181,6 +181,7 @@ pub board-files : (bytesFor oneBoard ≡ header 1 1 39 1 ++ body 1)
     × (fileRefusal (header 1 0 39 0) ≡ 12)
     × (fileRefusal (header 1 1 38 0) ≡ 20)
     × (fileRefusal (header 1 1 39 5) ≡ 20)
+    × (fileRefusal (take 22 (header 1 1 39 1) ++ (1 ∷ 0 ∷ 34 ∷ 0 ∷ 0 ∷ 0 ∷ body 1)) ≡ 20)
     × (fileRefusal (header 1 1 38 1 ++ body 2) ≡ 13)
     × (fileRefusal (header 1 1 39 1 ++ body 2) ≡ 21)
     × (writingOf (typedOf 3 (half ∷ []) (7 ∷ []) (1 ∷ []) [] (1 ∷ 1 ∷ 0 ∷ 1 ∷ [])) [] ≡ writing.Refused 12)
@@ -190,7 +191,7 @@ pub board-files : (bytesFor oneBoard ≡ header 1 1 39 1 ++ body 1)
     × (writingOf oneBoard (replicate 48 7) ≡ writing.Refused 16)
     × (writingOf oneBoard (replicate 49 7) ≡ Written 49)
 unfolding some listBelow someAbove bytesOf numberAt allBytes headerOf systemNumbers systemsOf systemAt fileOf deckIn fileRefusal firstOf writeRefusal unless writingOf
-board-files = (refl, refl, refl, refl, refl, refl, refl, refl, refl, refl, refl, refl, refl, refl, refl, refl, refl)
+board-files = (refl, refl, refl, refl, refl, refl, refl, refl, refl, refl, refl, refl, refl, refl, refl, refl, refl, refl)
 
 pub examples : All table
 unfolding All Holds table unitOf sumBelow held some first firstWindow firstNear placeOf judgment judgedOf listBelow total numberOf someWindow twoNear fails weightDown ones countIf countsOf moved ended readingOf rounded value stretch boardDown behind combined someAbove weightsOut ranged firstOf verdictRefusal figuresRefusal unless verdictOf figuresOf
