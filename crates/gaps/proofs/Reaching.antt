@@ -9,6 +9,7 @@ use native.Mathlib.Omega.{arith}
 use lib.Dec.{leb}
 use lib.ListN.{length, getD}
 use Rattle.rules.specs.Figure.{rounded, mixed}
+use Rattle.rules.specs.Refusal.{most}
 use Rattle.memory.specs.declared.owed.Owed.{Owed}
 use Rattle.memory.specs.Owed.{owed, owedFailed, owedWorks, owing}
 use Rattle.places.specs.declared.Ends.{Ends}
@@ -17,6 +18,7 @@ use Rattle.places.proofs.Cells.{both-at, both-as, row-none, row-other, row-more
 use Rattle.places.proofs.Values.{valued-within}
 use Rattle.gaps.specs.declared.Known.{Known}
 use Rattle.gaps.specs.Gaps.{Asked, Owing, Settled, Holds, Passable, Begun, Bringable, Onward, Payable, Reachable, Reached, Stepping}
+use Rattle.gaps.proofs.Sharing.{shared-put}
 use Rattle.gaps.proofs.Paying.{end-valued, free-before, cut}
 
 -- a place of the first half written
@@ -24,8 +26,11 @@ module _ {u r : ℕ} {survival t t' : List ℕ} {at : ℕ} {e : Ends} (p : Put a
   asked-put : Asked u r survival t → Asked u r survival t'
   asked-put y = record { two = y .two; list = workable-kept (p .kept) (y .list) }
 
-  settled-put : length survival < half → Settled u r survival t → Settled u r survival t'
-  settled-put small s = record { row = row-other p (omega arith) (λ k l q. omega arith) (s .row) }
+  settled-put : length survival ≤ most → Settled u r survival t → Settled u r survival t'
+  settled-put small s = record {
+    shared = shared-put p (omega arith) small (s .shared);
+    row = row-other p (omega arith) (λ k l q. omega arith) (s .row);
+  }
 
 module _ {u r x left : ℕ} {survival t : List ℕ} (y : Holds u r x left survival t) where
   pub holds-place : (i : ℕ) → i ≤ length survival → Place i t
@@ -60,13 +65,13 @@ module _ {u r : ℕ} {m : Owed} {i : ℕ} {survival t : List ℕ} (y : Passable 
     nothing-owed : free ≡ owed (m .clean) 0
     nothing-owed = is ∙ ap (owed (m .clean)) (omega arith)
 
-    pub paid-owing : Owing u r free (i - m .owed) i survival e
+    pub paid-owing : Owing u r free (i - m .owed) i survival e t
     paid-owing = record {
       order = omega arith;
       size = omega (arith, y .size);
       alive = rw nothing-owed (omega (arith, y .due, y .holds .asked .two));
-      whole = y .holds .asked .list .whole;
-      units = y .holds .asked .list .units;
+      list = y .holds .asked .list;
+      shared = y .holds .settled .shared;
       value = rw nothing-owed (holds-at (y .holds) (i - m .owed) (omega arith) b);
     }
 
@@ -89,7 +94,7 @@ begun {u} {r} {m} {survival} y end b p =
       left = refl;
       holds = record {
         asked = asked-put p (omega arith) (y .asked);
-        settled = settled-put p (omega arith) (omega arith) (y .settled);
+        settled = settled-put p (omega arith) small (y .settled);
         most = omega arith;
         row = row-more p refl (omega arith) (end-valued u r survival (owed (m .clean) 0) (omega (arith, y .asked .two)) (rw (y .none) at end) b) row-none;
       };
@@ -129,7 +134,7 @@ module _ {u r x left : ℕ} {survival : List ℕ} {works fails : Ends} {t₀ t :
       record {
         holds = record {
           asked = asked-put p (omega arith) (y .holds .asked);
-          settled = settled-put p (omega arith) (omega arith) (y .holds .settled);
+          settled = settled-put p (omega arith) small (y .holds .settled);
           most = omega arith;
           row = rw a (row-more p (omega arith) (omega arith) (rw c at stepped) (y .holds .row));
         };
@@ -147,6 +152,16 @@ reached-able y l h = record {
   holds = rw (y .free, y .left) (y .holds);
   order = omega (arith, y .left);
   most = h;
+}
+
+-- where there is nothing to go on with
+pub brought : {u r : ℕ} {s : Known} {m : Owed} {i : ℕ} {survival t : List ℕ} → Bringable u r s m i survival t → s .free .clean ≡ m .clean → s .left ≡ i - m .owed
+    → Reached u r (m .clean) (i - m .owed) survival t t s
+brought {s = s} y same left = record {
+  free = ap (owed (s .free .clean)) (y .none) ∙ ap (λ x. owed x 0) same;
+  left = left;
+  holds = rw (same, left) at (y .holds);
+  kept = kept-none;
 }
 
 pub reached-on : {u r x done upto : ℕ} {survival t₀ t t' : List ℕ} {s s' : Known} → Reached u r x done survival t₀ t s → Reached u r (s .free .clean) upto survival t t' s'

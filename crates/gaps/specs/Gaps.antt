@@ -1,14 +1,16 @@
 -- Kinds 6 and 7: what the table holds of memories that owe as many as are left and of one that owes nothing, and what each function is handed.
 use mathlib.Core.Path.{_≡_}
-use mathlib.Core.Bool.{Bool}
+use mathlib.Core.Bool.{Bool, cond}
 use mathlib.Core.List.{List}
 use Prim.Native.Nat.{ℕ, suc, _+_, _-_, _≤_, _<_, min}
 use lib.ListN.{length, getD}
+use Rattle.rules.specs.State.{decimal, failure}
 use Rattle.rules.specs.Figure.{rounded, mixed}
+use Rattle.units.specs.Share.{Share}
 use Rattle.memory.specs.declared.owed.Owed.{Owed}
 use Rattle.memory.specs.Owed.{owed, owedWorked, owing}
 use Rattle.places.specs.declared.Ends.{Ends}
-use Rattle.places.specs.Cells.{Both, Shelf, Kept, Within, Workable, half, one, valueOf}
+use Rattle.places.specs.Cells.{Both, Shelf, Kept, Within, Workable, cellAt, half, one, valueOf}
 use Rattle.gaps.specs.declared.Known.{Known}
 
 -- a rule in range
@@ -16,26 +18,36 @@ pub record Asked (u r : ℕ) (survival t : List ℕ) : Type 0 where
   pub two : 2 ≤ r
   pub list : Workable u survival t
 
+-- where the shares of the components stand
+abbrev pub shares : ℕ
+shares = 900
+
+-- over the decimal unit P's share of each component stands where the low end of a value does, and Q's where the high end does
+pub record Shared (u : ℕ) (survival t : List ℕ) : Type 0 where
+  pub row : u ≡ decimal → (up : Bool) (i : ℕ) → i < length survival
+      → Share (cond up (failure u (getD survival i 0)) (getD survival i 0)) (cellAt t up (shares + i))
+
 -- a memory that owes, and its value after the next component works
-pub record Due (u r : ℕ) (m : Owed) (i : ℕ) (survival : List ℕ) (after : Ends) : Type 0 where
+pub record Due (u r : ℕ) (m : Owed) (i : ℕ) (survival : List ℕ) (after : Ends) (t : List ℕ) : Type 0 where
   pub some : 1 ≤ m .owed
   pub alive : m .owed < r
   pub size : i < length survival
-  pub whole : 0 < u
-  pub units : (k : ℕ) → getD survival k 0 ≤ u
+  pub list : Workable u survival t
+  pub shared : Shared u survival t
   pub value : Both (λ up. valueOf u (owing r) survival (owedWorked m) up i) after
 
 -- components that must all work, before the memory m
-pub record Owing (u r : ℕ) (m : Owed) (from upto : ℕ) (survival : List ℕ) (end : Ends) : Type 0 where
+pub record Owing (u r : ℕ) (m : Owed) (from upto : ℕ) (survival : List ℕ) (end : Ends) (t : List ℕ) : Type 0 where
   pub order : from ≤ upto
   pub size : upto ≤ length survival
   pub alive : m .owed + (upto - from) < r
-  pub whole : 0 < u
-  pub units : (k : ℕ) → getD survival k 0 ≤ u
+  pub list : Workable u survival t
+  pub shared : Shared u survival t
   pub value : Both (λ up. valueOf u (owing r) survival m up from) end
 
--- memories that owe as many as are left, as far as a debt can be cut short
+-- memories that owe as many as are left, as far as a debt can be cut short, and the shares
 pub record Settled (u r : ℕ) (survival t : List ℕ) : Type 0 where
+  pub shared : Shared u survival t
   pub row : Shelf (λ up i. valueOf u (owing r) survival (owed 0 i) up i) t half (min (length survival) (r - 1))
 
 -- the memory that owes nothing past x clean ones, known with up to `left` components left

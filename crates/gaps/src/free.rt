@@ -87,7 +87,7 @@ fn reach_paid(
     Known { free, left }
 }
 
-// On to `upto` components left. Both arms say the same: in each the compiler knows the unit, so that no loop asks for it.
+// On to `upto` components left.
 pub fn reach(
     decimal: bool,
     r: usize,
@@ -99,10 +99,6 @@ pub fn reach(
     requires { ⌜ Reachable (whole decimal) r s upto (now survival) (now table) ⌝ }
     ensures { λ k. ⌜ Reached (whole decimal) r (s .free .clean) upto (now (survival .entry)) (now (table .entry)) (now (table .exit)) k ⌝ }
 {
-    if decimal {
-        let cut = reach_cut(decimal, r, s, upto, survival, table);
-        return reach_paid(decimal, r, cut, upto, survival, table);
-    }
     let cut = reach_cut(decimal, r, s, upto, survival, table);
     reach_paid(decimal, r, cut, upto, survival, table)
 }
@@ -123,6 +119,9 @@ pub fn bring(
     let upto = places::rest(i, m.owed);
     let free = s.free;
     if free.clean == m.clean {
+        if s.left == upto {
+            return s;
+        }
         return reach(decimal, r, s, upto, survival, table);
     }
     let anew = begin(decimal, r, m.worked_many(m.owed), survival, table);

@@ -3,17 +3,37 @@ ghost use mathlib.Core.Bool.{cond};
 ghost use Prim.Native.Nat.{_+_, _-_, _≤_};
 ghost use Rattle.memory.specs.Owed.{owed, owing, owedWorks};
 ghost use Rattle.units.specs.Step.{whole};
-ghost use Rattle.places.specs.Cells.{Both, Kept, Place, cellAt, half, valueOf};
-ghost use Rattle.gaps.specs.Gaps.{Asked, Due, Owing, Settled, Passable};
+ghost use Rattle.places.specs.Cells.{Both, Kept, Place, Workable, cellAt, half, valueOf};
+ghost use Rattle.gaps.specs.Gaps.{Asked, Due, Owing, Passable, Settled, Shared};
 use memory::owed::Owed;
 use places::Ends;
 use places::HALF;
+use units::share;
 
-// The value of a memory that owes with one component more, out of its value after the component works: where it fails, it is dead.
-fn must_work(decimal: bool, r: usize, m: Owed, i: usize, survival: &[u32], after: Ends) -> Ends
-    requires { ⌜ Due (whole decimal) r m i (now survival) after ⌝ }
+// Where the shares of the components stand, past the two sides' places.
+const SHARES: usize = 900;
+
+// The value of a memory that owes with one component more, out of its value after the component works: where it fails, it is dead. Over the decimal unit
+// P's share of it is rounded down, and what Q's leaves of it is rounded up.
+fn must_work(
+    decimal: bool,
+    r: usize,
+    m: Owed,
+    i: usize,
+    survival: &[u32],
+    after: Ends,
+    table: &[u64],
+) -> Ends
+    requires { ⌜ Due (whole decimal) r m i (now survival) after (now table) ⌝ }
     ensures { λ e. ⌜ Both (λ up. valueOf (whole decimal) (owing r) (now (survival .entry)) m up (i + 1)) e ⌝ }
 {
+    if decimal {
+        let shares = places::read(table, SHARES + i);
+        return Ends {
+            low: share::part(shares.low, after.low),
+            high: after.high - share::part(shares.high, after.high),
+        };
+    }
     let p = places::chance(survival, i);
     places::step(
         decimal,
@@ -33,8 +53,9 @@ fn back(
     upto: usize,
     survival: &[u32],
     end: Ends,
+    table: &[u64],
 ) -> Ends
-    requires { ⌜ Owing (whole decimal) r m from upto (now survival) end ⌝ }
+    requires { ⌜ Owing (whole decimal) r m from upto (now survival) end (now table) ⌝ }
     ensures { λ e. ⌜ Both (λ up. valueOf (whole decimal) (owing r) (now (survival .entry)) (owed (m .clean) (m .owed + (upto - from))) up upto) e ⌝ }
 {
     let mut due = m;
@@ -42,18 +63,41 @@ fn back(
     let mut i = from;
     while i < upto {
         due = due.before();
-        ends = must_work(decimal, r, due, i, survival, ends);
+        ends = must_work(decimal, r, due, i, survival, ends, table);
         i += 1;
     }
     ends
 }
 
-// The value of a memory that owes as many as are left, from place HALF on.
+// The shares of every component's P and Q, from place SHARES on, where the two ends of a value stand: over the decimal unit, since no others are asked for.
+fn prepare(decimal: bool, survival: &[u32], table: &mut [u64])
+    requires { ⌜ Workable (whole decimal) (now survival) (now table) ⌝ }
+    ensures shared { λ e. ⌜ Shared (whole decimal) (now (survival .entry)) (now (table .exit)) ⌝ }
+    ensures kept { λ e. ⌜ Kept (now (table .entry)) (now (table .exit)) ⌝ }
+{
+    if !decimal {
+        return;
+    }
+    let mut i: usize = 0;
+    while i < survival.len() {
+        let p = places::chance(survival, i);
+        let q = p.failure(decimal);
+        let shares = Ends {
+            low: share::share(p.0),
+            high: share::share(q.0),
+        };
+        places::write(table, SHARES + i, shares);
+        i += 1;
+    }
+}
+
+// The value of a memory that owes as many as are left, from place HALF on, and the shares.
 pub fn settle(decimal: bool, r: usize, survival: &[u32], table: &mut [u64])
     requires { ⌜ Asked (whole decimal) r (now survival) (now table) ⌝ }
     ensures settled { λ e. ⌜ Settled (whole decimal) r (now (survival .entry)) (now (table .exit)) ⌝ }
     ensures kept { λ e. ⌜ Kept (now (table .entry)) (now (table .exit)) ⌝ }
 {
+    prepare(decimal, survival, table);
     let last = places::lesser(survival.len(), r - 1);
     let mut due = Owed { clean: 0, owed: 0 };
     let mut ends = places::end_value(decimal, due.works());
@@ -61,7 +105,7 @@ pub fn settle(decimal: bool, r: usize, survival: &[u32], table: &mut [u64])
     while i < last {
         places::write(table, HALF + i, ends);
         due = due.before();
-        ends = must_work(decimal, r, due, i, survival, ends);
+        ends = must_work(decimal, r, due, i, survival, ends, table);
         i += 1;
     }
 }
@@ -93,6 +137,7 @@ pub fn paid(decimal: bool, r: usize, m: Owed, i: usize, survival: &[u32], table:
         i,
         survival,
         places::read(table, from),
+        table,
     )
 }
 

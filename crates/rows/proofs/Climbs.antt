@@ -4,10 +4,8 @@ use Prim.Native.Nat.{ℕ, suc, _+_, _-_, _≤_, _<_}
 use mathlib.Core.Path.{_≡_, sym, _∙_}
 use mathlib.Core.Bool.{Bool}
 use mathlib.Core.List.{List}
-use native.Mathlib.Nat.{le-trans}
 use native.Mathlib.Omega.{arith}
 use Rattle.rules.specs.declared.Rule.{Rule}
-use Rattle.rules.specs.State.{S}
 use Rattle.rules.specs.Memory.{Machine}
 use Rattle.rules.specs.Figure.{rounded, mixed}
 use Rattle.memory.specs.declared.sum.Sum.{Sum}
@@ -15,7 +13,7 @@ use Rattle.memory.specs.Sum.{sum}
 use Rattle.places.specs.declared.Ends.{Ends}
 use Rattle.places.specs.Cells.{half, Side, one, Both, cellAt, Place, Shelf, Written, Workable, Steady}
 use Rattle.places.proofs.Cells.{both-as, room-kept, side-near, apart}
-use Rattle.places.proofs.Values.{Chance, valued-le, step-steady, step-mixed, valued-suc}
+use Rattle.places.proofs.Values.{Chance, step-steady, step-mixed, valued-suc}
 use Rattle.rows.specs.Kinds.{carryOf, summed}
 use Rattle.rows.specs.Level.{sumsValue}
 
@@ -37,11 +35,8 @@ module _ {u : ℕ} {rule : Rule} {survival weights t₀ t : List ℕ} {left from
       let narrow = y .narrow in
       w .other up (from + k) (omega arith) (apart (y .side) (omega arith) (omega arith)) ∙ y .row .is up k h
 
-  pub read-place : (k : ℕ) → k < width + carry → Place (from + k) t × ((up : Bool) → cellAt t up (from + k) ≤ S)
-  read-place k h = (
-    record { low = omega (arith, side-near (y .side), y .narrow); room = room-kept (w .kept) (y .list .room) },
-    λ up. rw (stands k h up) (le-trans (valued-le (y .list .whole) (summed rule weights) survival (y .list .units) left (sum k) up) (y .list .narrow)),
-  )
+  pub read-place : (k : ℕ) → k < width + carry → Place (from + k) t
+  read-place k h = record { low = omega (arith, side-near (y .side), y .narrow); room = room-kept (w .kept) (y .list .room) }
 
   pub write-place : Place (half - from + m) t
   write-place = record { low = omega (arith, y .narrow); room = room-kept (w .kept) (y .list .room) }

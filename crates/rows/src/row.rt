@@ -1,9 +1,7 @@
 // Rows of places, a place for each sum.
 ghost use mathlib.Core.Path.{_≡_};
-ghost use mathlib.Core.Bool.{Bool};
-ghost use Prim.Native.Nat.{suc, _+_, _<_, _≤_};
+ghost use Prim.Native.Nat.{suc, _+_, _<_};
 ghost use lib.ListN.{length};
-ghost use Rattle.rules.specs.State.{S};
 ghost use Rattle.units.specs.Step.{whole};
 ghost use Rattle.places.specs.Cells.{Both, Place, Written, cellAt};
 ghost use Rattle.rows.specs.Kinds.{limitOf};
@@ -43,10 +41,10 @@ pub fn clear(decimal: bool, off: usize, count: usize, table: &mut [u64])
 
 // The value of a sum, in the row at `from`.
 fn value(table: &[u64], from: usize, m: Sum) -> Ends
-    requires { ⌜ Place (from + m .sum) (now table) × ((up : Bool) → cellAt (now table) up (from + m .sum) ≤ S) ⌝ }
+    requires { ⌜ Place (from + m .sum) (now table) ⌝ }
     ensures { λ r. ⌜ Both (λ up. cellAt (now (table .entry)) up (from + m .sum)) r ⌝ }
 {
-    places::read_small(table, from + m.sum)
+    places::read(table, from + m.sum)
 }
 
 // One component more. Where it weighs nothing every value stays as it is. Else the row on one side is worked out of the row on the other, so the

@@ -1,3 +1,4 @@
 -- What the rounded step is handed.
 pub mod Step
+pub mod Share
 pub mod Odds

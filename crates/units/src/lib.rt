@@ -1,11 +1,13 @@
 // The unit, a component's two numbers, and the one rounded step that every figure is made of, for either unit.
 pub mod odds; // odds.rt: the step over a whole row of values
+pub mod share; // share.rt: a number's share of the decimal unit
 
 ghost use mathlib.Core.Path.{_≡_};
 ghost use mathlib.Core.Bool.{true, false};
-ghost use Prim.Native.Nat.{_*_, _/_, _≤_};
+ghost use Prim.Native.Nat.{_*_, _/_, _<_, _≤_};
 ghost use Rattle.rules.specs.State.{S, unitOf, failure};
 ghost use Rattle.rules.specs.Figure.{rounded, mixed};
+ghost use Rattle.units.specs.Share.{digit};
 ghost use Rattle.units.specs.Step.{whole, Parts};
 
 // Version 1's unit, and that of the later versions.
@@ -52,9 +54,9 @@ impl Survival {
     }
 }
 
-// A number within the larger unit, of which the compiler then sees that it fits 32 bits: it multiplies two of them at a time.
+// A number that fits 32 bits, of which the compiler then sees so: it multiplies two of them at a time.
 pub fn narrow(x: u64) -> u64
-    requires { ⌜ x ≤ S ⌝ }
+    requires { ⌜ x < digit ⌝ }
     ensures { λ r. ⌜ r ≡ x ⌝ }
 {
     (x as u32) as u64

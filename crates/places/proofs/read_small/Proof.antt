@@ -1,6 +1,7 @@
 -- `read_small` reads a pair; both of its ends are within the unit. Assumes nothing.
 use borrow.Author.Needs.{needs}
 use mathlib.Core.Bool.{true, false}
+use native.Mathlib.Omega.{arith}
 use Rattle.places.proofs.read_small.Statement.{statement}
 use Rattle.places.proofs.read_small.Tie as tie
 
@@ -8,10 +9,10 @@ read-requires : tie.Need-read-requires
 read-requires c κs = search needs
 
 narrow-requires : tie.Need-narrow-requires
-narrow-requires c κs = rw (c .read .ensures .low) (c .before .before .pre .1 false)
+narrow-requires c κs = omega (arith, c .read .ensures .low, c .before .before .pre .1 false)
 
 narrow-requires-2 : tie.Need-narrow-requires-2
-narrow-requires-2 c κs = rw (c .before .read .ensures .high) (c .before .before .before .pre .1 true)
+narrow-requires-2 c κs = omega (arith, c .before .read .ensures .high, c .before .before .before .pre .1 true)
 
 returns : tie.Need-returns
 returns c = search needs

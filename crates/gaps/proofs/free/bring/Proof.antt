@@ -1,27 +1,30 @@
--- `bring` goes on with a memory, or begins it anew. Assumes nothing.
+-- `bring` leaves a memory that is there, goes on with it, or begins one anew. Assumes nothing.
 use borrow.Author.Needs.{needs}
-use mathlib.Core.Path.{ap}
+use mathlib.Core.Path.{ap, _∙_}
 use native.Mathlib.Omega.{arith}
-use Rattle.gaps.proofs.Reaching.{reached-able, reached-on, bring-begun}
+use Rattle.gaps.proofs.Reaching.{brought, reached-able, reached-on, bring-begun}
 use Rattle.gaps.proofs.free.bring.Statement.{statement}
 use Rattle.gaps.proofs.free.bring.Tie as tie
 
 rest-requires : tie.Need-rest-requires
 rest-requires c κs = search needs
 
+returns : tie.Need-returns
+returns c = brought (c .before .before .before .before .before .before .before .before .before .pre) (c .before .before .if1 .taken) (c .if2 .taken ∙ c .before .before .before .before .before .before .rest .ensures)
+
 reach-requires : tie.Need-reach-requires
 reach-requires c κs =
-    let pre = c .before .before .before .before .before .before .before .before .pre in
-    let rest = c .before .before .before .before .before .rest in
+    let pre = c .before .before .before .before .before .before .before .before .before .before .pre in
+    let rest = c .before .before .before .before .before .before .before .rest in
     record { none = pre .none; holds = pre .holds; order = rw (rest .ensures) (pre .order); most = omega (arith, rest .ensures, pre .size) }
 
 same-length : tie.Need-same-length
 same-length c = search needs
 
-returns : tie.Need-returns
-returns c =
-    let rest = c .before .before .before .before .before .before .before .before .rest in
-    let if1 = c .before .before .before .before .if1 in
+returns-2 : tie.Need-returns-2
+returns-2 c =
+    let rest = c .before .before .before .before .before .before .before .before .before .before .rest in
+    let if1 = c .before .before .before .before .before .before .if1 in
     let reach = c .before .before .reach in
     rw (if1 .taken, rest .ensures) at (reach .ensures)
 
@@ -41,8 +44,8 @@ reach-requires-2 c κs =
 same-length-2 : tie.Need-same-length-2
 same-length-2 c = search needs
 
-returns-2 : tie.Need-returns-2
-returns-2 c =
+returns-3 : tie.Need-returns-3
+returns-3 c =
     let rest = c .before .before .before .before .before .before .before .before .before .before .before .before .before .rest in
     let worked-many = c .before .before .before .before .before .before .before .before .worked-many in
     let begin = c .before .before .before .before .before .before .begin in
@@ -54,11 +57,12 @@ bring-spec =
     tie.close
     (tie.spec
     rest-requires
+    returns
     reach-requires
     same-length
-    returns
+    returns-2
     worked-many-requires
     begin-requires
     reach-requires-2
     same-length-2
-    returns-2)
+    returns-3)

@@ -1,4 +1,4 @@
--- `reach` goes on while debts are cut short, then while they are paid. Both arms are proved alike. Assumes nothing.
+-- `reach` goes on while debts are cut short, then while they are paid. Assumes nothing.
 use borrow.Author.Needs.{needs}
 use Rattle.gaps.proofs.Reaching.{cut-payable, cut-reached}
 use Rattle.gaps.proofs.free.reach.Statement.{statement}
@@ -8,7 +8,7 @@ reach-cut-requires : tie.Need-reach-cut-requires
 reach-cut-requires c κs = search needs
 
 reach-paid-requires : tie.Need-reach-paid-requires
-reach-paid-requires c κs = cut-payable (c .before .before .before .before .before .before .before .before .pre) (c .before .before .before .reach-cut .ensures)
+reach-paid-requires c κs = cut-payable (c .before .before .before .before .before .before .before .pre) (c .before .before .before .reach-cut .ensures)
 
 same-length : tie.Need-same-length
 same-length c = cut-reached (c .before .before .before .before .before .before .reach-cut .ensures) (c .before .before .reach-paid .ensures) .kept .long
@@ -16,27 +16,5 @@ same-length c = cut-reached (c .before .before .before .before .before .before .
 returns : tie.Need-returns
 returns c = cut-reached (c .before .before .before .before .before .before .reach-cut .ensures) (c .before .before .reach-paid .ensures)
 
-reach-cut-requires-2 : tie.Need-reach-cut-requires-2
-reach-cut-requires-2 c κs = search needs
-
-reach-paid-requires-2 : tie.Need-reach-paid-requires-2
-reach-paid-requires-2 c κs = cut-payable (c .before .before .before .before .before .before .before .before .pre) (c .before .before .before .reach-cut2 .ensures)
-
-same-length-2 : tie.Need-same-length-2
-same-length-2 c = cut-reached (c .before .before .before .before .before .before .reach-cut2 .ensures) (c .before .before .reach-paid2 .ensures) .kept .long
-
-returns-2 : tie.Need-returns-2
-returns-2 c = cut-reached (c .before .before .before .before .before .before .reach-cut2 .ensures) (c .before .before .reach-paid2 .ensures)
-
 pub reach-spec : {M : Type 1} → statement M
-reach-spec =
-    tie.close
-    (tie.spec
-    reach-cut-requires
-    reach-paid-requires
-    same-length
-    returns
-    reach-cut-requires-2
-    reach-paid-requires-2
-    same-length-2
-    returns-2)
+reach-spec = tie.close (tie.spec reach-cut-requires reach-paid-requires same-length returns)

@@ -8,24 +8,24 @@ use Rattle.gaps.proofs.owed.back.Statement.{statement}
 use Rattle.gaps.proofs.owed.back.Tie as tie
 
 abbrev Inv-loop : tie.InvT-loop
-Inv-loop decimal r from upto survival due₀ ends₀ i₀ due ends i = (i ≤ upto) × Back (whole decimal) r (due₀ .clean) (due₀ .owed) i₀ survival i due ends
+Inv-loop decimal r from upto survival table due₀ ends₀ i₀ due ends i = (i ≤ upto) × Back (whole decimal) r (due₀ .clean) (due₀ .owed) i₀ survival i due ends
 
 abbrev μ-loop : tie.MeasureT-loop
-μ-loop decimal r from upto survival due₀ ends₀ i₀ due ends i = upto - i
+μ-loop decimal r from upto survival table due₀ ends₀ i₀ due ends i = upto - i
 
 loop-holds : tie.Need-loop-holds Inv-loop μ-loop
-loop-holds c = (c .before .pre .order, back-first (c .before .pre .value))
+loop-holds c = (c .before .before .pre .order, back-first (c .before .before .pre .value))
 
 before-requires : tie.Need-before-requires Inv-loop μ-loop
-before-requires c κs = rw (c .before .loop .inv .1 .is) (omega (arith, c .loop-test .taken, c .before .before .before .pre .size))
+before-requires c κs = rw (c .before .loop .inv .1 .is) (omega (arith, c .loop-test .taken, c .before .before .before .before .pre .list .size, c .before .before .before .before .pre .size))
 
 must-work-requires : tie.Need-must-work-requires Inv-loop μ-loop
 must-work-requires c κs =
-    let pre = c .before .before .before .before .pre in
+    let pre = c .before .before .before .before .before .pre in
     let loop = c .before .before .loop in
     let v = loop .inv .1 in
     let l = c .before .loop-test .taken in
-    back-due v (c .before2 .ensures) (omega (arith, l, pre .size)) (omega (arith, l, pre .alive, v .least)) (pre .whole) (pre .units)
+    back-due v (c .before2 .ensures) (omega (arith, l, pre .size)) (omega (arith, l, pre .alive, v .least)) (pre .list) (pre .shared)
 
 add-i : tie.Need-add-i Inv-loop μ-loop
 add-i c = search needs

@@ -1,46 +1,47 @@
--- `shared` fits 64 bits, and both digits' quotients are the whole's. Assumes nothing.
-use Prim.Native.Nat.{_+_, _*_, _/_}
-use mathlib.Core.Path.{_≡_, ap, _∙_}
+-- `shared` fits 64 bits, both digits' quotients are the share's, and what is taken off is there. Assumes nothing.
+use Prim.Native.Nat.{_+_, _-_}
+use mathlib.Core.Path.{ap, _∙_}
 use native.Mathlib.Omega.{arith}
-use Rattle.units.specs.Odds.{digit, shareParts}
-use Rattle.units.proofs.Shares.{digits, products}
+use borrow.Author.Needs.{needs}
+use Rattle.units.proofs.Shares.{products, enough, quotient}
 use Rattle.units.proofs.odds.Odds.shared.Statement.{statement}
 use Rattle.units.proofs.odds.Odds.shared.Tie as tie
 
-mul-lower : tie.Need-mul-lower
-mul-lower c = omega (arith, products (c .before .pre) .p0)
+add-narrow : tie.Need-add-narrow
+add-narrow c = omega (arith, c .pre .left)
 
-mul-lower-2 : tie.Need-mul-lower-2
-mul-lower-2 c = omega (arith, products (c .before .before .pre) .q0)
+sub-narrow : tie.Need-sub-narrow
+sub-narrow c = omega (arith, c .pre .right)
+
+narrow-requires : tie.Need-narrow-requires
+narrow-requires c κs = omega (arith, c .pre .left)
+
+mul-lower : tie.Need-mul-lower
+mul-lower c = rw (c .before .narrow .ensures) (omega (arith, products (c .before .before .pre) .lower))
 
 add-lower : tie.Need-add-lower
-add-lower c = omega (arith, products (c .before .before .pre))
-
-add-lower-2 : tie.Need-add-lower-2
-add-lower-2 c = omega (arith, products (c .before .before .pre), c .before .before .pre .few)
+add-lower c = let pre = c .before .before .pre in rw (c .before .narrow .ensures) (omega (arith, products pre .lower, pre .few))
 
 mul-result : tie.Need-mul-result
-mul-result c = omega (arith, products (c .before .before .before .pre) .p1)
-
-mul-result-2 : tie.Need-mul-result-2
-mul-result-2 c = omega (arith, products (c .before .before .before .before .pre) .q1)
+mul-result c = rw (c .before .before .narrow .ensures) (omega (arith, products (c .before .before .before .pre) .upper))
 
 add-result : tie.Need-add-result
-add-result c = omega (arith, products (c .before .before .before .before .pre))
+add-result c = let pre = c .before .before .before .pre in rw (c .before .before .narrow .ensures) (omega (arith, products pre, pre .few))
 
 add-result-2 : tie.Need-add-result-2
-add-result-2 c = let pre = c .before .before .before .before .pre in omega (arith, products pre, pre .few)
+add-result-2 c = let pre = c .before .before .before .pre in rw (c .before .before .narrow .ensures) (omega (arith, products pre, pre .few, pre .right))
+
+sub-result : tie.Need-sub-result
+sub-result c =
+    let a = c .before .before .before .before .args in
+    rw (quotient (a .self) (c .before .before .before .narrow .result) (a .round), c .before .before .before .narrow .ensures) (enough (c .before .before .before .before .pre))
 
 returns : tie.Need-returns
 returns c =
     let a = c .before .before .before .before .args in
-    let o = a .self in
-    let upper = o .p1 * a .works + o .q1 * a .fails in
-    let lower = o .p0 * a .works + o .q0 * a .fails + a .round in
-    let e : upper * digit + lower ≡ (o .p1 * digit + o .p0) * a .works + (o .q1 * digit + o .q0) * a .fails + a .round = omega arith in
-    digits upper lower ∙ ap (λ x. x / shareParts) e
+    ap (λ x. x + a .fails - a .self .p .0) (quotient (a .self) (c .before .before .before .narrow .result) (a .round)) ∙ rw (c .before .before .before .narrow .ensures)
 
 pub shared-spec : {M : Type 1} → statement M
 shared-spec =
     tie.close
-    (tie.spec mul-lower mul-lower-2 add-lower add-lower-2 mul-result mul-result-2 add-result add-result-2 returns)
+    (tie.spec add-narrow sub-narrow narrow-requires mul-lower add-lower mul-result add-result add-result-2 sub-result returns)

@@ -2,6 +2,7 @@
 use mathlib.Core.Path.{_∙_}
 use native.Mathlib.Omega.{arith}
 use borrow.Author.Needs.{needs}
+use Rattle.units.proofs.Laws.{whole-most}
 use Rattle.units.proofs.Shares.{mixable, row-up}
 use Rattle.units.proofs.odds.Odds.up.Statement.{statement}
 use Rattle.units.proofs.odds.Odds.up.Tie as tie
@@ -12,11 +13,19 @@ shared-requires c κs = let pre = c .before .pre in mixable (c .if1 .taken) (ome
 returns : tie.Need-returns
 returns c = let pre = c .before .before .pre in c .shared .ensures ∙ row-up (c .before .if1 .taken) (pre .0) (pre .1)
 
+narrow-requires : tie.Need-narrow-requires
+narrow-requires c κs = omega (arith, c .before .pre .1 .left, whole-most (c .before .args .decimal))
+
+narrow-requires-2 : tie.Need-narrow-requires-2
+narrow-requires-2 c κs = omega (arith, c .before .before .pre .1 .right, whole-most (c .before .before .args .decimal))
+
 round-up-requires : tie.Need-round-up-requires
-round-up-requires c κs = let pre = c .before .pre in record { survival = pre .0 .survival; rest = pre .0 .rest; left = pre .1 .left; right = pre .1 .right }
+round-up-requires c κs =
+    let pre = c .before .before .before .pre in
+    record { survival = pre .0 .survival; rest = pre .0 .rest; left = rw (c .before .narrow .ensures) (pre .1 .left); right = rw (c .narrow2 .ensures) (pre .1 .right) }
 
 returns-2 : tie.Need-returns-2
-returns-2 c = search needs
+returns-2 c = rw (c .before .before .narrow .ensures, c .before .narrow2 .ensures) at (c .round-up .ensures)
 
 pub up-spec : {M : Type 1} → statement M
-up-spec = tie.close (tie.spec shared-requires returns round-up-requires returns-2)
+up-spec = tie.close (tie.spec shared-requires returns narrow-requires narrow-requires-2 round-up-requires returns-2)
