@@ -46,7 +46,7 @@ module _ {u r x left : ℕ} {survival t : List ℕ} (y : Holds u r x left surviv
   pub cut-place : (i : ℕ) → i < length survival → Place (half + i) t
   cut-place i l = record { low = omega (arith, y .asked .list .size); room = y .asked .list .room }
 
-  pub cut-is : (m : Owed) (i : ℕ) → m ≡ owed x (r - 1) → i < length survival → i < r - 1 → {e : Ends}
+  pub cut-is : (m : Owed) (i : ℕ) → m ≡ owed x (r - 1) → i < length survival → i ≤ r - 1 → {e : Ends}
       → Both (λ up. cond (owedWorks (owed (m .clean) (m .owed - i))) (cellAt t up (half + i)) 0) e → Both (λ up. valueOf u (owing r) survival (owed x (r - 1)) up i) e
   cut-is m i is size short =
       both-as (λ up.
@@ -78,7 +78,7 @@ module _ {u r : ℕ} {m : Owed} {i : ℕ} {survival t : List ℕ} (y : Passable 
     pub paid-is : {v : Ends} → Both (λ up. valueOf u (owing r) survival (owed (free .clean) (free .owed + (i - (i - m .owed)))) up i) v → Both (λ up. valueOf u (owing r) survival m up i) v
     paid-is = both-as (λ up. rw nothing-owed (ap (λ g. valueOf u (owing r) survival (owed (m .clean) g) up i) (omega arith)))
 
-pub past-is : {u r : ℕ} {m : Owed} {i : ℕ} {survival t : List ℕ} → Passable u r m i survival t → i < m .owed → {e : Ends}
+pub past-is : {u r : ℕ} {m : Owed} {i : ℕ} {survival t : List ℕ} → Passable u r m i survival t → i ≤ m .owed → {e : Ends}
     → Both (λ up. cond (owedWorks (owed (m .clean) (m .owed - i))) (cellAt t up (half + i)) 0) e → Both (λ up. valueOf u (owing r) survival m up i) e
 past-is {m = m} {i = i} y l b =
     let is = ap (owed (m .clean)) (y .due) in

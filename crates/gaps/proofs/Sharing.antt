@@ -44,5 +44,5 @@ shared-more {u} {n} {survival} {t' = t'} {e = e} s few low high p = record {
 pub shared-put : {u : ℕ} {survival t t' : List ℕ} {at : ℕ} {e : Ends} → Put at e t t' → at < shares → length survival ≤ most → Shared u survival t → Shared u survival t'
 shared-put p low small s = record { row = λ is up k l. rw (p .other up (shares + k) (omega arith) (λ q. omega arith)) (s .row is up k l) }
 
-pub shared-written : {u n : ℕ} {survival t t' : List ℕ} {f : Bool → ℕ → ℕ} → Written f n half t t' → n ≤ most → length survival ≤ most → Shared u survival t → Shared u survival t'
+pub shared-written : {u n : ℕ} {survival t t' : List ℕ} {f : Bool → ℕ → ℕ} → Written f n half t t' → half + n ≤ shares → length survival ≤ most → Shared u survival t → Shared u survival t'
 shared-written w few small s = record { row = λ is up k l. rw (w .other up (shares + k) (omega arith) (inr (omega arith))) (s .row is up k l) }

@@ -45,10 +45,14 @@ pub record Owing (u r : ℕ) (m : Owed) (from upto : ℕ) (survival : List ℕ) 
   pub shared : Shared u survival t
   pub value : Both (λ up. valueOf u (owing r) survival m up from) end
 
--- memories that owe as many as are left, as far as a debt can be cut short, and the shares
+-- the value of a memory that owes as many as are left
+abbrev pub settledValue : (u r : ℕ) (survival : List ℕ) → Bool → ℕ → ℕ
+settledValue u r survival up i = valueOf u (owing r) survival (owed 0 i) up i
+
+-- these, as far as a debt goes back, and the shares
 pub record Settled (u r : ℕ) (survival t : List ℕ) : Type 0 where
   pub shared : Shared u survival t
-  pub row : Shelf (λ up i. valueOf u (owing r) survival (owed 0 i) up i) t half (min (length survival) (r - 1))
+  pub row : Shelf (settledValue u r survival) t half (min (length survival) (r - 1) + 1)
 
 -- the memory that owes nothing past x clean ones, known with up to `left` components left
 pub record Holds (u r x left : ℕ) (survival t : List ℕ) : Type 0 where

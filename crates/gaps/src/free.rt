@@ -38,7 +38,7 @@ fn more(
     ends
 }
 
-// As far as every debt is cut short.
+// As far as no debt goes back further than the components' end.
 fn reach_cut(
     decimal: bool,
     r: usize,
@@ -52,7 +52,7 @@ fn reach_cut(
 {
     let free = s.free;
     let m = free.failed(r);
-    let last = places::lesser(upto, m.owed);
+    let last = places::lesser(upto, r);
     let mut left = s.left;
     let mut works = places::read(table, left);
     while left < last {

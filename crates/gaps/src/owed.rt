@@ -101,16 +101,17 @@ pub fn settle(decimal: bool, r: usize, survival: &[u32], table: &mut [u64])
     let last = places::lesser(survival.len(), r - 1);
     let mut due = Owed { clean: 0, owed: 0 };
     let mut ends = places::end_value(decimal, due.works());
+    places::write(table, HALF, ends);
     let mut i: usize = 0;
     while i < last {
-        places::write(table, HALF + i, ends);
         due = due.before();
         ends = must_work(decimal, r, due, i, survival, ends, table);
         i += 1;
+        places::write(table, HALF + i, ends);
     }
 }
 
-// A debt that the components' end cuts short: as many work as are left, and the clean ones must make up for the rest.
+// A debt that the components' end cuts short, or just pays: as many work as are left, and the clean ones must make up for the rest.
 pub fn cut_short(decimal: bool, m: Owed, i: usize, table: &[u64]) -> Ends
     requires { ⌜ Place (half + i) (now table) × (i ≤ m .owed) ⌝ }
     ensures { λ e. ⌜ Both (λ up. cond (owedWorks (owed (m .clean) (m .owed - i))) (cellAt (now (table .entry)) up (half + i)) 0) e ⌝ }
@@ -146,7 +147,7 @@ pub fn past(decimal: bool, r: usize, m: Owed, i: usize, survival: &[u32], table:
     requires { ⌜ Passable (whole decimal) r m i (now survival) (now table) ⌝ }
     ensures { λ e. ⌜ Both (λ up. valueOf (whole decimal) (owing r) (now (survival .entry)) m up i) e ⌝ }
 {
-    if i < m.owed {
+    if i <= m.owed {
         return cut_short(decimal, m, i, table);
     }
     paid(decimal, r, m, i, survival, table)

@@ -32,9 +32,11 @@ loop-holds c =
 cut-short-requires : tie.Need-cut-short-requires Inv-loop μ-loop
 cut-short-requires c κs =
     let pre = c .before .before .before .before .before .before .before .before .before .before .pre in
+    let args = c .before .before .before .before .before .before .before .before .before .before .args in
+    let failed = c .before .before .before .before .before .before .failed in
     let lesser = c .before .before .before .before .before .lesser in
     let loop = c .before .before .loop in
-    (cut-place (loop .inv .1 .holds) _ (omega (arith, c .before .loop-test .taken, lesser .ensures, pre .most)), omega (arith, c .before .loop-test .taken, lesser .ensures))
+    (cut-place (loop .inv .1 .holds) _ (omega (arith, c .before .loop-test .taken, lesser .ensures, pre .most)), omega (arith, c .before .loop-test .taken, lesser .ensures, ap (λ m. m .owed) (failed-is (args .r) (args .s .free) (pre .none) (failed .ensures))))
 
 more-requires : tie.Need-more-requires Inv-loop μ-loop
 more-requires c κs =
