@@ -1,8 +1,9 @@
 // Kinds 6 and 7: low and high where any r components in a row may hold one failed one at most.
 //
 // A failed component owes r - 1 working ones, and paid off the memory owes nothing again. So past one number of clean ones only the memory that owes
-// nothing is kept: its value with i components left stands at place i. Where the components end before a debt is paid, what stands in the
-// second half of the places serves every number of clean ones. The table is all that a ring uses: one number of clean ones at a time.
+// nothing is kept: its value with i components left stands at place i. Where a debt goes back as far as the components' end, what stands in the second
+// half of the places serves every number of clean ones; past it stand the shares of the components' numbers. The table is all that a ring uses: one
+// number of clean ones at a time.
 mod free; // free.rt: the memory that owes nothing, known for more and more components left
 mod owed; // owed.rt: memories that owe
 

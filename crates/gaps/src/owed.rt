@@ -30,8 +30,8 @@ fn must_work(
     if decimal {
         let shares = places::read(table, SHARES + i);
         return Ends {
-            low: share::part(shares.low, after.low),
-            high: after.high - share::part(shares.high, after.high),
+            low: share::times(shares.low, after.low),
+            high: after.high - share::times(shares.high, after.high),
         };
     }
     let p = places::chance(survival, i);

@@ -1,4 +1,4 @@
--- A row's mix by P's share is the mix over the decimal unit, and a value's part by a share is the product over it. A share is at most a part of 2^61 above its number,
+-- A row's mix by P's share is the mix over the decimal unit, and a value times a share is the product over it. A share is at most a part of 2^61 above its number,
 -- so a share of two units at the most is above what it stands for by less than a part of the unit, and no whole number lies between. Assumes nothing.
 use Prim.Native.Nat.{ℕ, _+_, _*_, _-_, _/_, _≤_, _<_}
 use mathlib.Core.Path.{_≡_, ap, sym, _∙_}
@@ -50,19 +50,19 @@ module _ (p a d : ℕ) (h : Share p a) (few : d ≤ 2 * decimal) where
   little : e * d ≤ 2000000000000000000
   little = omega (arith, mul-le-mul-left e few, h .near)
 
-  pub part-down : a * d / shareParts ≡ p * d / decimal
-  part-down =
+  pub share-down : a * d / shareParts ≡ p * d / decimal
+  share-down =
       let x = p * d in
       between (a * d) shareParts (x / decimal) (omega (arith, is, div-mul-le-self x decimal))
       (omega (arith, is, little, lt-div-mul-add {a = x} {b = decimal} (omega arith)))
 
-  pub part-up : (a * d + roundUp) / shareParts ≡ (p * d + 999999999) / decimal
-  part-up =
+  pub share-up : (a * d + roundUp) / shareParts ≡ (p * d + 999999999) / decimal
+  share-up =
       let x = p * d + 999999999 in
       between (a * d + roundUp) shareParts (x / decimal) (omega (arith, is, div-mul-le-self x decimal))
       (omega (arith, is, little, lt-div-mul-add {a = x} {b = decimal} (omega arith)))
 
--- P's part of how far two values are apart is their mix, but for what is taken off again
+-- P's share of how far two values are apart is their mix, but for what is taken off again
 module _ (p w f more : ℕ) (survival : p ≤ decimal) (right : f ≤ decimal) where
   pub apart-mix : (p * apart w f + more) / decimal + f ≡ (p * w + (decimal - p) * f + more) / decimal + p
   apart-mix =
@@ -93,8 +93,8 @@ module _ {o : Odds} {round works fails : ℕ} (h : Mixable o round works fails) 
   -- what is taken off is there
   pub enough : o .p .0 ≤ (shareOf o * apart works fails + round) / shareParts + fails
   enough =
-      let part = part-down (o .p .0) (shareOf o) (apart works fails) (h .shares .share) two in
-      omega (arith, part, apart-mix (o .p .0) works fails 0 (h .survival) (h .right))
+      let times = share-down (o .p .0) (shareOf o) (apart works fails) (h .shares .share) two in
+      omega (arith, times, apart-mix (o .p .0) works fails 0 (h .survival) (h .right))
 
 -- the digits' quotients are the share's
 pub quotient : (o : Odds) (d round : ℕ) → (o .p1 * d + (o .p0 * d + round) / digit) / 536870912 ≡ (shareOf o * d + round) / shareParts
@@ -108,32 +108,32 @@ pub row-down : {isDecimal : Bool} {o : Odds} {works fails : ℕ} → isDecimal �
 unfolding whole rounded
 row-down {isDecimal = false} taken h v = absurd (false≢true taken)
 row-down {isDecimal = true} {o} {works} {fails} taken h v =
-    let part = part-down (o .p .0) (shareOf o) (apart works fails) (h .shares taken .share) (omega (arith, v .left, v .right)) in
-    omega (arith, part, apart-mix (o .p .0) works fails 0 (h .survival) (v .right))
+    let times = share-down (o .p .0) (shareOf o) (apart works fails) (h .shares taken .share) (omega (arith, v .left, v .right)) in
+    omega (arith, times, apart-mix (o .p .0) works fails 0 (h .survival) (v .right))
 
 pub row-up : {isDecimal : Bool} {o : Odds} {works fails : ℕ} → isDecimal ≡ true → Prepared isDecimal o → Values isDecimal works fails
     → mixedShares o roundUp works fails ≡ rounded true (whole isDecimal) (mixed (whole isDecimal) (o .p .0) works fails)
 unfolding whole rounded
 row-up {isDecimal = false} taken h v = absurd (false≢true taken)
 row-up {isDecimal = true} {o} {works} {fails} taken h v =
-    let part = part-up (o .p .0) (shareOf o) (apart works fails) (h .shares taken .share) (omega (arith, v .left, v .right)) in
-    omega (arith, part, apart-mix (o .p .0) works fails 999999999 (h .survival) (v .right))
+    let times = share-up (o .p .0) (shareOf o) (apart works fails) (h .shares taken .share) (omega (arith, v .left, v .right)) in
+    omega (arith, times, apart-mix (o .p .0) works fails 999999999 (h .survival) (v .right))
 
--- a component that must work: P's part of a value rounded down, and rounded up what Q's part leaves of it
+-- a component that must work: P's share of a value rounded down, and rounded up what Q's leaves of it
 module _ {p x : ℕ} (within : x ≤ decimal) where
   pub must-down : {a : ℕ} → Share p a → a * x / shareParts ≡ rounded false decimal (mixed decimal p x 0)
   unfolding rounded
   must-down {a} h =
       let e : p * x ≡ p * x + (decimal - p) * 0 = omega arith in
-      part-down p a x h (omega arith) ∙ ap (λ y. y / decimal) e
+      share-down p a x h (omega arith) ∙ ap (λ y. y / decimal) e
 
   module _ {b : ℕ} (survival : p ≤ decimal) (h : Share (decimal - p) b) where
     left : p * x + (decimal - p) * x ≡ x * decimal
     left = let q : p + (decimal - p) ≡ decimal = omega arith in omega (arith, ap (λ y. y * x) q)
 
     pub must-least : b * x / shareParts ≤ x
-    must-least = omega (arith, part-down (decimal - p) b x h (omega arith), left)
+    must-least = omega (arith, share-down (decimal - p) b x h (omega arith), left)
 
     pub must-up : x - b * x / shareParts ≡ rounded true decimal (mixed decimal p x 0)
     unfolding rounded
-    must-up = omega (arith, part-down (decimal - p) b x h (omega arith), left)
+    must-up = omega (arith, share-down (decimal - p) b x h (omega arith), left)

@@ -44,8 +44,8 @@ pub fn prepare(decimal: bool, p: Survival) -> Odds
 }
 
 impl Odds {
-    // The mix by P's share, with `round` parts more. What P and Q take of two values is P's part of the one less the other, and the other: so it is one
-    // share of the two values' distance, above by a unit, so that it is never below 0.
+    // The mix by P's share, with `round` parts more: P works + Q fails is P (works + 10^9 - fails) + 10^9 (fails - P), so that P's share of how far the two
+    // values are apart does for both.
     fn shared(self, round: u64, works: u64, fails: u64) -> u64
         requires { ⌜ Mixable self round works fails ⌝ }
         ensures { λ r. ⌜ r ≡ mixedShares self round works fails ⌝ }

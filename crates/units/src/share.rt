@@ -38,7 +38,7 @@ fn upper_half(x: u64, y: u64) -> u64
 }
 
 // A value times a share, rounded down.
-pub fn part(share: u64, x: u64) -> u64
+pub fn times(share: u64, x: u64) -> u64
     requires { ⌜ x ≤ decimal ⌝ }
     ensures { λ r. ⌜ r ≡ share * x / shareParts ⌝ }
 {

@@ -11,22 +11,22 @@ add-read c = search needs
 read-requires : tie.Need-read-requires
 read-requires c κs = due-place (c .before .before .before .pre)
 
-part-requires : tie.Need-part-requires
-part-requires c κs = due-low (c .before .before .before .before .pre) (whole-decimal (c .before .if1 .taken))
+times-requires : tie.Need-times-requires
+times-requires c κs = due-low (c .before .before .before .before .pre) (whole-decimal (c .before .if1 .taken))
 
-part-requires-2 : tie.Need-part-requires-2
-part-requires-2 c κs = due-high (c .before .before .before .before .before .pre) (whole-decimal (c .before .before .if1 .taken))
+times-requires-2 : tie.Need-times-requires-2
+times-requires-2 c κs = due-high (c .before .before .before .before .before .pre) (whole-decimal (c .before .before .if1 .taken))
 
 sub-t14 : tie.Need-sub-t14
 sub-t14 c =
     let if1 = c .before .before .before .before .if1 in
-    rw (c .before .part2 .ensures) (due-least (c .before .before .before .before .before .before .before .pre) (whole-decimal (if1 .taken)) (c .before .before .before .read .ensures))
+    rw (c .before .times2 .ensures) (due-least (c .before .before .before .before .before .before .before .pre) (whole-decimal (if1 .taken)) (c .before .before .before .read .ensures))
 
 returns : tie.Need-returns
 returns c =
     let if1 = c .before .before .before .before .if1 in
     due-shared (c .before .before .before .before .before .before .before .pre) (whole-decimal (if1 .taken)) (c .before .before .before .read .ensures)
-    (c .before .before .part .ensures) (rw (c .before .part2 .ensures))
+    (c .before .before .times .ensures) (rw (c .before .times2 .ensures))
 
 chance-requires : tie.Need-chance-requires
 chance-requires c κs = search needs
@@ -56,8 +56,8 @@ must-work-spec =
     (tie.spec
     add-read
     read-requires
-    part-requires
-    part-requires-2
+    times-requires
+    times-requires-2
     sub-t14
     returns
     chance-requires

@@ -1,12 +1,12 @@
--- `part` brings a share's parts to those of a half of a product. Assumes nothing.
+-- `times` brings a share's parts to those of a half of a product. Assumes nothing.
 use Prim.Native.Nat.{_*_, _/_}
 use mathlib.Core.Path.{_≡_, ap, _∙_}
 use native.Mathlib.Omega.{arith}
 use native.Mathlib.Nat.{mul-div-mul-right}
 use borrow.Author.Needs.{needs}
 use Rattle.units.specs.Share.{shareParts, wordParts}
-use Rattle.units.proofs.share.part.Statement.{statement}
-use Rattle.units.proofs.share.part.Tie as tie
+use Rattle.units.proofs.share.times.Statement.{statement}
+use Rattle.units.proofs.share.times.Tie as tie
 
 mul-upper-half : tie.Need-mul-upper-half
 mul-upper-half c = omega (arith, c .pre)
@@ -20,5 +20,5 @@ returns c =
     let e : a .share * (a .x * 8) ≡ a .share * a .x * 8 = omega arith in
     c .upper-half .ensures ∙ ap (λ y. y / wordParts) e ∙ mul-div-mul-right (a .share * a .x) shareParts (omega arith)
 
-pub part-spec : {M : Type 1} → statement M
-part-spec = tie.close (tie.spec mul-upper-half upper-half-requires returns)
+pub times-spec : {M : Type 1} → statement M
+times-spec = tie.close (tie.spec mul-upper-half upper-half-requires returns)
