@@ -3,8 +3,10 @@
 use mathlib.Core.Path.{_≡_, refl, sym, ap, ap₂, _∙_}
 use mathlib.Core.Logic.{_↔_}
 use mathlib.Core.Bool.{Bool, true, false, cond}
+use mathlib.Core.List.{List}
 use Prim.Native.Nat.{ℕ, zero, suc}
 use native.Mathlib.Omega.{arith}
+use lib.ListN.{length}
 use Rattle.rules.specs.declared.Verdict.{Verdict}
 use Rattle.rules.specs.declared.Verdict.the-variants as verdict
 use Rattle.rules.specs.declared.Rating.{Rating}
@@ -13,8 +15,11 @@ use Rattle.rules.specs.declared.Counting.{Counting}
 use Rattle.rules.specs.declared.Counting.the-variants as counting
 use Rattle.rules.specs.declared.Writing.{Writing}
 use Rattle.rules.specs.declared.Writing.the-variants as writing
+use Rattle.rules.specs.declared.Mending.{Mending}
+use Rattle.rules.specs.declared.Mending.the-variants as mending
 use Rattle.rules.specs.Answer.{unless, Given, Judges, judgment, Rates, Counts}
 use Rattle.rules.specs.Writing.{Writes}
+use Rattle.rules.specs.Mending.{mended, changedIn, cutFrom, Mends}
 use Rattle.rules.proofs.Unless.{unless-some, unless-none}
 
 -- a case `Refused`, and a case that is none
@@ -89,4 +94,19 @@ writes r refusal size = (to r, λ e. rw e (from refusal))
 
     from : (refusal : ℕ) → Writes (writingBy refusal size) refusal size
     from zero = (refl, refl)
+    from (suc q) = (refl, omega arith)
+
+abbrev mendingBy : (refusal : ℕ) (bytes : List ℕ) → Mending
+mendingBy refusal bytes = unless refusal mending.Refused (mending.Mended (length (mended bytes)) (changedIn bytes) (cutFrom bytes))
+
+pub mends : (r : Mending) (refusal : ℕ) (bytes : List ℕ) → Mends r refusal bytes ↔ (r ≡ mendingBy refusal bytes)
+unfolding unless
+mends r refusal bytes = (to r, λ e. rw e (from refusal))
+  where
+    to : (r : Mending) → Mends r refusal bytes → r ≡ mendingBy refusal bytes
+    to (mending.Mended size changed cut) h = none-is mending.Refused _ refusal (h .0) (λ x. mending.Mended (h .1 x) (h .2 x) (h .3 x))
+    to (mending.Refused number) h = given-is mending.Refused _ number refusal h
+
+    from : (refusal : ℕ) → Mends (mendingBy refusal bytes) refusal bytes
+    from zero = (refl, refl, refl, refl)
     from (suc q) = (refl, omega arith)

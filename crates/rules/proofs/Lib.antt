@@ -47,3 +47,4 @@ pub mod Scaling
 pub mod Finer
 pub mod Doubles
 pub mod DoubleExamples
+pub mod Changes

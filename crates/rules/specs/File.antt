@@ -177,6 +177,10 @@ countIn bytes = numberAt 2 bytes countField
 abbrev pub boardCountIn : List ℕ → ℕ
 boardCountIn bytes = cond (hasBoards (versionIn bytes)) (numberAt 4 bytes boardCountField) 0
 
+-- where a file ends by its own version and counts
+abbrev pub lengthIn : List ℕ → ℕ
+lengthIn bytes = fileLength (versionIn bytes) (fansIn bytes) (boardCountIn bytes) (countIn bytes)
+
 -- reading by position: a system, the s-th of those from a place on, a file's s-th, counted from 0, and its deck
 unfoldable pub systemAt : (bytes : List ℕ) (at : ℕ) → System
 systemAt bytes at = record {

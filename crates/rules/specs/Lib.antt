@@ -1,4 +1,4 @@
--- Document 01, in its own order: what is rated, the verdicts, the count table, the memory of a reading, boards, stretches, what is asked of a rating, refusals, the deck file, its writer, doubles.
+-- Document 01, in its own order: what is rated, the verdicts, the count table, the memory of a reading, boards, stretches, what is asked of a rating, refusals, the deck file, its writer, doubles, mending a file.
 -- Lay it beside the document; every definition names the sentence or row that it writes down.
 pub mod Below
 pub mod State
@@ -18,3 +18,4 @@ pub mod Better
 pub mod File
 pub mod Writing
 pub mod Doubles
+pub mod Mending

@@ -54,3 +54,9 @@ pub enum Writing {
     Written(u64),
     Refused(u64),
 }
+
+// Whether a deck file was mended: how many bytes were written, how many of the file's were changed, and how many were cut.
+pub enum Mending {
+    Mended { size: u64, changed: u64, cut: u64 },
+    Refused(u64),
+}
