@@ -2,46 +2,29 @@
 -- Each part of a file is the bytes of a list of numbers, so the laws of such lists serve for the header, the survival numbers, the weights and
 -- the systems alike. Assumes nothing.
 use mathlib.Core.Path.{_≡_, refl, sym, ap, ap₂, _∙_}
-use mathlib.Core.Bool.{true, false, cond, not, _&&_}
+use mathlib.Core.Bool.{true, false, cond}
 use mathlib.Core.Logic.{_↔_}
 use mathlib.Core.List.{List, [], _∷_, _++_, append-assoc, append-nil}
-use Prim.Native.Nat.{ℕ, _+_, _*_, _^_, _≤_, _<_}
+use Prim.Native.Nat.{ℕ, _+_, _*_, _≤_, _<_}
 use native.Mathlib.Omega.{arith}
 use lib.ListN.{length, getD, take, length-append}
 use lib.Seq.{take-all, take-add}
-use lib.Dec.{eqb}
-use borrow.Author.Tests.{not-false, eqb-true, eq-eqb}
+use borrow.Author.Tests.{not-false, eqb-true}
 use Rattle.rules.specs.Below.{listBelow}
 use Rattle.rules.specs.Boards.{hasBoards, boardsRead}
-use Rattle.rules.specs.Refusal.{lastVersion, badVersion, mostBoards}
+use Rattle.rules.specs.Refusal.{mostBoards}
 use Rattle.rules.specs.File.{Deck, numberAt, nthNumber, numbersFrom, allBytes, countsOf, offsetsOf, headerOf, systemNumbers, fileOf, nthSystem, systemIn, deckIn, fileRefusal}
-use Rattle.rules.specs.File.{versionIn, fansIn, countIn, boardCountIn, boardsElsewhere, versionField, survivalField, weightsField, systemsField, boardCountField, boardsField, headerLength}
+use Rattle.rules.specs.File.{versionIn, fansIn, countIn, boardCountIn, boardsElsewhere, versionField, zeroField, survivalField, weightsField, systemsField, boardCountField, boardsField, headerLength}
 use Rattle.rules.specs.File.{survivalBytes, weightBytes, boardBytes, systemBytes, boardFans, survivalOffset, weightsOffset, boardsOffset, boardSurvivalOffset, systemsOffset}
 use Rattle.deck.specs.Bounds.{Bytes, Bounds}
 use Rattle.rules.proofs.Lists.{below-length}
-use Rattle.rules.proofs.EachKind.{within-true}
-use Rattle.deck.proofs.Lists.{under-none, under-cons, under-below}
+use Rattle.deck.proofs.Lists.{under-below}
 use Rattle.deck.proofs.Numbers.{Stands, all-length, number-fits, number-within, numbers-back, bytes-back}
 use Rattle.deck.proofs.Systems.{numbers-length, systems-back, numbers-of}
-use Rattle.deck.proofs.Versions.{header-bounds, fans-bound, by-boards, second-none, read-some, read-own, under-read, few-boards, fans-boarded, boards-small}
+use Rattle.deck.proofs.Versions.{by-boards, second-none, read-own, few-boards, fans-boarded, boards-small}
+use Rattle.deck.proofs.Header as header
+use Rattle.deck.proofs.Header.{Headed, header-is, header-length}
 use Rattle.deck.proofs.Sound.{Sound, sound, not-refused}
-
--- a version that there is fits its field
-pub version-fits : (version : ℕ) → badVersion version ≡ false → version < 2 ^ 16
-version-fits version e = omega (arith, within-true 1 version lastVersion (not-false _ e))
-
--- how long each part is
-offsets-length : (version n g : ℕ) → length (offsetsOf version n g) ≡ 3 + cond (hasBoards version) 2 0
-offsets-length version n g = by-boards version (λ b. length (0 ∷ 0 ∷ 0 ∷ cond b (g ∷ boardsOffset version n ∷ []) []) ≡ 3 + cond b 2 0) (λ e. refl) (λ e. refl)
-
-header-is : (version : ℕ) → 8 + 4 * (3 + cond (hasBoards version) 2 0) ≡ headerLength version
-header-is version = by-boards version (λ b. 8 + 4 * (3 + cond b 2 0) ≡ cond b 28 20) (λ e. refl) (λ e. refl)
-
-pub header-length : (version n g m : ℕ) → length (headerOf version n g m) ≡ headerLength version
-unfolding headerOf
-header-length version n g m =
-    length-append (allBytes 2 (countsOf version n m)) (allBytes 4 (offsetsOf version n g))
-    ∙ rw (all-length 2 (countsOf version n m), all-length 4 (offsetsOf version n g), offsets-length version n g) (header-is version)
 
 -- a file's parts before the weights, the boards' bytes, the boards' numbers and the systems
 abbrev headerFor : Deck → List ℕ
@@ -109,74 +92,34 @@ module _ (d : Deck) (ok : Bounds d) where
   boarded : length (d .boards) ≡ boardFans v n
   boarded = fans-boarded v n g (d .boards) (ok .placed) (ok .own-boards)
 
-  count-at : (i : ℕ) → i < 4 → nthNumber 2 (fileOf d) versionField i ≡ getD (countsOf v n m) i 0
-  unfolding fileOf headerOf
-  count-at =
-      let stands : Stands 2 (countsOf v n m) (fileOf d) versionField =
-      record {
-        before = [];
-        after =
-            allBytes 4 (offsetsOf v n g) ++ (allBytes survivalBytes (d .survival)
-            ++ (allBytes weightBytes (d .weights) ++ (allBytes boardBytes (d .boards)
-            ++ (allBytes survivalBytes (d .boardSurvival) ++ allBytes 2 (systemNumbers (d .systems))))));
-        parts = simp append-assoc;
-        place = refl;
-      }
-      in
-      number-within stands
-      (under-cons (version-fits v (ok .versioned))
-      (under-cons (omega arith) (under-cons (omega (arith, ok .most-fans)) (under-cons (omega (arith, ok .most-systems)) (under-none (omega arith))))))
+  -- its header, and what follows
+  headed : Headed v n g m
+  headed = record { versioned = ok .versioned; most-fans = ok .most-fans; most-systems = ok .most-systems; few = few; no-boards = no-boards }
 
-  offset-at : (i : ℕ) → i < length (offsetsOf v n g) → nthNumber 4 (fileOf d) survivalField i ≡ getD (offsetsOf v n g) i 0
-  unfolding fileOf headerOf
-  offset-at =
-      let stands : Stands 4 (offsetsOf v n g) (fileOf d) survivalField =
-      record {
-        before = allBytes 2 (countsOf v n m);
-        after =
-            allBytes survivalBytes (d .survival)
-            ++ (allBytes weightBytes (d .weights) ++ (allBytes boardBytes (d .boards)
-            ++ (allBytes survivalBytes (d .boardSurvival) ++ allBytes 2 (systemNumbers (d .systems)))));
-        parts = simp append-assoc;
-        place = all-length 2 (countsOf v n m);
-      }
-      in
-      let h = header-bounds v in
-      let f = fans-bound v n in
-      number-within stands
-      (under-cons (omega arith) (under-cons (omega (arith, ok .most-fans)) (under-cons (omega (arith, few, ok .most-fans))
-      (under-read v (omega arith) (under-cons (omega (arith, few)) (under-cons (omega (arith, ok .most-fans)) (under-none (omega arith))))))))
+  abbrev rest : List ℕ
+  rest =
+      allBytes survivalBytes (d .survival)
+      ++ (allBytes weightBytes (d .weights)
+      ++ (allBytes boardBytes (d .boards) ++ (allBytes survivalBytes (d .boardSurvival) ++ allBytes 2 (systemNumbers (d .systems)))))
 
-  first-three : (i : ℕ) → i < 3 → i < length (offsetsOf v n g)
-  first-three i l = omega (arith, offsets-length v n g)
+  file-parts : fileOf d ≡ headerFor d ++ rest
+  unfolding fileOf
+  file-parts = simp append-assoc
 
   version-at : versionIn (fileOf d) ≡ v
-  version-at = count-at 0 (omega arith)
+  version-at = ap versionIn file-parts ∙ header.version-at headed rest
 
   fans-at : fansIn (fileOf d) ≡ n
-  fans-at = count-at 2 (omega arith)
+  fans-at = ap fansIn file-parts ∙ header.fans-at headed rest
 
   systems-at : countIn (fileOf d) ≡ m
-  systems-at = count-at 3 (omega arith)
-
-  -- what the header of a version with boards ends in
-  abbrev last : List ℕ
-  last = g ∷ boardsOffset v n ∷ []
-
-  board-count-given : hasBoards v ≡ true → numberAt 4 (fileOf d) boardCountField ≡ g
-  board-count-given e = offset-at 3 (omega (arith, ap length (read-some v last e))) ∙ ap (λ xs. getD xs 0 0) (read-some v last e)
-
-  board-bytes-given : hasBoards v ≡ true → numberAt 4 (fileOf d) boardsField ≡ boardsOffset v n
-  board-bytes-given e = offset-at 4 (omega (arith, ap length (read-some v last e))) ∙ ap (λ xs. getD xs 1 0) (read-some v last e)
+  systems-at = ap countIn file-parts ∙ header.systems-at headed rest
 
   board-count-at : boardCountIn (fileOf d) ≡ g
-  board-count-at =
-      rw version-at (by-boards v (λ b. cond b (numberAt 4 (fileOf d) boardCountField) 0 ≡ g) board-count-given (λ e. sym (no-boards e)))
+  board-count-at = ap boardCountIn file-parts ∙ header.board-count-at headed rest
 
-  boards-stand-at : boardsElsewhere (fileOf d) ≡ false
-  boards-stand-at =
-      rw (version-at, fans-at)
-      (by-boards v (λ b. b && not (eqb (numberAt 4 (fileOf d) boardsField) (boardsOffset v n)) ≡ false) (λ e. ap not (eq-eqb _ _ (board-bytes-given e))) (λ e. refl))
+  place-at : (i : ℕ) → i < 3 → nthNumber 4 (fileOf d) survivalField i ≡ getD (offsetsOf v n g) i 0
+  place-at i l = ap (λ bytes. nthNumber 4 bytes survivalField i) file-parts ∙ header.place-at headed rest i l
 
   survival-stand : Stands survivalBytes (d .survival) (fileOf d) (survivalOffset v)
   unfolding fileOf
@@ -251,16 +194,16 @@ module _ (d : Deck) (ok : Bounds d) where
       record {
         long = rw version-at (omega (arith, file-length d));
         versioned = rw version-at (ok .versioned);
-        nought = count-at 1 (omega arith);
+        nought = ap (λ bytes. numberAt 2 bytes zeroField) file-parts ∙ header.count-at headed rest 1 (omega arith);
         some-fan = omega (arith, fans-at, ok .some-fan);
         most-fans = omega (arith, fans-at, ok .most-fans);
         some-system = omega (arith, systems-at, ok .some-system);
         most-systems = omega (arith, systems-at, ok .most-systems);
         counted = rw (board-count-at, version-at) (ok .counted);
-        survival-place = rw version-at (offset-at 0 (first-three 0 (omega arith)));
-        weights-place = rw (version-at, fans-at) (offset-at 1 (first-three 1 (omega arith)));
-        systems-place = rw (board-count-at, version-at, fans-at) (offset-at 2 (first-three 2 (omega arith)));
-        boards-place = boards-stand-at;
+        survival-place = rw version-at (place-at 0 (omega arith));
+        weights-place = rw (version-at, fans-at) (place-at 1 (omega arith));
+        systems-place = rw (board-count-at, version-at, fans-at) (place-at 2 (omega arith));
+        boards-place = ap boardsElsewhere file-parts ∙ header.boards-stand-at headed rest;
         whole = rw (board-count-at, version-at, fans-at, systems-at) (omega (arith, file-length d, ok .weighed, boarded));
         placed = rw (deck-back, board-count-at, version-at, fans-at) (ok .placed);
       }
@@ -304,7 +247,7 @@ module _ (bytes : List ℕ) (small : Bytes bytes) (e : fileRefusal bytes ≡ 0) 
       placed : hasBoards version ≡ true → numberAt 4 bytes boardsField ≡ boardsOffset version fans
       placed has = eqb-true _ _ (not-false _ (second-none (hasBoards version) _ (s .boards-place) has))
 
-  header-back : headerOf version fans boards (countIn bytes) ≡ take (headerLength version) bytes
+  pub header-back : headerOf version fans boards (countIn bytes) ≡ take (headerLength version) bytes
   unfolding headerOf listBelow
   header-back =
       let m = countIn bytes in

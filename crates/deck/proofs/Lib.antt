@@ -3,6 +3,7 @@ pub mod Lists
 pub mod Numbers
 pub mod Systems
 pub mod Versions
+pub mod Header
 pub mod Sound
 pub mod Checks
 pub mod File

@@ -1,13 +1,13 @@
 // The deck file of document 01: its refusals, and the reader that hands its deck on.
 pub mod layout; // layout.rt: where each number of a file stands
-mod number; // number.rt: numbers that bytes spell
+pub mod number; // number.rt: numbers that bytes spell
 mod parts; // parts.rt: the survival numbers, the weights and the systems, in arrays
 
 ghost use mathlib.Core.Path.{_≡_};
 ghost use mathlib.Core.Bool.{false};
 ghost use Prim.Native.Nat.{_^_, _≤_, _<_};
 ghost use lib.ListN.{length};
-ghost use Rattle.rules.specs.File.{shortestHeader, headerLength, boardBytes, boardFans, boardsOffset, boardSurvivalOffset, systemsOffset, numbersFrom};
+ghost use Rattle.rules.specs.File.{shortestHeader, headerLength, boardBytes, boardFans, boardsOffset, boardSurvivalOffset, systemsOffset, numbersFrom, lengthIn};
 ghost use Rattle.rules.specs.File.{versionIn, fansIn, countIn, boardCountIn, systemIn, deckIn, badStart, boardsElsewhere, badLayout, misplacedIn, fileRefusal};
 ghost use Rattle.rules.specs.Doubles.{otherRefusal};
 ghost use Rattle.deck.specs.Read.{noDeck, keptDeck};
@@ -47,7 +47,7 @@ fn bad_start(bytes: &[u8]) -> bool
 }
 
 // How many boards a header gives: none where the version has no boards.
-fn boards_given(bytes: &[u8]) -> usize
+pub fn boards_given(bytes: &[u8]) -> usize
     requires { ⌜ headerLength (versionIn (now bytes)) ≤ length (now bytes) ⌝ }
     ensures { λ r. ⌜ (r ≡ boardCountIn (now (bytes .entry))) × (r < 2 ^ 32) ⌝ }
 {
@@ -58,8 +58,20 @@ fn boards_given(bytes: &[u8]) -> usize
     0
 }
 
+// How long a file is by the counts that its header gives.
+pub fn length_given(bytes: &[u8]) -> usize
+    requires { ⌜ headerLength (versionIn (now bytes)) ≤ length (now bytes) ⌝ }
+    ensures { λ r. ⌜ r ≡ lengthIn (now (bytes .entry)) ⌝ }
+{
+    let version = number::number2(bytes, layout::VERSION_FIELD);
+    let n = number::number2(bytes, layout::FANS_FIELD) as usize;
+    let m = number::number2(bytes, layout::COUNT_FIELD) as usize;
+    let g = boards_given(bytes);
+    layout::file_length(version, n, g, m)
+}
+
 // Refusals 2, 12 and 20, of the counts that a header gives; 0 for none.
-fn counts_refusal(bytes: &[u8]) -> u64
+pub fn counts_refusal(bytes: &[u8]) -> u64
     requires { ⌜ headerLength (versionIn (now bytes)) ≤ length (now bytes) ⌝ }
     ensures { λ r. ⌜ r ≡ countsRefusal (now (bytes .entry)) ⌝ }
 {

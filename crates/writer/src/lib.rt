@@ -1,5 +1,5 @@
 // The deck file's writer, requests 01, 08 and 11 of document 02: version, lists and systems in, the file's bytes out into lent room.
-mod bytes; // bytes.rt: numbers as bytes, laid over a room
+pub mod bytes; // bytes.rt: numbers as bytes, laid over a room
 
 ghost use mathlib.Core.Path.{_≡_};
 ghost use Prim.Native.Nat.{_/_};
@@ -73,7 +73,7 @@ fn refusal(
 
 // The header of a file of n fans, g boards and m systems: its version and counts in two bytes each, then its offsets in four, and g and the offset of the board
 // bytes where the version has them.
-fn put_header(version: u64, n: usize, g: usize, m: usize, room: &mut [u8])
+pub fn put_header(version: u64, n: usize, g: usize, m: usize, room: &mut [u8])
     requires { ⌜ Heads version n g m (now room) ⌝ }
     ensures { λ _. ⌜ now (room .exit) ≡ laid 0 (headerOf version n g m) (now (room .entry)) ⌝ }
 {

@@ -5,7 +5,7 @@ use native.Mathlib.Omega.{arith}
 use lib.ListN.{length}
 use Rattle.rules.specs.Boards.{boardsRead}
 use Rattle.rules.specs.File.{allBytes, survivalField, boardCountField, countsOf}
-use Rattle.deck.proofs.File.{version-fits}
+use Rattle.deck.proofs.Header.{version-fits}
 use Rattle.deck.proofs.Versions.{header-bounds, fans-bound}
 use Rattle.writer.specs.Laid.{laid}
 use Rattle.writer.proofs.Parts.{last-fits, header-laid}
