@@ -1,0 +1,10 @@
+-- The theorems about mending a deck file, from the ground up.
+pub mod Checks
+pub mod Mendable
+pub mod Putting
+pub mod Kept
+pub mod Mended
+pub mod Heading
+pub mod Front
+pub mod Outcome
+pub mod Examples
