@@ -20,7 +20,7 @@ use Rattle.printing.specs.Listable.{Listable}
 use Rattle.printing.proofs.Front.{front-itself}
 
 -- what is added at the front of a buffer counts its bytes
-added-counts : {words out after : List ℕ} {end : ℕ} → Added words out 0 after end → Counts end after
+pub added-counts : {words out after : List ℕ} {end : ℕ} → Added words out 0 after end → Counts end after
 added-counts {after} {end} added =
     let counted : end ≡ length (take end after) = omega (arith, added .ends, ap length (added .stands)) in
     (omega (arith, length-take end after), counted)

@@ -1,0 +1,3 @@
+-- The laws of what deckmend writes.
+mod Lengths
+mod Whole
