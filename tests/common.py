@@ -3,6 +3,7 @@
 import os
 import subprocess
 import sys
+from concurrent.futures import ThreadPoolExecutor
 from functools import lru_cache
 from pathlib import Path
 
@@ -11,6 +12,7 @@ room = root / "target/tests"
 sys.path.insert(0, str(root / "second"))
 
 from foambeetle import decklist_output, deckworth_output  # noqa: E402
+from mending import deckmend_output  # noqa: E402
 
 STRICT = ("-Wall", "-Wextra", "-Werror", "-O1")
 
@@ -22,8 +24,11 @@ def rated_lines(data):
 
 # The libraries, for the ship and for the office.
 SHIP, OFFICE = LIBRARIES = "foambeetle", "foambeetle_office"
-# The programs, and the C samples of the ship's calls, each with what the second program prints for it; the sample of the office's, which writes EXAMPLE.
+# The programs that print a deck file, and the C samples of the ship's calls, each with what the second program prints for it; the program that mends
+# one, and all programs; the sample of the office's, which writes EXAMPLE.
 PROGRAMS = {"decklist": decklist_output, "deckworth": deckworth_output}
+MENDER = "deckmend"
+EVERY_PROGRAM = (*PROGRAMS, MENDER)
 SAMPLES = {"rate": rated_lines, "worth": deckworth_output}
 WRITER, EXAMPLE = "write", "example.deck"
 
@@ -40,7 +45,7 @@ def make(*words):
 
 def prove():
     """The programs, proved and built."""
-    make(*(f"target/stamp/{program}" for program in PROGRAMS))
+    make(*(f"target/stamp/{program}" for program in EVERY_PROGRAM))
 
 
 def started(program, *words):
@@ -80,6 +85,19 @@ def compare_samples(what, words, output, by_name=False):
     """The sample decks through a program, each on its standard input, and where the program opens it itself by its name too."""
     got = [run([*words, *([deck] if by_name else [])], deck.read_bytes()).decode() for deck in decks()]
     return compare(f"samples through {what}", got, [output(deck.read_bytes()) for deck in decks()])
+
+
+def mended(words, data):
+    """What deckmend, started by these words, writes to standard output and to standard error."""
+    done = subprocess.run([str(word) for word in words], input=data, capture_output=True, check=True)
+    return done.stdout, done.stderr.decode()
+
+
+def compare_mended(what, words, inputs):
+    """Inputs through deckmend, a process each, some at a time."""
+    with ThreadPoolExecutor() as pool:
+        got = list(pool.map(lambda data: mended(words, data), inputs))
+    return compare(f"{what} through deckmend", got, [deckmend_output(data) for data in inputs])
 
 
 def compare_example(what, words):

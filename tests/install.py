@@ -6,7 +6,8 @@ import shutil
 import sys
 
 from common import (
-    LIBRARIES, OFFICE, PROGRAMS, SAMPLES, SHIP, WRITER, build, compare_example, compare_samples, held, make, room, root, run, sample, tools,
+    EVERY_PROGRAM, LIBRARIES, MENDER, OFFICE, PROGRAMS, SAMPLES, SHIP, WRITER, build, compare_example, compare_mended, compare_samples, decks, held, make,
+    room, root, run, sample, tools,
 )
 
 STAGE = room / "stage"
@@ -32,7 +33,7 @@ def pkg_config_version():
 
 def pages_there():
     """Every program and every library has its man page."""
-    pages = [*(f"man1/{program}.1" for program in PROGRAMS), *(f"man3/{library}.3" for library in LIBRARIES)]
+    pages = [*(f"man1/{program}.1" for program in EVERY_PROGRAM), *(f"man3/{library}.3" for library in LIBRARIES)]
     return all((PLACE / "share/man" / page).exists() for page in pages)
 
 
@@ -59,6 +60,12 @@ def samples_agree():
     return good
 
 
+def spoilt():
+    """The sample decks, the first without its last byte, the others with more and more behind them."""
+    for place, deck in enumerate(decks()):
+        yield deck.read_bytes()[:-1] + b"\0" * place
+
+
 def main():
     shutil.rmtree(STAGE, ignore_errors=True)
     make("install", f"DESTDIR={STAGE}", f"PREFIX={PREFIX}")
@@ -66,6 +73,7 @@ def main():
     good = held(pages_there, pkg_config_version) and all(alone(program) for program in (PLACE / "bin").iterdir())
     for program, output in PROGRAMS.items():
         good &= compare_samples(f"the installed {program}", [*tools()[1], PLACE / "bin" / program], output)
+    good &= compare_mended("samples cut and run on", [*tools()[1], PLACE / "bin" / MENDER], list(spoilt()))
     good &= samples_agree()
     make("uninstall", f"DESTDIR={STAGE}", f"PREFIX={PREFIX}")
     print(f"left by uninstall: {installed()}")

@@ -5,7 +5,7 @@ import re
 import subprocess
 import sys
 
-from common import PROGRAMS, compare, decks, held, prove, root, run, started
+from common import EVERY_PROGRAM, compare, decks, held, prove, root, run, started
 
 from files import random_files
 from foambeetle import UNITS, Boards, Deck, Rule, System, deck_bytes, decklist_output
@@ -14,8 +14,8 @@ SAMPLE = root / "samples/hold1.deck"
 FILES = 60
 MILLION = 10 ** 6
 NEAR = (0, 1, 10, 11, 107, 108, 1073, 1074, 10737419)  # percents that begin or end in zeros, or just round
-# The words that have a program print a deck, beside none at all; every program takes --help and --version.
-WORDS = {"decklist": ["--percent"], "deckworth": []}
+# The words that have a program read a deck, beside none at all; every program takes --help and --version.
+WORDS = {"decklist": ["--percent"], "deckworth": [], "deckmend": []}
 WRONG = (["--percents"], ["--percen"], [""], ["-h"], ["x" * 5000], ["--percent", "--percent"], ["--help", "x"], ["", ""])
 
 
@@ -87,7 +87,7 @@ def failures_told(program):
 def main():
     prove()
     good = percents()
-    for program in PROGRAMS:
+    for program in EVERY_PROGRAM:
         good &= held(words_answered, failures_told, of=[program])
     return 0 if good else 1
 

@@ -3,7 +3,7 @@
 import re
 import sys
 
-from common import PROGRAMS, prove, reported, root, run, started
+from common import EVERY_PROGRAM, prove, reported, root, run, started
 
 
 def named():
@@ -13,7 +13,7 @@ def named():
     for page in sorted((root / "man").iterdir()):
         yield f"man/{page.name}", re.findall(r'^\.TH .* "Foambeetle (.*)"$', page.read_text(), re.M)
     prove()
-    for program in PROGRAMS:
+    for program in EVERY_PROGRAM:
         yield f"{program} --version", re.findall(rf"^{program} (.*)$", run(started(program, "--version")).decode(), re.M)
 
 

@@ -1,0 +1,117 @@
+"""deckmend against the second program, what it writes and what it says of it.
+
+Every byte of a header set to every value, in each version; headers with several bytes damaged, the files whole, cut or run on; files cut at every
+length; from 1 to 100,000 bytes behind a file; sound and damaged files at random; input that comes in pieces; and a file with far more behind it.
+"""
+
+import random
+import subprocess
+import sys
+
+from common import MENDER, compare, compare_mended, make, mended, root, tools
+
+from files import random_deck, random_files, with_field
+from foambeetle import BOARDS_VERSION, UNITS, Boards, Deck, Rule, System, deck_bytes
+from mending import deckmend_output, mend
+
+HEADERS = {version: 28 if version == BOARDS_VERSION else 20 for version in UNITS}
+SEVERAL = 2500
+FILES = 1500
+BEHIND = 100000
+PIECE = 100
+MUCH = 20_000_000  # bytes behind a file
+
+
+def sound(version, n=3, m=2, g=2):
+    boards = Boards([place % (g + 1) for place in range(n)], [5] * g)
+    return deck_bytes(Deck([7] * n, [1] * n, [System(Rule(1, 1, 0), 1, n)] * m, version, boards))
+
+
+def longest(version):
+    return sound(version, 64, 32, 4)
+
+
+def single_bytes():
+    """Every byte of a header set to every other value."""
+    for version in UNITS:
+        data = sound(version)
+        for at in range(HEADERS[version]):
+            yield from (data[:at] + bytes([value]) + data[at + 1:] for value in range(256) if value != data[at])
+
+
+def several_bytes():
+    """Headers with two to all of their bytes overwritten, most often bytes that mending sets right."""
+    rng = random.Random(1401)
+    for place in range(SEVERAL):
+        version = rng.choice(tuple(UNITS))
+        data = bytearray(deck_bytes(random_deck(rng, version)))
+        spared = () if place % 5 == 0 else (0, 1, 4, 5, 6, 7, 20, 21, 22, 23)
+        places = [at for at in range(HEADERS[version]) if at not in spared]
+        for at in rng.sample(places, rng.randint(2, len(places))):
+            data[at] = rng.choice((0, 1, 255, rng.randrange(256)))
+        yield (bytes(data), bytes(data) + rng.randbytes(rng.randint(1, 2000)), bytes(data[:rng.randrange(len(data))]))[place % 3]
+
+
+def cut_files():
+    """Files cut at every length, sound and damaged; the longest ones near their end and the buffer's."""
+    for version in UNITS:
+        data = sound(version)
+        for front in (data, with_field(data, 2, 2, 257), with_field(data, 8, 4, 2 ** 32 - 1)):
+            yield from (front[:length] for length in range(len(front) + 1))
+        data = longest(version)
+        yield from (data[:length] for length in (*range(HEADERS[version] + 2), *range(len(data) - 12, len(data) + 1)))
+
+
+def run_on():
+    """From 1 to 100,000 bytes behind a file, more of the lengths about the buffer's end and a piece's."""
+    rng = random.Random(1402)
+    near = (3071, 3072, 3073, 4095, 4096, 4097, 65536)
+    anywhere = (rng.randint(1, BEHIND) for _ in range(60))
+    for place, length in enumerate((*range(1, 60), *range(100, 1400, 7), *range(960, 1030), *near, *anywhere, BEHIND)):
+        version = tuple(UNITS)[place % len(UNITS)]
+        data = longest(version) if place % 4 == 0 else sound(version)
+        yield (data, with_field(data, 16, 4, length))[place % 2] + rng.randbytes(length)
+    yield from (longest(version) + b"\0" * BEHIND for version in UNITS)
+
+
+def in_pieces(words):
+    """A pipe that is filled piece by piece."""
+    inputs = [with_field(longest(version), 2, 2, 9) + b"x" * more for version in UNITS for more in (0, 500)]
+    got = []
+    for data in inputs:
+        with subprocess.Popen(words, stdin=subprocess.PIPE, stdout=subprocess.PIPE, stderr=subprocess.PIPE, bufsize=0) as process:
+            for at in range(0, len(data), PIECE):
+                process.stdin.write(data[at:at + PIECE])
+            out, said = process.communicate()
+        got.append((out, said.decode()))
+    return compare("inputs in pieces", got, [deckmend_output(data) for data in inputs])
+
+
+def much_behind(words):
+    """More behind a file than is worth comparing byte by byte."""
+    data = with_field(sound(1), 2, 2, 1)
+    out, said = mended(words, data + bytes(MUCH))
+    return compare(f"a file with {MUCH} bytes behind it", [(out, said)], [(mend(data).data, f"byte 2 was 1 is 0\ncut {MUCH}\n")])
+
+
+def stored():
+    """The file that rt runs deckmend on, and what it holds it to."""
+    crate = root / "crates" / MENDER
+    return compare("deckmend's stored answer", [(crate / "stdout").read_bytes()], [deckmend_output((crate / "stdin").read_bytes())[0]])
+
+
+def main():
+    program = root / f"target/programs/{MENDER}"
+    make(program.relative_to(root))
+    words = [*tools()[1], program]
+    good = stored()
+    for what, inputs in (
+        ("headers with one byte damaged", single_bytes()), ("headers with several", several_bytes()), ("cut files", cut_files()),
+        ("files run on", run_on()), ("files at random", random_files(1403, FILES)),
+    ):
+        good &= compare_mended(what, words, list(inputs))
+    return 0 if good & in_pieces(words) & much_behind(words) else 1
+
+
+if __name__ == "__main__":
+    sys.exit(main())
