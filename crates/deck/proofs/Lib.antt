@@ -6,6 +6,7 @@ pub mod Versions
 pub mod Header
 pub mod Sound
 pub mod Checks
+pub mod Asking
 pub mod File
 pub mod Kept
 pub mod Outcome

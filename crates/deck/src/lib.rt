@@ -1,4 +1,5 @@
 // The deck file of document 01: its refusals, and the reader that hands its deck on.
+pub mod ending; // ending.rt: where a file ends in a stream
 pub mod layout; // layout.rt: where each number of a file stands
 pub mod number; // number.rt: numbers that bytes spell
 mod parts; // parts.rt: the survival numbers, the weights and the systems, in arrays
