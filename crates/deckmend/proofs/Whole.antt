@@ -20,7 +20,7 @@ use Rattle.mend.proofs.Front.{AsWhole, as-whole}
 use Rattle.mend.proofs.Outcome.{rooms-enough}
 use Rattle.printing.specs.Front.{Front}
 use Rattle.printing.specs.Lines.{fileText}
-use Rattle.printing.proofs.Printed.{added-counts}
+use Rattle.text.proofs.Adding.{added-counts}
 use Rattle.deckmend.specs.Lines.{changesText, cutText, mostChanges}
 use Rattle.deckmend.specs.Whole.{fileRoom, WholeMended}
 use Rattle.deckmend.proofs.Lengths.{changes-alike}

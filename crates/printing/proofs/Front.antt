@@ -3,27 +3,25 @@
 use mathlib.Core.Path.{_≡_, refl, sym, ap, _∙_}
 use mathlib.Core.Bool.{Bool, true, false, not, _&&_, true≢false}
 use mathlib.Core.List.{List}
-use Prim.Native.Nat.{ℕ, zero, suc, _+_, _≤_, _<_}
+use Prim.Native.Nat.{ℕ, _≤_, _<_}
 use native.Mathlib.Decide.{decLe}
 use native.Mathlib.Omega.{arith}
 use lib.Dec.{eqb}
 use lib.ListN.{length, take}
-use lib.Seq.{length-take-le, take-all, getD-take}
+use lib.Seq.{length-take-le, take-all}
 use borrow.Author.Tests.{le-ltb, ne-eqb, not-false}
-use Rattle.rules.specs.Refusal.{lastVersion, mostBoards, badSize}
+use Rattle.rules.specs.Refusal.{badSize}
 use Rattle.rules.specs.File.{versionField, zeroField, fansField, countField, survivalField, weightsField, systemsField, boardCountField, shortestHeader, headerLength, mostFans, mostSystems, survivalOffset, weightsOffset, systemsOffset, fileLength, numberAt, versionIn, fansIn, countIn, boardCountIn, boardsElsewhere, badLayout, badBoardsIn, fileRefusal}
 use Rattle.rules.proofs.EachKind.{within-true}
 use Rattle.rules.proofs.Accepted.{first-same}
 use Rattle.rules.proofs.Unless.{unless-some}
 use Rattle.deck.specs.declared.Read.{Read}
 use Rattle.deck.specs.Outcome.{Handed}
+use Rattle.deck.specs.Ending.{longest}
 use Rattle.deck.proofs.Versions.{header-bounds, fans-bound, without-boards, few-boards}
 use Rattle.deck.proofs.Sound.{sound, sound-few}
+use Rattle.deck.proofs.Asking.{same-number}
 use Rattle.printing.specs.Front.{Front, WholeRead}
-
--- the length of the longest sound file, 812
-abbrev longest : ℕ
-longest = fileLength lastVersion mostFans mostBoards mostSystems
 
 -- a length that differs is refused, whatever the offsets are
 long-layout : (bytes : List ℕ) → longest < length bytes → fansIn bytes ≤ mostFans → countIn bytes ≤ mostSystems → badBoardsIn bytes ≡ false → badLayout bytes ≡ true
@@ -58,22 +56,16 @@ module _ (bytes : List ℕ) (k : ℕ) (long : longest < k) (within : k ≤ lengt
   size : length front ≡ k
   size = length-take-le k bytes within
 
-  -- a number in the front is the whole's
-  same-number : (width at : ℕ) → at + width ≤ k → numberAt width front at ≡ numberAt width bytes at
-  unfolding numberAt
-  same-number zero at h = refl
-  same-number (suc width) at h = rw (same-number width (suc at) (omega arith), getD-take k bytes at 0 (omega arith))
-
   same-refusal : fileRefusal front ≡ fileRefusal bytes
   unfolding fileRefusal
   same-refusal =
-      let fans-same = same-number 2 fansField (omega arith) in
-      let count-same = same-number 2 countField (omega arith) in
-      let version-same = same-number 2 versionField (omega arith) in
-      let boards-same : badBoardsIn front ≡ badBoardsIn bytes = rw (same-number 4 boardCountField (omega arith), version-same) in
+      let fans-same = same-number bytes k 2 fansField (omega arith) in
+      let count-same = same-number bytes k 2 countField (omega arith) in
+      let version-same = same-number bytes k 2 versionField (omega arith) in
+      let boards-same : badBoardsIn front ≡ badBoardsIn bytes = rw (same-number bytes k 4 boardCountField (omega arith), version-same) in
       let header = header-bounds (versionIn bytes) in
       first-same 10 _ _ _ _ (rw (size, le-ltb k shortestHeader (omega arith), le-ltb (length bytes) shortestHeader (omega arith))) (λ short.
-      first-same 11 _ _ _ _ (rw (version-same, same-number 2 zeroField (omega arith))) (λ version.
+      first-same 11 _ _ _ _ (rw (version-same, same-number bytes k 2 zeroField (omega arith))) (λ version.
       first-same 10 _ _ _ _
       (rw (version-same, size, le-ltb k (headerLength (versionIn bytes)) (omega arith), le-ltb (length bytes) (headerLength (versionIn bytes)) (omega arith))) (λ short.
       first-same 2 _ _ _ _ (ap badSize fans-same) (λ fans.

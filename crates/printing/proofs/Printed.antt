@@ -3,12 +3,11 @@
 use mathlib.Core.Path.{_≡_, sym, ap, _∙_}
 use mathlib.Core.List.{List}
 use Prim.Native.Nat.{ℕ, _≤_}
-use native.Mathlib.Omega.{arith}
-use lib.ListN.{length, take, length-take}
-use Rattle.io.specs.Counts.{Counts}
+use lib.ListN.{length, take}
 use Rattle.rules.specs.File.{fileRefusal}
 use Rattle.rules.proofs.Unless.{unless-some, unless-none}
 use Rattle.text.specs.Added.{Added}
+use Rattle.text.proofs.Adding.{added-counts}
 use Rattle.deck.specs.declared.Read.{Read}
 use Rattle.deck.specs.Read.{keptDeck}
 use Rattle.deck.proofs.Kept.{read-none, read-deck}
@@ -18,12 +17,6 @@ use Rattle.printing.specs.Lines.{fileText, printText}
 use Rattle.printing.specs.Front.{WholeRead, WholePrinted}
 use Rattle.printing.specs.Listable.{Listable}
 use Rattle.printing.proofs.Front.{front-itself}
-
--- what is added at the front of a buffer counts its bytes
-pub added-counts : {words out after : List ℕ} {end : ℕ} → Added words out 0 after end → Counts end after
-added-counts {after} {end} added =
-    let counted : end ≡ length (take end after) = omega (arith, added .ends, ap length (added .stands)) in
-    (omega (arith, length-take end after), counted)
 
 module _ {buffer : List ℕ} {filled : ℕ} (r : Read) (read : WholeRead buffer filled r) where
   -- the deck that was read can be listed

@@ -4,9 +4,10 @@ use mathlib.Core.List.{List, [], _++_, append-assoc, append-nil}
 use Prim.Native.Nat.{ℕ, _+_, _-_, _≤_}
 use native.Mathlib.Omega.{arith}
 use lib.IntN.{ℤ}
-use lib.ListN.{length, take, length-append}
+use lib.ListN.{length, take, length-append, length-take}
 use lib.Seq.{paste, length-paste, take-paste, take-all}
 use borrow.Author.Tests.{le-leb}
+use Rattle.io.specs.Counts.{Counts}
 use Rattle.text.specs.Decimal.{decimal, signed}
 use Rattle.text.specs.Lines.{named, namedRoom, pairText, pairRoom, signedNamed, signedPair, signedRoom, signedPairRoom}
 use Rattle.text.specs.Put.{Put, PutNamed}
@@ -72,3 +73,9 @@ named-added {n} room put =
 
 pub none-added : (out : List ℕ) (at : ℕ) → Added [] out at out at
 none-added out at = record { ends = omega arith; stands = sym (append-nil (take at out)) }
+
+-- what is added at the front of a buffer counts its bytes
+pub added-counts : {words out after : List ℕ} {end : ℕ} → Added words out 0 after end → Counts end after
+added-counts {after} {end} added =
+    let counted : end ≡ length (take end after) = omega (arith, added .ends, ap length (added .stands)) in
+    (omega (arith, length-take end after), counted)
