@@ -41,7 +41,7 @@ pub fn same(a: &[u8], b: &[u8]) -> bool
 }
 
 // One read of standard input, into the buffer's front.
-fn read_some(buffer: &mut [u8]) -> Input
+pub fn read_some(buffer: &mut [u8]) -> Input
     ensures { λ r. ⌜ FitsIn (length (now (buffer .exit))) r ⌝ }
 {
     let got = libc::read(STDIN_FILENO, buffer);

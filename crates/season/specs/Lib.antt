@@ -1,0 +1,3 @@
+-- What season prints, and what it reads.
+pub mod Lines
+pub mod Reading

@@ -1,0 +1,25 @@
+-- What reading a file of a stream gives, and what is kept of the files read.
+use mathlib.Core.Path.{_≡_}
+use mathlib.Core.List.{List}
+use Prim.Native.Nat.{ℕ, _≤_}
+use lib.ListN.{length, take}
+use Rattle.deck.specs.Ending.{asks, longest}
+use Rattle.program.specs.declared.Input.{Input}
+use Rattle.program.specs.declared.Input.the-variants.{Filled, Failed}
+use Rattle.totals.specs.declared.Totals.{Totals}
+use Rattle.totals.specs.Season.{totalsOf}
+
+-- as many bytes as they ask for; fewer only where the input ended
+pub record Taken (file : List ℕ) (n : ℕ) : Type 0 where
+  pub fits : n ≤ longest
+  pub asked : n ≤ asks (take n file)
+
+abbrev pub FileRead : (file : List ℕ) → Input → Type 0
+FileRead file (Filled n) = Taken file n
+FileRead file Failed = Unit {0}
+
+-- the totals are those of so many files, the files that were read
+pub record Totalled (n : ℕ) (t : Totals) : Type 0 where
+  pub files : List (List ℕ)
+  pub many : length files ≡ n
+  pub is : t ≡ totalsOf files
