@@ -14,6 +14,7 @@ import doubles_checks
 import figures_cases
 import mending_checks
 import published
+import season_checks
 import sources
 import words
 from files import DAMAGES, random_deck, random_files
@@ -753,7 +754,7 @@ GROUPS = (
     refusals_of_states_and_counts, stretches_read_inside_only, deck_files, printed_and_packed,
     decks_written, refusals_of_writing, header_damage, lent_tables, worths_by_words, worths_of_parts, plain_worths, refusals_of_worths,
     worths_of_files, same_chances_in_either_version, refusals_of_versions, units_of_files, *doubles_checks.GROUPS, *boards_checks.GROUPS,
-    *mending_checks.GROUPS,
+    *mending_checks.GROUPS, *season_checks.GROUPS,
 )
 
 

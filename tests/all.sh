@@ -14,6 +14,7 @@ others=(
     "the published figures are what the proved programs print: python3 tests/published.py"
     "each must-fail edit is refused for a fact: python3 tests/edits.py"
     "the library's calls and the programs against the second program: python3 tests/run.py"
+    "the season report against the second program: python3 tests/season.py"
     "the office's writer against the second program: python3 tests/office.py"
     "the office's calls over doubles against the second program: python3 tests/doubles.py"
     "the library's calls hold within the stack that the ship grants: python3 tests/stack.py"

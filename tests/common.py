@@ -13,6 +13,7 @@ sys.path.insert(0, str(root / "second"))
 
 from foambeetle import decklist_output, deckworth_output  # noqa: E402
 from mending import deckmend_output  # noqa: E402
+from season import season_output  # noqa: E402
 
 STRICT = ("-Wall", "-Wextra", "-Werror", "-O1")
 
@@ -24,9 +25,9 @@ def rated_lines(data):
 
 # The libraries, for the ship and for the office.
 SHIP, OFFICE = LIBRARIES = "foambeetle", "foambeetle_office"
-# The programs that print a deck file, and the C samples of the ship's calls, each with what the second program prints for it; the program that mends
+# The programs that print what deck files hold, and the C samples of the ship's calls, each with what the second program prints for it; the program that mends
 # one, and all programs; the sample of the office's, which writes EXAMPLE.
-PROGRAMS = {"decklist": decklist_output, "deckworth": deckworth_output}
+PROGRAMS = {"decklist": decklist_output, "deckworth": deckworth_output, "season": season_output}
 MENDER = "deckmend"
 EVERY_PROGRAM = (*PROGRAMS, MENDER)
 SAMPLES = {"rate": rated_lines, "worth": deckworth_output}

@@ -1,4 +1,4 @@
-"""The library's calls, decklist and deckworth against the second program, byte for byte.
+"""The library's calls and the programs against the second program, byte for byte.
 
 5,200 random deck files of every version, sound and damaged by turns, one of lines shorter than their window, one of pairs, three whose fans stand about
 the units, and some whose boards do, go through a C program linked with libfoambeetle.a, which rates their systems, asks for the worth of a fan under

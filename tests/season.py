@@ -1,0 +1,86 @@
+"""The season report against the second program, byte for byte: streams of deck files on standard input, named ones for each sentence of request 13, 300
+random ones, and 10,000 files and more; the same in pieces of any size; and the count of decks that a terminal is shown meanwhile."""
+
+import os
+import pty
+import random
+import subprocess
+import sys
+
+from common import compare, held, prove, run, started
+
+from season import season_output
+from season_samples import many_files, named, random_streams, single_fan
+
+STREAMS = 300
+IN_PIECES = 12
+TOLD = 100  # decks are told by the hundred
+SHOWN = 250
+
+
+def through(data):
+    return run(started("season"), data).decode()
+
+
+def in_pieces(rng, data):
+    """What season prints where the stream comes by a few bytes at a time."""
+    with subprocess.Popen([str(word) for word in started("season")], stdin=subprocess.PIPE, stdout=subprocess.PIPE) as program:
+        at = 0
+        while at < len(data):
+            end = at + rng.choice((1, 2, 7, 19, 20, 21, 300))
+            try:
+                os.write(program.stdin.fileno(), data[at:end])
+            except BrokenPipeError:  # a refused file ends the reading
+                break
+            at = end
+        program.stdin.close()
+        return program.stdout.read().decode()
+
+
+def on_terminal(data):
+    """What season prints, and what it shows on a terminal."""
+    mine, theirs = pty.openpty()
+    with subprocess.Popen([str(word) for word in started("season")], stdin=subprocess.PIPE, stdout=subprocess.PIPE, stderr=theirs) as program:
+        printed, _ = program.communicate(data)
+    os.close(theirs)
+    shown = b""
+    while True:
+        try:
+            piece = os.read(mine, 4096)
+        except OSError:  # the terminal's end, as Linux tells it
+            piece = b""
+        if not piece:
+            break
+        shown += piece
+    os.close(mine)
+    return printed.decode(), shown.decode()
+
+
+def decks_shown():
+    """A count of decks read, by the hundred, wiped at the end; and nothing at all where standard error is no terminal."""
+    data = single_fan(1, 1) * SHOWN
+    printed, shown = on_terminal(data)
+    told = [f"decks {count}" for count in range(TOLD, SHOWN + 1, TOLD)]
+    done = subprocess.run([str(word) for word in started("season")], input=data, capture_output=True, check=True)
+    return (
+        printed == season_output(data) == done.stdout.decode()
+        and [part for part in shown.split("\r") if part.strip()] == told
+        and shown.endswith(" \r")
+        and not done.stderr
+    )
+
+
+def main():
+    prove()
+    rng = random.Random(13)
+    streams = [*named(), *random_streams(2026, STREAMS)]
+    good = compare("streams through season", [through(data) for data in streams], [season_output(data) for data in streams])
+    many = list(many_files())
+    good &= compare("streams of 10,000 files and more", [through(data) for data in many], [season_output(data) for data in many])
+    pieces = [stream for stream in streams if stream][-IN_PIECES:]
+    good &= compare("streams in pieces", [in_pieces(rng, data) for data in pieces], [season_output(data) for data in pieces])
+    return 0 if good & held(decks_shown) else 1
+
+
+if __name__ == "__main__":
+    sys.exit(main())
