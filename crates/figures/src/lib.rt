@@ -127,7 +127,7 @@ pub fn refusal(
     }
     let from = a as usize - 1;
     let upto = b as usize;
-    let boarded = refusals::boards::refusal(
+    let boarded = refusals::board_lists::refusal(
         version,
         n,
         switchboards.len() as u64,
@@ -138,7 +138,7 @@ pub fn refusal(
     if boarded != 0 {
         return boarded;
     }
-    let own = refusals::boards::numbers_read(version, switchboards);
+    let own = refusals::board_lists::numbers_read(version, switchboards);
     let all = units::whole(units::is_decimal(version));
     if numbers_out(all, &survival[from..upto], own) {
         return 4;
@@ -172,8 +172,8 @@ pub fn work(
     let start = a as usize - 1;
     let end = b as usize;
     let rated = rated_weights(rule, survival.len(), weights, a, b);
-    let placed = refusals::boards::boards_read(version, boards, start, end);
-    let own = refusals::boards::numbers_read(version, switchboards);
+    let placed = refusals::board_lists::boards_read(version, boards, start, end);
+    let own = refusals::board_lists::numbers_read(version, switchboards);
     let decimal = units::is_decimal(version);
     boards::rate(
         decimal,

@@ -1,12 +1,12 @@
--- `refusals::boards::refusal` meets its contract: 20, then 21. Assumes nothing.
+-- `refusals::board_lists::refusal` meets its contract: 20, then 21. Assumes nothing.
 use mathlib.Core.Path.{sym, _∙_}
 use mathlib.Core.List.{[]}
 use Rattle.rules.proofs.Accepted.{first-of, first-after}
 use Rattle.refusals.specs.Shared.{boardsRefusal}
 use Rattle.refusals.proofs.Laws.{none-left}
 use borrow.Author.Needs.{needs}
-use Rattle.refusals.proofs.boards.refusal.Statement.{statement}
-use Rattle.refusals.proofs.boards.refusal.Tie as tie
+use Rattle.refusals.proofs.board_lists.refusal.Statement.{statement}
+use Rattle.refusals.proofs.board_lists.refusal.Tie as tie
 
 boards-out-requires : tie.Need-boards-out-requires
 boards-out-requires c κs = search needs
