@@ -1,6 +1,6 @@
 -- What the refusals 1, 2, 5 and 6 share: a call's refusal is theirs followed by its own, each kind's row of the column "range", and a rule that none of
 -- them meets is `Accepted`. By cases on the tests; the rows are taken at a number. Assumes nothing.
-use mathlib.Core.Path.{_≡_, refl, subst}
+use mathlib.Core.Path.{_≡_, refl, subst, _∙_}
 use mathlib.Core.Bool.{Bool, true, false, cond, not, _&&_, _||_}
 use mathlib.Core.Logic.{_⊎_, inl, inr}
 use mathlib.Core.List.{List, [], _∷_}
@@ -17,7 +17,7 @@ use Rattle.rules.specs.Boards.{hasBoards, boardsRead}
 use Rattle.rules.specs.Refusal.{after, someAbove, mostBoards, badBoards, misplaced, rangeOne, badKind, notCounted, badSize, badWeights, ranged, inRange, firstOf, highOne, shortTable, shortRoom, verdictRefusal, countRefusal}
 use Rattle.rules.specs.Accepted.{Accepted}
 use Rattle.rules.proofs.EachKind.{range-kind}
-use Rattle.rules.proofs.Accepted.{none-first, rule-accepted}
+use Rattle.rules.proofs.Accepted.{none-first, first-after, rule-accepted}
 use Rattle.rules.proofs.Unread.{beside-range}
 use Rattle.refusals.specs.Shared.{ratedRefusal, ruleRefusal, boardsRefusal}
 
@@ -144,3 +144,7 @@ module _ (version g : ℕ) where
 
     pub misplaced-none : hasBoards version ≡ false → misplaced version n g boards rated ≡ false
     misplaced-none e = rw e
+
+    pub refused-none : hasBoards version ≡ false → boardsRefusal version n g boards rated ≡ 0
+    unfolding boardsRefusal
+    refused-none e = first-after 20 _ _ (boards-none e) ∙ first-after 21 _ [] (misplaced-none e) ∙ none-left

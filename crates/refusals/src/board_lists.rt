@@ -58,11 +58,14 @@ pub fn misplaced(version: u64, n: usize, g: u64, boards: &[u8], from: usize, upt
     false
 }
 
-// Refusals 20 and 21, in that order; 0 for none.
+// Refusals 20 and 21, in that order; 0 for none, which a version without boards is told at once.
 pub fn refusal(version: u64, n: usize, g: u64, boards: &[u8], from: usize, upto: usize) -> u64
     requires { ⌜ (from ≤ upto) × (upto ≤ n) ⌝ }
     ensures { λ r. ⌜ r ≡ boardsRefusal version n g (now (boards .entry)) (take (upto - from) (drop from (now (boards .entry)))) ⌝ }
 {
+    if !has_boards(version) {
+        return 0;
+    }
     if boards_out(version, g) {
         return 20;
     }

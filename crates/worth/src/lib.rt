@@ -91,6 +91,7 @@ fn rate_sure(
     let n = survival.len();
     let mut numbers = copied(survival);
     numbers[fan as usize - 1] = p;
+    // the boards' lists lent anew, as in `figures::work`
     figures::work(
         version,
         rule,
@@ -99,8 +100,8 @@ fn rate_sure(
         &numbers[..n],
         weights,
         more,
-        boards,
-        switchboards,
+        &boards[..],
+        &switchboards[..],
         table,
     )
 }
