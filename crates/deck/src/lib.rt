@@ -113,7 +113,6 @@ fn bad_layout(bytes: &[u8]) -> bool
 {
     let version = number::number2(bytes, layout::VERSION_FIELD);
     let n = number::number2(bytes, layout::FANS_FIELD) as usize;
-    let m = number::number2(bytes, layout::COUNT_FIELD) as usize;
     let g = boards_given(bytes);
     if number::number4(bytes, layout::SURVIVAL_FIELD) as usize != layout::header_length(version) {
         return true;
@@ -130,7 +129,7 @@ fn bad_layout(bytes: &[u8]) -> bool
     if boards_elsewhere(bytes) {
         return true;
     }
-    bytes.len() != layout::file_length(version, n, g, m)
+    bytes.len() != length_given(bytes)
 }
 
 // The board bytes of a file, one for each fan; none where the version has no boards.
