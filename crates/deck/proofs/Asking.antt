@@ -3,7 +3,7 @@
 use mathlib.Core.Path.{_≡_, refl, sym, ap, _∙_}
 use mathlib.Core.Bool.{true, false, cond}
 use mathlib.Core.List.{List}
-use Prim.Native.Nat.{ℕ, zero, suc, _+_, _≤_, _<_}
+use Prim.Native.Nat.{ℕ, _+_, _≤_, _<_}
 use native.Mathlib.Omega.{arith}
 use native.Mathlib.Decide.{decLe}
 use lib.ListN.{length, take}
@@ -19,6 +19,7 @@ use Rattle.rules.proofs.Tests.{by-test}
 use Rattle.rules.proofs.Unless.{unless-some, unless-none, unless-by}
 use Rattle.deck.specs.Outcome.{countsRefusal}
 use Rattle.deck.specs.Ending.{asksBy, asks, fileAt, longest}
+use Rattle.deck.proofs.Numbers.{number-same}
 use Rattle.deck.proofs.Versions.{header-bounds, header-some, by-boards, fans-bound, without-boards, few-boards}
 
 -- counts that pass
@@ -80,9 +81,7 @@ whole-most bytes e =
 
 -- a number in the front of a list is the whole's
 pub same-number : (bytes : List ℕ) (k width at : ℕ) → at + width ≤ k → numberAt width (take k bytes) at ≡ numberAt width bytes at
-unfolding numberAt
-same-number bytes k zero at h = refl
-same-number bytes k (suc width) at h = rw (same-number bytes k width (suc at) (omega arith), getD-take k bytes at 0 (omega arith))
+same-number bytes k width at h = number-same {from = 0} (record { byte = λ p past below. getD-take k bytes p 0 below }) width at (omega arith) h
 
 module _ (stream : List ℕ) (k : ℕ) (within : k ≤ length stream) where
   abbrev front : List ℕ

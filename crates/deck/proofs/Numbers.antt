@@ -1,6 +1,6 @@
 -- Numbers as bytes, and bytes as numbers: reading the bytes of a number gives the number, and the bytes of what was read are those that were
 -- read; the same of a list of numbers. A read depends on the bytes it reads alone. Assumes nothing.
-use mathlib.Core.Path.{_≡_, refl, ap, sym, _∙_}
+use mathlib.Core.Path.{_≡_, refl, ap, ap₂, sym, _∙_}
 use mathlib.Core.List.{List, [], _∷_, _++_, append-assoc, append-nil}
 use Prim.Native.Nat.{ℕ, zero, suc, _+_, _*_, _/_, _%_, _^_, _≤_, _<_}
 use native.Mathlib.Nat.{zero-add, suc-add, mul-zero, mul-suc, pow-suc}
@@ -23,6 +23,16 @@ number-past (suc width) b bytes at = rw (number-past width b bytes (suc at))
 pub number-right : (width : ℕ) (xs ys : List ℕ) (at : ℕ) → numberAt width (xs ++ ys) (length xs + at) ≡ numberAt width ys at
 number-right width [] ys at = rw zero-add
 number-right width (x ∷ xs) ys at = rw (suc-add (length xs) at, number-past width x (xs ++ ys)) (number-right width xs ys at)
+
+-- the same bytes from a place on, up to another
+pub record Same (xs ys : List ℕ) (from upto : ℕ) : Type 0 where
+  pub byte : (p : ℕ) → from ≤ p → p < upto → getD xs p 0 ≡ getD ys p 0
+
+pub number-same : {xs ys : List ℕ} {from upto : ℕ} → Same xs ys from upto → (width at : ℕ) → from ≤ at → at + width ≤ upto → numberAt width xs at ≡ numberAt width ys at
+unfolding numberAt
+number-same same zero at h l = refl
+number-same same (suc width) at h l =
+    ap₂ (λ b n. b + 256 * n) (same .byte at h (omega arith)) (number-same same width (suc at) (omega arith) (omega arith))
 
 -- a number of two bytes, and one of four, by its halves
 pub number-two : (bytes : List ℕ) (at : ℕ) → numberAt 2 bytes at ≡ getD bytes at 0 + 256 * getD bytes (at + 1) 0

@@ -1,45 +1,35 @@
--- What is read from two lists of bytes that are the same where they are read is the same: a number, the numbers of a list, a system. Assumes nothing.
+-- What is read from two lists of bytes that are the same where they are read is the same: the numbers of a list, a system. Of one number it is deck's law. Assumes nothing.
 use mathlib.Core.Path.{_≡_, refl, ap₂}
 use mathlib.Core.List.{List, [], _∷_, _++_}
 use Prim.Native.Nat.{ℕ, zero, suc, _+_, _*_, _≤_, _<_}
 use native.Mathlib.Nat.{mul-suc, mul-le-mul-left}
 use native.Mathlib.Omega.{arith}
-use lib.ListN.{getD}
 use Rattle.rules.specs.Below.{listBelow}
-use Rattle.rules.specs.File.{numberAt, numbersFrom, systemAt, nthSystem, systemBytes}
+use Rattle.rules.specs.File.{numbersFrom, systemAt, nthSystem, systemBytes}
+use Rattle.deck.proofs.Numbers.{Same, number-same}
 
 pub below-same : {A : Type 0} (n : ℕ) (f g : ℕ → A) → ((i : ℕ) → i < n → f i ≡ g i) → listBelow n f ≡ listBelow n g
 unfolding listBelow
 below-same zero f g h = refl
 below-same (suc n) f g h = ap₂ (λ xs x. xs ++ (x ∷ [])) (below-same n f g (λ i l. h i (omega arith))) (h n (omega arith))
 
--- the same bytes from a place on, up to another
-pub record Same (xs ys : List ℕ) (from upto : ℕ) : Type 0 where
-  pub byte : (p : ℕ) → from ≤ p → p < upto → getD xs p 0 ≡ getD ys p 0
-
 module _ {xs ys : List ℕ} {from upto : ℕ} (same : Same xs ys from upto) where
-  pub number-same : (width at : ℕ) → from ≤ at → at + width ≤ upto → numberAt width xs at ≡ numberAt width ys at
-  unfolding numberAt
-  number-same zero at h l = refl
-  number-same (suc width) at h l =
-      ap₂ (λ b n. b + 256 * n) (same .byte at h (omega arith)) (number-same width (suc at) (omega arith) (omega arith))
-
   pub numbers-same : (width at n : ℕ) → from ≤ at → at + width * n ≤ upto → numbersFrom width xs at n ≡ numbersFrom width ys at n
   numbers-same width at n h l =
       below-same n _ _
       (λ i s.
       let upper : width * suc i ≤ width * n = mul-le-mul-left width s in
       let more : width * suc i ≡ width * i + width = rw mul-suc (omega arith) in
-      number-same width (at + width * i) (omega arith) (omega arith))
+      number-same same width (at + width * i) (omega arith) (omega arith))
 
   system-same : (at : ℕ) → from ≤ at → at + systemBytes ≤ upto → systemAt xs at ≡ systemAt ys at
   unfolding systemAt
   system-same at h l =
-      let kind = number-same 2 at h (omega arith) in
-      let first = number-same 2 (at + 2) (omega arith) (omega arith) in
-      let second = number-same 2 (at + 4) (omega arith) (omega arith) in
-      let a = number-same 2 (at + 6) (omega arith) (omega arith) in
-      let b = number-same 2 (at + 8) (omega arith) (omega arith) in
+      let kind = number-same same 2 at h (omega arith) in
+      let first = number-same same 2 (at + 2) (omega arith) (omega arith) in
+      let second = number-same same 2 (at + 4) (omega arith) (omega arith) in
+      let a = number-same same 2 (at + 6) (omega arith) (omega arith) in
+      let b = number-same same 2 (at + 8) (omega arith) (omega arith) in
       λ x. record { rule = record { kind = kind x; first = first x; second = second x }; a = a x; b = b x }
 
   pub systems-same : (at m : ℕ) → from ≤ at → at + systemBytes * m ≤ upto → listBelow m (nthSystem xs at) ≡ listBelow m (nthSystem ys at)

@@ -20,10 +20,11 @@ use Rattle.deck.proofs.Header as header
 use Rattle.deck.proofs.Header.{header-length}
 use Rattle.deck.proofs.Versions.{header-bounds}
 use Rattle.deck.proofs.Sound.{sound}
+use Rattle.deck.proofs.Numbers.{Same}
 use Rattle.deck.proofs.File.{header-back}
 use Rattle.mend.specs.Outcome.{Unchanged}
 use Rattle.mend.proofs.Mendable.{Mendable, mendable, not-beyond, headed}
-use Rattle.mend.proofs.Kept.{Same, numbers-same, systems-same}
+use Rattle.mend.proofs.Kept.{numbers-same, systems-same}
 
 -- bytes that are mended to themselves have no changes
 unchanged : (bytes : List ℕ) → beyondMending bytes ≡ 0 → mended bytes ≡ bytes → length bytes ≡ lengthIn bytes → Unchanged bytes
