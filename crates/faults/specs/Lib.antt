@@ -1,0 +1,4 @@
+-- How a fault of a typed text is told.
+pub mod Wanted
+pub mod Told
+pub mod Lines
