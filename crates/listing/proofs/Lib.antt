@@ -1,0 +1,12 @@
+-- What is known of listings.
+pub mod Storing
+pub mod MoreFans
+pub mod MoreSystems
+pub mod Telling
+pub mod Ends
+pub mod Holding
+pub mod Passing
+pub mod Reading
+pub mod TextEnd
+pub mod Pieces
+pub mod Handed

@@ -1,0 +1,81 @@
+-- `adding::added` meets its contract, thing by thing. Assumes nothing.
+use mathlib.Core.Path.{refl}
+use borrow.Author.Tests.{eq-eqb, ne-eqb}
+use Rattle.typing.specs.Grammar.{aVersion, someFans, aBoard}
+use Rattle.typing.specs.Text.{added}
+use borrow.Author.Needs.{needs}
+use Rattle.listing.proofs.adding.added.Statement.{statement}
+use Rattle.listing.proofs.adding.added.Tie as tie
+
+array-read-thing : tie.Need-array-read-thing
+array-read-thing c = search needs
+
+array-read-next : tie.Need-array-read-next
+array-read-next c = search needs
+
+returns : tie.Need-returns
+unfolding added
+returns c = λ s h.
+    rw (eq-eqb _ aVersion (c .if1 .taken))
+    (record { lines = h .lines; version = refl; begun = h .begun; fans = h .fans; boards = h .boards; systems = h .systems; told = h .told })
+
+added-fans-requires : tie.Need-added-fans-requires
+added-fans-requires c κs = search needs
+
+same-length : tie.Need-same-length
+same-length c = search needs
+
+returns-2 : tie.Need-returns-2
+unfolding added
+returns-2 c =
+    let test = c .before .before .before .before .before .if1 in
+    let test2 = c .before .before .before .before .if2 in
+    let added-fans = c .before .before .added-fans in
+    λ s h. rw (ne-eqb _ aVersion (test .left), eq-eqb _ someFans (test2 .taken)) (added-fans .ensures s h)
+
+added-board-requires : tie.Need-added-board-requires
+added-board-requires c κs = search needs
+
+same-length-2 : tie.Need-same-length-2
+same-length-2 c = search needs
+
+returns-3 : tie.Need-returns-3
+unfolding added
+returns-3 c =
+    let test = c .before .before .before .before .before .before .if1 in
+    let test2 = c .before .before .before .before .before .if2 in
+    let test3 = c .before .before .before .before .if3 in
+    let added-board = c .before .before .added-board in
+    λ s h. rw (ne-eqb _ aVersion (test .left), ne-eqb _ someFans (test2 .left), eq-eqb _ aBoard (test3 .taken)) (added-board .ensures s h)
+
+added-system-requires : tie.Need-added-system-requires
+added-system-requires c κs = search needs
+
+same-length-3 : tie.Need-same-length-3
+same-length-3 c = search needs
+
+returns-4 : tie.Need-returns-4
+unfolding added
+returns-4 c =
+    let test = c .before .before .before .before .before .before .if1 in
+    let test2 = c .before .before .before .before .before .if2 in
+    let test3 = c .before .before .before .before .if3 in
+    let added-system = c .before .before .added-system in
+    λ s h. rw (ne-eqb _ aVersion (test .left), ne-eqb _ someFans (test2 .left), ne-eqb _ aBoard (test3 .left)) (added-system .ensures s h)
+
+pub added-spec : {M : Type 1} → statement M
+added-spec =
+    tie.close
+    (tie.spec
+    array-read-thing
+    array-read-next
+    returns
+    added-fans-requires
+    same-length
+    returns-2
+    added-board-requires
+    same-length-2
+    returns-3
+    added-system-requires
+    same-length-3
+    returns-4)

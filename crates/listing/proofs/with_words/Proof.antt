@@ -1,0 +1,95 @@
+-- `with_words` meets its contract: a line whose reading ends at a fault is told, another adds what it has set. Assumes nothing.
+use mathlib.Core.Bool.{true}
+use Rattle.typing.specs.Text.{counted}
+use Rattle.listing.proofs.Holding.{within-read, with-fault, with-thing}
+use borrow.Author.Needs.{needs}
+use Rattle.listing.proofs.with_words.Statement.{statement}
+use Rattle.listing.proofs.with_words.Tie as tie
+
+read-line-requires : tie.Need-read-line-requires
+read-line-requires c κs = search needs
+
+count-line-requires : tie.Need-count-line-requires
+count-line-requires c κs = search needs
+
+sub-tell : tie.Need-sub-tell
+sub-tell c = search needs
+
+part-tell-start : tie.Need-part-tell-start
+part-tell-start c = search needs
+
+part-tell-end : tie.Need-part-tell-end
+part-tell-end c = search needs
+
+array-read-tell : tie.Need-array-read-tell
+array-read-tell c = search needs
+
+tell-requires : tie.Need-tell-requires
+tell-requires c κs =
+    let held = c .before .before .before .before .before .before .before .before .before .pre .1 in
+    record { state = counted (held .state) true; holds = c .before .before .before .before .count-line .ensures _ (held .state) (held .holds) }
+
+same-length : tie.Need-same-length
+same-length c = search needs
+
+returns : tie.Need-returns
+returns c =
+    let count-line = c .before .before .before .before .before .before .before .count-line in
+    let read-line = c .before .before .before .before .before .before .before .before .before .read-line in
+    let test = c .before .before .before .before .before .if1 in
+    let tell = c .before .before .tell in
+    λ s h.
+    let next = count-line .ensures _ s h in
+    with-fault _ _ _ (read-line .ensures) s h _ _ (next .lines) (test .taken) (tell .ensures (counted s true) next)
+
+sub-added : tie.Need-sub-added
+sub-added c = search needs
+
+part-added-start : tie.Need-part-added-start
+part-added-start c = search needs
+
+part-added-end : tie.Need-part-added-end
+part-added-end c = search needs
+
+added-requires : tie.Need-added-requires
+added-requires c κs =
+    let start = c .before .before .before .before .before .before .before .before .before in
+    let count-line = c .before .before .before .before .count-line in
+    let read-line = c .before .before .before .before .before .before .read-line in
+    let held = start .pre .1 in (
+      record { state = counted (held .state) true; holds = count-line .ensures _ (held .state) (held .holds) },
+      within-read (start .args .listing) _ _ (read-line .ensures),
+    )
+
+same-length-2 : tie.Need-same-length-2
+same-length-2 c = search needs
+
+returns-2 : tie.Need-returns-2
+returns-2 c =
+    let count-line = c .before .before .before .before .before .before .before .count-line in
+    let read-line = c .before .before .before .before .before .before .before .before .before .read-line in
+    let test = c .before .before .before .before .before .if1 in
+    let added = c .before .before .added in
+    λ s h.
+    let next = count-line .ensures _ s h in
+    with-thing _ _ _ (read-line .ensures) s h _ (test .left) (added .ensures (counted s true) next)
+
+pub with-words-spec : {M : Type 1} → statement M
+with-words-spec =
+    tie.close
+    (tie.spec
+    read-line-requires
+    count-line-requires
+    sub-tell
+    part-tell-start
+    part-tell-end
+    array-read-tell
+    tell-requires
+    same-length
+    returns
+    sub-added
+    part-added-start
+    part-added-end
+    added-requires
+    same-length-2
+    returns-2)

@@ -1,0 +1,60 @@
+-- A listing and the buffer of its faults hold what has been read of a text.
+use mathlib.Core.Path.{_≡_}
+use mathlib.Core.Bool.{Bool}
+use mathlib.Core.List.{List, _++_}
+use Prim.Native.Nat.{ℕ, _≤_}
+use lib.ListN.{length}
+use Rattle.rules.specs.Refusal.{mostBoards}
+use Rattle.typing.specs.Text.{Listed, nothing, counted, lastFaults, listed}
+use Rattle.listing.specs.declared.Listing.{Listing}
+use Rattle.listing.specs.Lists.{Stored, Fanned, Ruled}
+use Rattle.listing.specs.Told.{toldRoom, Telling}
+
+pub record Holds (l : Listing) (s : Listed) (out : List ℕ) : Type 0 where
+  pub lines : l .lines ≡ s .lines
+  pub version : l .version ≡ s .version
+  pub begun : l .begun ≡ s .begun
+  pub fans : Fanned (l .fans) (s .survival) (s .weights) (s .boards) (s .fanLines)
+  pub boards : Stored mostBoards (l .boards) (l .switchboards) (s .boardSurvival)
+  pub systems : Ruled (l .systems) (s .systems)
+  pub told : Telling (l .told) (s .faults) out
+
+-- nothing has been read, and all faults can be told
+abbrev pub Starts : Listing → Type 0
+Starts l = (out : List ℕ) → toldRoom ≤ length out → Holds l nothing out
+
+-- it holds something
+pub record Held (l : Listing) (out : List ℕ) : Type 0 where
+  pub state : Listed
+  pub holds : Holds l state out
+
+-- whatever it held, it holds what a step makes of that
+abbrev pub Steps : (before : Listing) (out : List ℕ) (after : Listing) (then : List ℕ) (step : Listed → Listed) → Type 0
+Steps before out after then step = (s : Listed) → Holds before s out → Holds after (step s) then
+
+-- a line more, whatever it held
+abbrev pub Counts : (before after : Listing) (begun : Bool) → Type 0
+Counts before after begun = (out : List ℕ) → Steps before out after out (λ s. counted s begun)
+
+-- lines are counted up to 2^62, which no text reaches
+abbrev pub mostLines : ℕ
+mostLines = 4611686018427387904
+
+-- the end of the text: what can be told only then
+abbrev pub ended : Listed → Listed
+ended s = record {
+  lines = s .lines;
+  version = s .version;
+  begun = s .begun;
+  survival = s .survival;
+  weights = s .weights;
+  boards = s .boards;
+  fanLines = s .fanLines;
+  boardSurvival = s .boardSurvival;
+  systems = s .systems;
+  faults = s .faults ++ lastFaults s;
+}
+
+-- a whole text: what it lists and its faults
+abbrev pub HoldsText : Listing → (text out : List ℕ) → Type 0
+HoldsText l text out = Holds l (ended (listed text)) out
