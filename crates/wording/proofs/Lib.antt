@@ -1,0 +1,6 @@
+-- The laws of a rule's row and of what a deck's words take at most; examples.
+mod Rows
+mod Examples
+pub mod Back
+pub mod Reread
+pub mod Lengths

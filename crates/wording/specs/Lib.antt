@@ -1,0 +1,4 @@
+-- A deck in words.
+pub mod Numbers
+pub mod Rule
+pub mod Lines
