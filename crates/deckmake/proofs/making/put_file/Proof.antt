@@ -1,0 +1,109 @@
+-- `making::put_file` meets its contract: the lists that are lent are the typed deck, and what the writer does not refuse stands at the room's front. Assumes nothing.
+use mathlib.Core.Path.{sym}
+use native.Mathlib.Omega.{arith}
+use lib.Seq.{length-take-le}
+use Rattle.typing.specs.Text.{typedBy}
+use Rattle.listing.proofs.Handed.{held-typed}
+use Rattle.deckmake.proofs.Filing.{file-written, never-other}
+use borrow.Author.Needs.{needs}
+use Rattle.deckmake.proofs.making.put_file.Statement.{statement}
+use Rattle.deckmake.proofs.making.put_file.Tie as tie
+
+cast-numbers : tie.Need-cast-numbers
+cast-numbers c = omega (arith, c .before .before .before .before .before .before .before .pre .holds .fans .parts .few)
+
+numbers-requires : tie.Need-numbers-requires
+numbers-requires c κs = omega (arith, c .before .before .before .before .before .before .before .pre .holds .systems .numbers .few)
+
+mul-end : tie.Need-mul-end
+mul-end c = omega (arith, c .before .before .before .before .before .before .before .before .before .pre .holds .systems .numbers .few)
+
+array-share-prefix-survival : tie.Need-array-share-prefix-survival
+array-share-prefix-survival c = omega (arith, c .before .before .before .before .before .before .before .before .before .pre .holds .fans .parts .few)
+
+slice-aggregate-write-deck : tie.Need-slice-aggregate-write-deck
+slice-aggregate-write-deck c = sym (length-take-le _ _ (array-share-prefix-survival (c .before)))
+
+array-share-prefix-weights : tie.Need-array-share-prefix-weights
+array-share-prefix-weights c = omega (arith, c .before .before .before .before .before .before .before .before .before .before .pre .holds .fans .weighed .few)
+
+slice-aggregate-write-deck-2 : tie.Need-slice-aggregate-write-deck-2
+slice-aggregate-write-deck-2 c = sym (length-take-le _ _ (array-share-prefix-weights (c .before)))
+
+array-share-prefix-boards : tie.Need-array-share-prefix-boards
+array-share-prefix-boards c = omega (arith, c .before .before .before .before .before .before .before .before .before .before .before .pre .holds .fans .placed .few)
+
+slice-aggregate-write-deck-3 : tie.Need-slice-aggregate-write-deck-3
+slice-aggregate-write-deck-3 c = sym (length-take-le _ _ (array-share-prefix-boards (c .before)))
+
+array-share-prefix-switchboards : tie.Need-array-share-prefix-switchboards
+array-share-prefix-switchboards c = omega (arith, c .before .before .before .before .before .before .before .before .before .before .before .before .pre .holds .boards .few)
+
+slice-aggregate-write-deck-4 : tie.Need-slice-aggregate-write-deck-4
+slice-aggregate-write-deck-4 c = sym (length-take-le _ _ (array-share-prefix-switchboards (c .before)))
+
+array-share-prefix-numbers : tie.Need-array-share-prefix-numbers
+array-share-prefix-numbers c = omega (arith, c .before .before .before .before .before .before .before .before .before .before .before .before .before .pre .holds .systems .numbers .few)
+
+slice-aggregate-write-deck-5 : tie.Need-slice-aggregate-write-deck-5
+slice-aggregate-write-deck-5 c = sym (length-take-le _ _ (array-share-prefix-numbers (c .before)))
+
+write-deck-requires : tie.Need-write-deck-requires
+write-deck-requires c κs = search needs
+
+enum-known-written : tie.Need-enum-known-written
+enum-known-written c = search needs
+
+enum-known-written-2 : tie.Need-enum-known-written-2
+enum-known-written-2 c = search needs
+
+same-length : tie.Need-same-length
+same-length c = search needs
+
+returns : tie.Need-returns
+returns c =
+    let wrote = c .before .before .before .before .before .write-deck in
+    let typed = c .before .before .before .before .before .before .before .before .before .before .before .before .before .numbers in
+    record {
+      stands = λ s told h none.
+          let e = held-typed h (typed .result) (typed .ensures) in
+          file-written (typedBy s) _ _ none _ (rw (e, c .before .written .given .1) at (wrote .ensures));
+    }
+
+same-length-2 : tie.Need-same-length-2
+same-length-2 c = search needs
+
+returns-2 : tie.Need-returns-2
+returns-2 c =
+    let wrote = c .before .before .before .before .before .write-deck in
+    let typed = c .before .before .before .before .before .before .before .before .before .before .before .before .before .numbers in
+    record {
+      stands = λ s told h none.
+          let e = held-typed h (typed .result) (typed .ensures) in
+          absurd (never-other (typedBy s) _ _ none _ (rw (e, c .before .written2 .given .1) at (wrote .ensures)));
+    }
+
+pub put-file-spec : {M : Type 1} → statement M
+put-file-spec =
+    tie.close
+    (tie.spec
+    cast-numbers
+    numbers-requires
+    mul-end
+    array-share-prefix-survival
+    slice-aggregate-write-deck
+    array-share-prefix-weights
+    slice-aggregate-write-deck-2
+    array-share-prefix-boards
+    slice-aggregate-write-deck-3
+    array-share-prefix-switchboards
+    slice-aggregate-write-deck-4
+    array-share-prefix-numbers
+    slice-aggregate-write-deck-5
+    write-deck-requires
+    enum-known-written
+    enum-known-written-2
+    same-length
+    returns
+    same-length-2
+    returns-2)

@@ -1,0 +1,72 @@
+-- `making::put_warnings` meets its contract: the buffer so far has the warnings of the systems passed, and room for the rest. The measure is the number of
+-- systems left. Assumes nothing.
+use mathlib.Core.Path.{_≡_, refl}
+use Prim.Native.Nat.{_-_, _≤_}
+use native.Mathlib.Omega.{arith}
+use native.Mathlib.Numerals.{add-one}
+use lib.ListN.{length}
+use Rattle.text.specs.Added.{Added}
+use Rattle.text.proofs.Adding.{none-added, added-more}
+use borrow.Author.Needs.{needs}
+use Rattle.deckmake.specs.Lines.{warningsText}
+use Rattle.deckmake.proofs.Lengths.{warnings-short}
+use Rattle.deckmake.proofs.making.put_warnings.Statement.{statement}
+use Rattle.deckmake.proofs.making.put_warnings.Tie as tie
+
+abbrev Inv-loop : tie.InvT-loop
+Inv-loop file count out₀ end₀ s₀ out end s = (s ≤ count) × (length out ≡ length out₀) × Added (warningsText file s) out₀ 0 out end
+
+abbrev μ-loop : tie.MeasureT-loop
+μ-loop file count out₀ end₀ s₀ out end s = count - s
+
+loop-holds : tie.Need-loop-holds Inv-loop μ-loop
+unfolding warningsText
+loop-holds c = (omega arith, refl, none-added (c .before .before .args .out .now) 0)
+
+add-s : tie.Need-add-s Inv-loop μ-loop
+add-s c = omega (arith, c .before .before .before .before .pre .0)
+
+rate-file-requires : tie.Need-rate-file-requires Inv-loop μ-loop
+rate-file-requires c κs = search needs
+
+put-warning-requires : tie.Need-put-warning-requires Inv-loop μ-loop
+put-warning-requires c κs =
+    let start = c .before .before .before .before .before .before in
+    let l = c .before .before .before .loop in
+    let lines = warnings-short (start .args .file .now) (l .s) in
+    omega (arith, start .pre .0, start .pre .1, c .before .before .loop-test .taken, l .inv .1, l .inv .2 .ends, lines)
+
+loop-less : tie.Need-loop-less Inv-loop μ-loop
+loop-less c = omega arith
+
+loop-again : tie.Need-loop-again Inv-loop μ-loop
+unfolding warningsText
+loop-again c =
+    let l = c .before .before .before .before .before .before .loop in
+    let put = c .before .before .put-warning in
+    let line = rw (c .before .before .before .before .rate-file .ensures, add-one (l .s)) at (put .ensures) in
+    (omega arith, omega (arith, put .kept, l .inv .1), rw add-one (added-more (l .inv .2) line))
+
+same-length : tie.Need-same-length Inv-loop μ-loop
+same-length c = c .before .loop .inv .1
+
+returns : tie.Need-returns Inv-loop μ-loop
+returns c =
+    let l = c .before .loop in
+    let e : l .s ≡ c .before .before .before .before .args .count = omega (arith, l .inv .0, c .loop-test .left) in
+    rw e at (l .inv .2)
+
+pub put-warnings-spec : {M : Type 1} → statement M
+put-warnings-spec =
+    tie.close
+    (tie.spec
+    Inv-loop
+    μ-loop
+    loop-holds
+    add-s
+    rate-file-requires
+    put-warning-requires
+    loop-less
+    loop-again
+    same-length
+    returns)

@@ -1,0 +1,4 @@
+-- What deckmake writes, and what it has read.
+pub mod Lines
+pub mod Made
+pub mod Pieces

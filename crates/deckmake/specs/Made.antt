@@ -1,0 +1,62 @@
+-- What goes to standard output for what a text lists, and what to standard error.
+use mathlib.Core.Path.{_≡_}
+use mathlib.Core.Bool.{Bool, cond}
+use mathlib.Core.List.{List, []}
+use Prim.Native.Nat.{ℕ, _≤_}
+use lib.Dec.{eqb}
+use lib.ListN.{length, take}
+use Rattle.io.specs.Counts.{Counts}
+use Rattle.rules.specs.Refusal.{lastVersion, mostBoards}
+use Rattle.rules.specs.File.{fileLength, mostFans, mostSystems}
+use Rattle.rules.specs.Writing.{bytesFor, writeRefusal}
+use Rattle.typing.specs.Text.{Listed, nothing, withLines, listed, typedBy}
+use Rattle.faults.specs.Told.{faultsText, mostTold}
+use Rattle.listing.specs.declared.Listing.{Listing}
+use Rattle.listing.specs.Holds.{Holds, ended}
+use Rattle.deckmake.specs.Lines.{warningsText}
+use Rattle.deckmake.specs.declared.making.Made.{Made}
+
+-- "nothing goes to standard output then": where a line is faulty
+abbrev pub faultless : Listed → Bool
+faultless s = eqb (length (s .faults)) 0
+
+unfoldable pub fileOut : Listed → List ℕ
+fileOut s = cond (faultless s) (bytesFor (typedBy s)) []
+
+-- "every faulty line is told, at most twenty"; else what will be refused of the deck
+unfoldable pub saidOut : Listed → List ℕ
+saidOut s = cond (faultless s) (warningsText (bytesFor (typedBy s)) (length (s .systems))) (faultsText (take mostTold (s .faults)))
+
+-- what lines list, to their end
+abbrev pub listedBy : (lines : List (List ℕ)) → Listed
+listedBy lines = ended (withLines nothing lines)
+
+-- some lines were read to their end; no contract can say which
+pub record Heard (l : Listing) (out : List ℕ) : Type 0 where
+  pub lines : List (List ℕ)
+  pub holds : Holds l (withLines nothing lines) out
+
+pub record HeardAll (l : Listing) (out : List ℕ) : Type 0 where
+  pub lines : List (List ℕ)
+  pub holds : Holds l (listedBy lines) out
+
+-- a listing holds something
+pub record HoldsSome (l : Listing) : Type 0 where
+  pub state : Listed
+  pub told : List ℕ
+  pub holds : Holds l state told
+
+-- the first bytes of a buffer are the file of what is listed, where the writer does not refuse it
+pub record FileOf (l : Listing) (before after : List ℕ) (size : ℕ) : Type 0 where
+  pub stands : (s : Listed) (told : List ℕ) → Holds l s told → writeRefusal (typedBy s) before ≡ 0 → Counts size after × (take size after ≡ bytesFor (typedBy s))
+
+-- the longest file
+abbrev pub fileRoom : ℕ
+fileRoom = fileLength lastVersion mostFans mostBoards mostSystems
+
+-- the first bytes of two buffers are what deckmake writes, whichever lines were read
+pub record MadeOf (l : Listing) (before file out : List ℕ) (r : Made) : Type 0 where
+  pub file-counts : Counts (r .size) file
+  pub out-counts : Counts (r .end) out
+  pub stands : (lines : List (List ℕ)) → Holds l (listedBy lines) before
+      → (take (r .size) file ≡ fileOut (listedBy lines)) × (take (r .end) out ≡ saidOut (listedBy lines))
