@@ -1,6 +1,7 @@
 # `make` alone lists the targets below that have a line of their own.
 
-DECK ?= samples/hold1.deck
+TEXT ?= samples/hold1.txt
+DECK ?=
 PREFIX ?= /usr/local
 DESTDIR ?=
 
@@ -29,9 +30,9 @@ progress := tests/progress.py target/build.log
 # a compiler for x86-64, and the kit's C code for programs that take words or open files
 cc = $(shell tests/tools.sh | head -n 1)
 kit_code = $(shell dirname "$$(dirname "$$(readlink -f "$$(command -v rt)")")")/lib/libos_c.a
-export DECK
+export TEXT DECK
 
-.PHONY: help run test lib install uninstall bench
+.PHONY: help run test samples lib install uninstall bench
 .DELETE_ON_ERROR:
 # rt works on one folder, and by itself on several crates at once
 .NOTPARALLEL:
@@ -39,11 +40,17 @@ export DECK
 help: ## this list
 	@awk -F ':.*## ' '/^[a-z]+:.*## / { printf "make %-10s %s\n", $$1, $$2 }' Makefile
 
-run: target/stamp/decklist ## prints a deck's figures (DECK=file; samples/hold1.deck otherwise), proving first what has changed
-	@tests/run-program decklist < "$$DECK"
+run: target/stamp/deckmake target/stamp/decklist ## makes a text's deck and prints its figures (TEXT=file, samples/hold1.txt otherwise; DECK=file for a deck file), proving first what has changed
+	@if [ -n "$$DECK" ]; then tests/run-program decklist --percent < "$$DECK"; \
+	    else tests/run-program deckmake < "$$TEXT" | tests/run-program decklist --percent; fi
 
 test: ## the gate: every proof from nothing, every must-fail edit, every program, the other tests; log in target/ci.log
 	@tests/all.sh
+
+# a text with a fault makes no file, and leaves the old one
+samples: target/stamp/deckmake ## makes each samples/NAME.deck from samples/NAME.txt, proving first what has changed
+	@for text in samples/*.txt; do \
+	    echo "$$text" && tests/run-program deckmake < "$$text" > target/made.deck && [ -s target/made.deck ] && cp target/made.deck "$${text%.txt}.deck" || exit 1; done
 
 lib: $(archives) $(shared) $(headers) ## target/lib: libfoambeetle for the ship, libfoambeetle_office for ashore, .a, .so and .h, for C on x86-64
 

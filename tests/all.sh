@@ -19,6 +19,7 @@ others=(
     "the office's calls over doubles against the second program: python3 tests/doubles.py"
     "the library's calls hold within the stack that the ship grants: python3 tests/stack.py"
     "deckmend against the second program: python3 tests/mend.py"
+    "deckmake and deckshow against the second program: python3 tests/typed.py"
     "the programs' words, percents and failures: python3 tests/program.py"
     "the walk through a deck is true as printed: python3 tests/walk.py"
     "the libraries link every way, and export their calls alone: python3 tests/library.py"

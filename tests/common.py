@@ -14,6 +14,7 @@ sys.path.insert(0, str(root / "second"))
 from foambeetle import decklist_output, deckworth_output  # noqa: E402
 from mending import deckmend_output  # noqa: E402
 from season import season_output  # noqa: E402
+from typed import deckmake_output, deckshow_output  # noqa: E402
 
 STRICT = ("-Wall", "-Wextra", "-Werror", "-O1")
 
@@ -25,11 +26,12 @@ def rated_lines(data):
 
 # The libraries, for the ship and for the office.
 SHIP, OFFICE = LIBRARIES = "foambeetle", "foambeetle_office"
-# The programs that print what deck files hold, and the C samples of the ship's calls, each with what the second program prints for it; the program that mends
-# one, and all programs; the sample of the office's, which writes EXAMPLE.
-PROGRAMS = {"decklist": decklist_output, "deckworth": deckworth_output, "season": season_output}
-MENDER = "deckmend"
-EVERY_PROGRAM = (*PROGRAMS, MENDER)
+# The programs that print what deck files hold, and the C samples of the ship's calls, each with what the second program prints for it; the programs that write
+# one, with what it writes and says of it; all programs; the sample of the office's, which writes EXAMPLE.
+SHOWER, MENDER, MAKER = "deckshow", "deckmend", "deckmake"
+PROGRAMS = {"decklist": decklist_output, "deckworth": deckworth_output, "season": season_output, SHOWER: deckshow_output}
+WRITING = {MENDER: deckmend_output, MAKER: deckmake_output}
+EVERY_PROGRAM = (*PROGRAMS, *WRITING)
 SAMPLES = {"rate": rated_lines, "worth": deckworth_output}
 WRITER, EXAMPLE = "write", "example.deck"
 
@@ -78,6 +80,11 @@ def decks():
     return sorted((root / "samples").glob("*.deck"))
 
 
+def texts():
+    """What the sample decks are made from."""
+    return sorted((root / "samples").glob("*.txt"))
+
+
 def sample(name):
     return root / f"samples/{name}.c"
 
@@ -88,17 +95,44 @@ def compare_samples(what, words, output, by_name=False):
     return compare(f"samples through {what}", got, [output(deck.read_bytes()) for deck in decks()])
 
 
-def mended(words, data):
-    """What deckmend, started by these words, writes to standard output and to standard error."""
+def linked(program):
+    """The words that start a program that make has linked into one file."""
+    file = root / f"target/programs/{program}"
+    make(file.relative_to(root))
+    return [*tools()[1], file]
+
+
+def mapped(function, inputs):
+    """The function of each input, some at a time."""
+    with ThreadPoolExecutor() as pool:
+        return list(pool.map(function, inputs))
+
+
+def written(words, data):
+    """What a program, started by these words, writes to standard output and to standard error."""
     done = subprocess.run([str(word) for word in words], input=data, capture_output=True, check=True)
     return done.stdout, done.stderr.decode()
 
 
-def compare_mended(what, words, inputs):
-    """Inputs through deckmend, a process each, some at a time."""
-    with ThreadPoolExecutor() as pool:
-        got = list(pool.map(lambda data: mended(words, data), inputs))
-    return compare(f"{what} through deckmend", got, [deckmend_output(data) for data in inputs])
+def compare_written(what, program, words, inputs):
+    """Inputs through a program that writes a file, a process each."""
+    got = mapped(lambda data: written(words, data), inputs)
+    return compare(f"{what} through {program}", got, [WRITING[program](data) for data in inputs])
+
+
+def compare_stored_file(program):
+    """The input that rt runs a writing program on, and what it holds it to."""
+    crate = root / "crates" / program
+    return compare(f"{program}'s stored answer", [(crate / "stdout").read_bytes()], [WRITING[program]((crate / "stdin").read_bytes())[0]])
+
+
+def fed(words, data, piece):
+    """The same where the input comes by so many bytes at a time."""
+    with subprocess.Popen(words, stdin=subprocess.PIPE, stdout=subprocess.PIPE, stderr=subprocess.PIPE, bufsize=0) as process:
+        for at in range(0, len(data), piece):
+            process.stdin.write(data[at:at + piece])
+        out, said = process.communicate()
+    return out, said.decode()
 
 
 def compare_example(what, words):

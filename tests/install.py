@@ -4,10 +4,11 @@ uninstall takes all of it away again."""
 import os
 import shutil
 import sys
+from pathlib import Path
 
 from common import (
-    EVERY_PROGRAM, LIBRARIES, MENDER, OFFICE, PROGRAMS, SAMPLES, SHIP, WRITER, build, compare_example, compare_mended, compare_samples, decks, held, make,
-    room, root, run, sample, tools,
+    EVERY_PROGRAM, LIBRARIES, MAKER, MENDER, OFFICE, PROGRAMS, SAMPLES, SHIP, WRITER, build, compare_example, compare_samples, compare_written, decks, held,
+    make, room, root, run, sample, texts, tools,
 )
 
 STAGE = room / "stage"
@@ -73,7 +74,8 @@ def main():
     good = held(pages_there, pkg_config_version) and all(alone(program) for program in (PLACE / "bin").iterdir())
     for program, output in PROGRAMS.items():
         good &= compare_samples(f"the installed {program}", [*tools()[1], PLACE / "bin" / program], output)
-    good &= compare_mended("samples cut and run on", [*tools()[1], PLACE / "bin" / MENDER], list(spoilt()))
+    for what, program, inputs in (("samples cut and run on", MENDER, spoilt()), ("the samples' texts", MAKER, map(Path.read_bytes, texts()))):
+        good &= compare_written(what, program, [*tools()[1], PLACE / "bin" / program], list(inputs))
     good &= samples_agree()
     make("uninstall", f"DESTDIR={STAGE}", f"PREFIX={PREFIX}")
     print(f"left by uninstall: {installed()}")

@@ -5,10 +5,9 @@ length; from 1 to 100,000 bytes behind a file; sound and damaged files at random
 """
 
 import random
-import subprocess
 import sys
 
-from common import MENDER, compare, compare_mended, make, mended, root, tools
+from common import MENDER, compare, compare_stored_file, compare_written, fed, linked, written
 
 from files import random_deck, random_files, with_field
 from foambeetle import BOARDS_VERSION, UNITS, Boards, Deck, Rule, System, deck_bytes
@@ -77,39 +76,24 @@ def run_on():
 def in_pieces(words):
     """A pipe that is filled piece by piece."""
     inputs = [with_field(longest(version), 2, 2, 9) + b"x" * more for version in UNITS for more in (0, 500)]
-    got = []
-    for data in inputs:
-        with subprocess.Popen(words, stdin=subprocess.PIPE, stdout=subprocess.PIPE, stderr=subprocess.PIPE, bufsize=0) as process:
-            for at in range(0, len(data), PIECE):
-                process.stdin.write(data[at:at + PIECE])
-            out, said = process.communicate()
-        got.append((out, said.decode()))
-    return compare("inputs in pieces", got, [deckmend_output(data) for data in inputs])
+    return compare("inputs in pieces", [fed(words, data, PIECE) for data in inputs], [deckmend_output(data) for data in inputs])
 
 
 def much_behind(words):
     """More behind a file than is worth comparing byte by byte."""
     data = with_field(sound(1), 2, 2, 1)
-    out, said = mended(words, data + bytes(MUCH))
+    out, said = written(words, data + bytes(MUCH))
     return compare(f"a file with {MUCH} bytes behind it", [(out, said)], [(mend(data).data, f"byte 2 was 1 is 0\ncut {MUCH}\n")])
 
 
-def stored():
-    """The file that rt runs deckmend on, and what it holds it to."""
-    crate = root / "crates" / MENDER
-    return compare("deckmend's stored answer", [(crate / "stdout").read_bytes()], [deckmend_output((crate / "stdin").read_bytes())[0]])
-
-
 def main():
-    program = root / f"target/programs/{MENDER}"
-    make(program.relative_to(root))
-    words = [*tools()[1], program]
-    good = stored()
+    words = linked(MENDER)
+    good = compare_stored_file(MENDER)
     for what, inputs in (
         ("headers with one byte damaged", single_bytes()), ("headers with several", several_bytes()), ("cut files", cut_files()),
         ("files run on", run_on()), ("files at random", random_files(1403, FILES)),
     ):
-        good &= compare_mended(what, words, list(inputs))
+        good &= compare_written(what, MENDER, words, list(inputs))
     return 0 if good & in_pieces(words) & much_behind(words) else 1
 
 

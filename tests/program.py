@@ -5,17 +5,18 @@ import re
 import subprocess
 import sys
 
-from common import EVERY_PROGRAM, compare, decks, held, prove, root, run, started
+from common import EVERY_PROGRAM, MAKER, compare, decks, held, prove, root, run, started
 
 from files import random_files
 from foambeetle import UNITS, Boards, Deck, Rule, System, deck_bytes, decklist_output
 
 SAMPLE = root / "samples/hold1.deck"
+TEXT = root / "samples/hold1.txt"  # what deckmake reads
 FILES = 60
 MILLION = 10 ** 6
 NEAR = (0, 1, 10, 11, 107, 108, 1073, 1074, 10737419)  # percents that begin or end in zeros, or just round
 # The words that have a program read a deck, beside none at all; every program takes --help and --version.
-WORDS = {"decklist": ["--percent"], "deckworth": [], "deckmend": [], "season": []}
+WORDS = {"decklist": ["--percent"], "deckworth": [], "deckmend": [], "season": [], "deckshow": [], MAKER: []}
 WRONG = (["--percents"], ["--percen"], [""], ["-h"], ["x" * 5000], ["--percent", "--percent"], ["--help", "x"], ["", ""])
 
 
@@ -78,7 +79,7 @@ def failures_told(program):
     for words in ([], *([word] for word in WORDS[program])):
         good &= told(program, *words, what="standard input: ", streams=f'< "{root}"')
         good &= told(program, *words, what="standard input: ", streams="<&-")
-        good &= told(program, *words, what="standard output: ", streams=f'< "{SAMPLE}" > /dev/full')
+        good &= told(program, *words, what="standard output: ", streams=f'< "{TEXT if program == MAKER else SAMPLE}" > /dev/full')
     good &= told(program, "--version", what="standard output: ", streams="> /dev/full")
     good &= told(program, "--help", what="standard output: ", streams=">&-")
     return good

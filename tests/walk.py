@@ -1,13 +1,10 @@
-"""samples/README.md is true as printed: its Python stands in samples/make.py, which writes the sample decks; its make command, its C program, built
-as printed, and its deckworth command print what it says."""
+"""samples/README.md is true as printed: its text is samples/hold1.txt, of which its deckmake command makes samples/hold1.deck, and README.md begins with
+it; a slip in it is told as it says; its make command, its C program, built as printed, and its deckworth and deckshow commands print what it says."""
 
-import importlib.util
 import re
 import sys
 
-from common import decks, held, make, prove, room, root, run, started, static
-
-from foambeetle import deck_bytes
+from common import held, make, prove, room, root, run, started, static, written
 
 
 def blocks(kind):
@@ -20,19 +17,33 @@ def command(first):
     return line
 
 
-def sample_decks():
-    """The decks of samples/make.py: their names, and the bytes of each."""
-    path = root / "samples/make.py"
-    spec = importlib.util.spec_from_file_location("make_samples", path)
-    module = importlib.util.module_from_spec(spec)
-    spec.loader.exec_module(module)
-    return {f"{deck.__name__}.deck": deck_bytes(deck()) for deck in module.DECKS}
+def through(program):
+    """What the program's command prints; the program that rt built stands in for the installed one."""
+    line = command(program).removeprefix(program)
+    return run(["sh", "-c", f'"$0" "$@" {line}', *started(program)], cwd=root)
 
 
 def made_as_said():
-    python, = blocks("python")
-    stored = {deck.name: deck.read_bytes() for deck in decks()}
-    return python in (root / "samples/make.py").read_text() and stored == sample_decks()
+    """The command's last word is the deck file that it writes, which samples/ has."""
+    text, = blocks("deck")
+    words = command("deckmake").split()
+    stored = (root / "samples" / words[-1]).read_bytes()
+    return text == (root / words[2]).read_text() and run(started("deckmake"), text.encode()) == stored
+
+
+def begun_as_said():
+    """README.md begins with the same list, less its comments, and with two lines of its figures."""
+    begun = (root / "README.md").read_text().partition("## From a typed list to figures\n")[2].partition("## ")[0]
+    _, *listed, first, second = (line.strip() for line in begun.splitlines() if line.startswith("    "))
+    plain = (line.partition("#")[0].strip() for line in blocks("deck")[0].splitlines())
+    return listed == [line for line in plain if line] and {first, second} <= set(blocks("text")[0].splitlines())
+
+
+def told_as_said():
+    """The message of the slip, where a letter O stands for a zero."""
+    message, = re.findall(r"^.*`(line \d+: .*)`\.$", (root / "samples/README.md").read_text(), re.M)
+    text = blocks("deck")[0].replace(" 10", " 1O", 1)
+    return written(started("deckmake"), text.encode()) == (b"", f"{message}\n")
 
 
 def printed_as_said():
@@ -49,15 +60,17 @@ def called_as_said():
 
 
 def worth_as_said():
-    """The program that rt built stands in for the installed one."""
-    line = command("deckworth").removeprefix("deckworth")
-    return run(["sh", "-c", f'"$0" "$@" {line}', *started("deckworth")], cwd=root).decode() == blocks("text")[2]
+    return through("deckworth").decode() == blocks("text")[2]
+
+
+def shown_as_said():
+    return through("deckshow").decode() == blocks("text")[3]
 
 
 def main():
     make("lib")
     prove()
-    return 0 if held(made_as_said, printed_as_said, called_as_said, worth_as_said) else 1
+    return 0 if held(made_as_said, begun_as_said, told_as_said, printed_as_said, called_as_said, worth_as_said, shown_as_said) else 1
 
 
 if __name__ == "__main__":
