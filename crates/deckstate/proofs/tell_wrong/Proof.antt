@@ -1,0 +1,34 @@
+-- `tell_wrong` meets its contract: the line fits. Assumes nothing.
+use Rattle.text.proofs.Adding.{added-counts}
+use borrow.Author.Needs.{needs}
+use Rattle.deckstate.proofs.tell_wrong.Statement.{statement}
+use Rattle.deckstate.proofs.tell_wrong.Tie as tie
+
+slice-aggregate-put-wrong : tie.Need-slice-aggregate-put-wrong
+slice-aggregate-put-wrong c = search needs
+
+put-wrong-requires : tie.Need-put-wrong-requires
+put-wrong-requires c κs = search needs
+
+array-share-prefix-line : tie.Need-array-share-prefix-line
+array-share-prefix-line c = added-counts (c .before .put-wrong .ensures) .0
+
+slice-aggregate-write-all : tie.Need-slice-aggregate-write-all
+slice-aggregate-write-all c = added-counts (c .before .before .put-wrong .ensures) .1
+
+write-all-requires : tie.Need-write-all-requires
+write-all-requires c κs = search needs
+
+returns : tie.Need-returns
+returns c = search needs
+
+pub tell-wrong-spec : {M : Type 1} → statement M
+tell-wrong-spec =
+    tie.close
+    (tie.spec
+    slice-aggregate-put-wrong
+    put-wrong-requires
+    array-share-prefix-line
+    slice-aggregate-write-all
+    write-all-requires
+    returns)

@@ -1,0 +1,66 @@
+"""deckstate against the second program, byte for byte, what it prints and what it says on standard error: random decks of every version with random words, right
+and wrong ones, damaged files, the samples, and a word of each kind that is no number."""
+
+import random
+import subprocess
+import sys
+from concurrent.futures import ThreadPoolExecutor
+
+from common import compare, decks, prove, started
+
+from files import DAMAGES, VERSIONS, random_deck
+from foambeetle import deck_bytes
+from states import BOARD, deckstate_output
+from states_samples import NO_NUMBERS, every_kind, every_kind_file, fan_words, right_words, wrong_words
+
+DECKS = 120  # of each version
+WRONG = 60
+DAMAGED = 40
+MANY = 2000  # words
+
+
+def through(case):
+    data, words = case
+    done = subprocess.run([str(word) for word in started("deckstate", *words)], input=data, capture_output=True, check=True)
+    return done.stdout.decode(), done.stderr.decode()
+
+
+def random_cases(rng):
+    """Decks of every version: right words, wrong ones, and words beside a damaged file."""
+    for version in VERSIONS:
+        for place in range(DECKS):
+            deck = random_deck(rng, version)
+            yield deck_bytes(deck), right_words(rng, deck)
+            if place < WRONG:
+                yield deck_bytes(deck), wrong_words(rng, deck)
+            if place < DAMAGED:
+                yield rng.choice(DAMAGES)(rng, deck_bytes(deck)), rng.choice((right_words, wrong_words))(rng, deck)
+
+
+def named_cases(rng):
+    """Every pair of fans of a deck of every kind, each of its boards, words that are no number in each place that a number has, and very many words."""
+    for version in VERSIONS:
+        data = every_kind_file(version)
+        yield data, []
+        yield from ((data, [str(one), str(other)]) for one in range(1, 13) for other in range(one, 13))
+        yield from ((data, [BOARD, board]) for board in "0123")
+        yield from ((data, words) for word in NO_NUMBERS for words in ([word], ["1", word, "x"], [BOARD, word]))
+        yield from ((data, words) for words in ([BOARD], ["1", BOARD], [BOARD, BOARD], [BOARD, "1", BOARD], [BOARD, "1", BOARD, "2", "12", "13"], [f"{BOARD} 1"]))
+    fans = len(every_kind().survivals)
+    yield every_kind_file(), [word for _ in range(MANY // fans) for word in fan_words(rng, fans)]
+    yield from ((deck.read_bytes(), words) for deck in decks() for words in ([], ["1"], ["3", "2"], [BOARD, "1"], ["1", "2", "3", "4"]))
+
+
+def main():
+    prove()
+    rng = random.Random(31)
+    good = True
+    for what, cases in (("named words", list(named_cases(rng))), ("random words", list(random_cases(rng)))):
+        with ThreadPoolExecutor() as pool:
+            got = list(pool.map(through, cases))
+        good &= compare(f"{what} through deckstate", got, [deckstate_output(*case) for case in cases])
+    return 0 if good else 1
+
+
+if __name__ == "__main__":
+    sys.exit(main())
