@@ -17,7 +17,7 @@ pub fn put_pair(first: &[u8], a: u64, second: &[u8], b: u64, out: &mut [u8], at:
 }
 
 // The absolute value: of the least number it has no room in the number's own type.
-fn absolute(z: i64) -> u64
+pub fn absolute(z: i64) -> u64
     ensures { λ r. ⌜ r ≡ natAbs z ⌝ }
 {
     if z >= 0 {

@@ -1,0 +1,43 @@
+-- `card::put_rating` meets its contract, case by case: a range is within the unit. Assumes nothing.
+use borrow.Author.Needs.{needs}
+use Rattle.deckpage.proofs.card.put_rating.Statement.{statement}
+use Rattle.deckpage.proofs.card.put_rating.Tie as tie
+
+enum-known-rating : tie.Need-enum-known-rating
+enum-known-rating c = search needs
+
+put-answer-requires : tie.Need-put-answer-requires
+put-answer-requires c κs =
+    let start = c .before .before .before .before .before .before in
+    (start .pre .0, (rw (c .before .before .rating .given .1) at (start .pre .1 .0), start .pre .1 .1))
+
+enum-known-rating-2 : tie.Need-enum-known-rating-2
+enum-known-rating-2 c = search needs
+
+put-advice-requires : tie.Need-put-advice-requires
+put-advice-requires c κs = search needs
+
+same-length : tie.Need-same-length
+same-length c = search needs
+
+returns : tie.Need-returns
+returns c = search needs
+
+same-length-2 : tie.Need-same-length-2
+same-length-2 c = search needs
+
+returns-2 : tie.Need-returns-2
+returns-2 c = search needs
+
+pub put-rating-spec : {M : Type 1} → statement M
+put-rating-spec =
+    tie.close
+    (tie.spec
+    enum-known-rating
+    put-answer-requires
+    enum-known-rating-2
+    put-advice-requires
+    same-length
+    returns
+    same-length-2
+    returns-2)

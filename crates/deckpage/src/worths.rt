@@ -1,0 +1,110 @@
+// What each fan of a deck is worth to a system.
+ghost use mathlib.Core.Path.{_≡_};
+ghost use Prim.Native.Nat.{_≤_};
+ghost use Rattle.rules.specs.State.{S};
+ghost use Rattle.deckpage.specs.Page.{mostDrawn};
+ghost use Rattle.deckpage.specs.Worths.{Weighed, lowerEnd, upperEnd};
+use crate::shape;
+use crate::shape::FANS;
+use rules::Worth;
+use text::lines;
+
+// The larger unit, which no worth is above.
+const UNIT: u64 = 1073741824;
+
+// Such a part of the largest end is too little to be seen.
+const UNSEEN: u64 = 100;
+
+// The two ends of each fan's worth, the first fan's at 0; a fan outside the stretch has none, and 0 stands there.
+pub struct Worths {
+    pub lower: [i64; FANS],
+    pub upper: [i64; FANS],
+}
+
+// The lower end of a worth, 0 where there is none.
+fn lower_of(worth: Worth) -> i64
+    ensures { λ r. ⌜ r ≡ lowerEnd worth ⌝ }
+{
+    match worth {
+        Worth::Ends { lower, upper: _ } => lower,
+        Worth::Refused(_number) => 0,
+    }
+}
+
+// The upper end, likewise.
+fn upper_of(worth: Worth) -> i64
+    ensures { λ r. ⌜ r ≡ upperEnd worth ⌝ }
+{
+    match worth {
+        Worth::Ends { lower: _, upper } => upper,
+        Worth::Refused(_number) => 0,
+    }
+}
+
+// The worths of all fans of a deck to a file's system, by the call that deckworth's lines come from.
+pub fn worths_of(file: &[u8], system: u64, fans: u64) -> Worths
+    requires { ⌜ fans ≤ mostDrawn ⌝ }
+    ensures { λ r. ⌜ Weighed (now (file .entry)) system fans r ⌝ }
+{
+    let mut lower = [0i64; FANS];
+    let mut upper = [0i64; FANS];
+    let mut i: usize = 0;
+    while (i as u64) < fans {
+        let worth = systems::weigh_file(file, system, i as u64 + 1);
+        lower[i] = lower_of(worth);
+        upper[i] = upper_of(worth);
+        i += 1;
+    }
+    Worths { lower, upper }
+}
+
+// The larger of two numbers.
+fn larger(x: u64, y: u64) -> u64 {
+    if x < y { y } else { x }
+}
+
+// The largest of so many ends, without their signs.
+fn largest_in(ends: [i64; FANS]) -> u64 {
+    let mut largest: u64 = 0;
+    let mut i: usize = 0;
+    while i < FANS {
+        largest = larger(largest, lines::absolute(ends[i]));
+        i += 1;
+    }
+    largest
+}
+
+// The largest of all ends: what the tallest bar stands for.
+pub fn largest_of(worths: Worths) -> u64
+    ensures { λ r. ⌜ r ≤ S ⌝ }
+{
+    let lower = worths.lower;
+    let upper = worths.upper;
+    shape::bounded(0, larger(largest_in(lower), largest_in(upper)), UNIT)
+}
+
+// Is any of so many ends so far below 0?
+fn any_below(ends: [i64; FANS], far: u64) -> bool {
+    let mut i: usize = 0;
+    while i < FANS {
+        if is_below(ends[i], far) {
+            return true;
+        }
+        i += 1;
+    }
+    false
+}
+
+// Is an end so far below 0?
+fn is_below(end: i64, far: u64) -> bool {
+    if end >= 0 {
+        return false;
+    }
+    lines::absolute(end) > far
+}
+
+// Does any bar go down from the line, so far that it can be seen? The lower end does where the upper one does.
+pub fn goes_down(worths: Worths) -> bool {
+    let lower = worths.lower;
+    any_below(lower, largest_of(worths) / UNSEEN)
+}
