@@ -16,6 +16,7 @@ import mending_checks
 import published
 import season_checks
 import sources
+import states_checks
 import typed_checks
 import words
 from files import DAMAGES, random_deck, random_files
@@ -755,7 +756,7 @@ GROUPS = (
     refusals_of_states_and_counts, stretches_read_inside_only, deck_files, printed_and_packed,
     decks_written, refusals_of_writing, header_damage, lent_tables, worths_by_words, worths_of_parts, plain_worths, refusals_of_worths,
     worths_of_files, same_chances_in_either_version, refusals_of_versions, units_of_files, *doubles_checks.GROUPS, *boards_checks.GROUPS,
-    *mending_checks.GROUPS, *season_checks.GROUPS, *typed_checks.GROUPS,
+    *mending_checks.GROUPS, *season_checks.GROUPS, *states_checks.GROUPS, *typed_checks.GROUPS,
 )
 
 

@@ -15,6 +15,8 @@ others=(
     "each must-fail edit is refused for a fact: python3 tests/edits.py"
     "the library's calls and the programs against the second program: python3 tests/run.py"
     "the season report against the second program: python3 tests/season.py"
+    "deckstate against the second program: python3 tests/states.py"
+    "deckpage against the second program, and in a browser: python3 tests/page.py"
     "the office's writer against the second program: python3 tests/office.py"
     "the office's calls over doubles against the second program: python3 tests/doubles.py"
     "the library's calls hold within the stack that the ship grants: python3 tests/stack.py"

@@ -14,6 +14,7 @@ sys.path.insert(0, str(root / "second"))
 from foambeetle import decklist_output, deckworth_output  # noqa: E402
 from mending import deckmend_output  # noqa: E402
 from season import season_output  # noqa: E402
+from states import deckstate_output  # noqa: E402
 from typed import deckmake_output, deckshow_output  # noqa: E402
 
 STRICT = ("-Wall", "-Wextra", "-Werror", "-O1")
@@ -24,14 +25,19 @@ def rated_lines(data):
     return decklist_output(data).split("\n", 1)[1]
 
 
+def judged_lines(data, *words):
+    """What deckstate prints where its words are right."""
+    return deckstate_output(data, words)[0]
+
+
 # The libraries, for the ship and for the office.
 SHIP, OFFICE = LIBRARIES = "foambeetle", "foambeetle_office"
 # The programs that print what deck files hold, and the C samples of the ship's calls, each with what the second program prints for it; the programs that write
-# one, with what it writes and says of it; all programs; the sample of the office's, which writes EXAMPLE.
-SHOWER, MENDER, MAKER = "deckshow", "deckmend", "deckmake"
-PROGRAMS = {"decklist": decklist_output, "deckworth": deckworth_output, "season": season_output, SHOWER: deckshow_output}
+# one, with what it writes and says of it; the one that draws one; all programs; the sample of the office's, which writes EXAMPLE.
+SHOWER, MENDER, MAKER, PAGER = "deckshow", "deckmend", "deckmake", "deckpage"
+PROGRAMS = {"decklist": decklist_output, "deckworth": deckworth_output, "season": season_output, "deckstate": judged_lines, SHOWER: deckshow_output}
 WRITING = {MENDER: deckmend_output, MAKER: deckmake_output}
-EVERY_PROGRAM = (*PROGRAMS, *WRITING)
+EVERY_PROGRAM = (*PROGRAMS, *WRITING, PAGER)
 SAMPLES = {"rate": rated_lines, "worth": deckworth_output}
 WRITER, EXAMPLE = "write", "example.deck"
 

@@ -7,8 +7,8 @@ import sys
 from pathlib import Path
 
 from common import (
-    EVERY_PROGRAM, LIBRARIES, MAKER, MENDER, OFFICE, PROGRAMS, SAMPLES, SHIP, WRITER, build, compare_example, compare_samples, compare_written, decks, held,
-    make, room, root, run, sample, texts, tools,
+    EVERY_PROGRAM, LIBRARIES, MAKER, MENDER, OFFICE, PAGER, PROGRAMS, SAMPLES, SHIP, WRITER, build, compare_example, compare_samples, compare_written, decks, held,
+    make, room, root, run, sample, started, texts, tools,
 )
 
 STAGE = room / "stage"
@@ -76,6 +76,7 @@ def main():
         good &= compare_samples(f"the installed {program}", [*tools()[1], PLACE / "bin" / program], output)
     for what, program, inputs in (("samples cut and run on", MENDER, spoilt()), ("the samples' texts", MAKER, map(Path.read_bytes, texts()))):
         good &= compare_written(what, program, [*tools()[1], PLACE / "bin" / program], list(inputs))
+    good &= compare_samples(f"the installed {PAGER}", [*tools()[1], PLACE / "bin" / PAGER], lambda data: run(started(PAGER), data).decode())
     good &= samples_agree()
     make("uninstall", f"DESTDIR={STAGE}", f"PREFIX={PREFIX}")
     print(f"left by uninstall: {installed()}")

@@ -16,7 +16,7 @@ FILES = 60
 MILLION = 10 ** 6
 NEAR = (0, 1, 10, 11, 107, 108, 1073, 1074, 10737419)  # percents that begin or end in zeros, or just round
 # The words that have a program read a deck, beside none at all; every program takes --help and --version.
-WORDS = {"decklist": ["--percent"], "deckworth": [], "deckmend": [], "season": [], "deckshow": [], MAKER: []}
+WORDS = {"decklist": ["--percent"], "deckworth": [], "deckmend": [], "season": [], "deckstate": [], "deckpage": [], "deckshow": [], MAKER: []}
 WRONG = (["--percents"], ["--percen"], [""], ["-h"], ["x" * 5000], ["--percent", "--percent"], ["--help", "x"], ["", ""])
 
 

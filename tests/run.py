@@ -124,10 +124,12 @@ def compare_calls(files):
 
 
 def compare_stored():
-    """The files that rt runs the programs on, and what it holds them to."""
+    """The files and words that rt runs the programs on, and what it holds them to."""
     crates = {root / "crates" / program: output for program, output in PROGRAMS.items()}
     stored = [(crate / "stdout").read_text() for crate in crates]
-    return compare("programs' stored answers", stored, [output((crate / "stdin").read_bytes()) for crate, output in crates.items()])
+    words = [(crate / "args").read_text().split() if (crate / "args").exists() else [] for crate in crates]
+    wanted = [output((crate / "stdin").read_bytes(), *given) for (crate, output), given in zip(crates.items(), words, strict=True)]
+    return compare("programs' stored answers", stored, wanted)
 
 
 def main():
