@@ -11,6 +11,9 @@ use crate::worths;
 use crate::worths::Worths;
 use text::lines;
 
+// Such a part of the largest end is too little to be seen.
+const UNSEEN: u64 = 100;
+
 // A fan is so many steps wide; of these the lower end's bar begins after one, the upper end's after five.
 pub const FAN: u64 = 10;
 
@@ -229,12 +232,38 @@ fn put_frame(fans: u64, line: u64, height: u64, out: &mut [u8], at: usize) -> us
     text::put(out, end, b"'/>")
 }
 
+// Is any of so many ends so far below 0?
+fn any_below(ends: [i64; FANS], far: u64) -> bool {
+    let mut i: usize = 0;
+    while i < FANS {
+        if is_below(ends[i], far) {
+            return true;
+        }
+        i += 1;
+    }
+    false
+}
+
+// Is an end so far below 0?
+fn is_below(end: i64, far: u64) -> bool {
+    if end >= 0 {
+        return false;
+    }
+    lines::absolute(end) > far
+}
+
+// Does any bar go down from the line, so far that it can be seen? The lower end does where the upper one does.
+fn goes_down(worths: Worths) -> bool {
+    let lower = worths.lower;
+    any_below(lower, worths::largest_of(worths) / UNSEEN)
+}
+
 // How far down the dots are: below all bars.
 fn dots_of(worths: Worths, line: u64) -> u64
     requires { ⌜ line ≤ mostLine ⌝ }
     ensures { λ r. ⌜ r ≤ 2 * mostLine + 10 ⌝ }
 {
-    if worths::goes_down(worths) {
+    if goes_down(worths) {
         return 2 * line + 10;
     }
     line + 10

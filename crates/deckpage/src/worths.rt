@@ -12,9 +12,6 @@ use text::lines;
 // The larger unit, which no worth is above.
 const UNIT: u64 = 1073741824;
 
-// Such a part of the largest end is too little to be seen.
-const UNSEEN: u64 = 100;
-
 // The two ends of each fan's worth, the first fan's at 0; a fan outside the stretch has none, and 0 stands there.
 pub struct Worths {
     pub lower: [i64; FANS],
@@ -81,30 +78,4 @@ pub fn largest_of(worths: Worths) -> u64
     let lower = worths.lower;
     let upper = worths.upper;
     shape::bounded(0, larger(largest_in(lower), largest_in(upper)), UNIT)
-}
-
-// Is any of so many ends so far below 0?
-fn any_below(ends: [i64; FANS], far: u64) -> bool {
-    let mut i: usize = 0;
-    while i < FANS {
-        if is_below(ends[i], far) {
-            return true;
-        }
-        i += 1;
-    }
-    false
-}
-
-// Is an end so far below 0?
-fn is_below(end: i64, far: u64) -> bool {
-    if end >= 0 {
-        return false;
-    }
-    lines::absolute(end) > far
-}
-
-// Does any bar go down from the line, so far that it can be seen? The lower end does where the upper one does.
-pub fn goes_down(worths: Worths) -> bool {
-    let lower = worths.lower;
-    any_below(lower, largest_of(worths) / UNSEEN)
 }

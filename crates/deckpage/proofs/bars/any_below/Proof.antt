@@ -1,10 +1,10 @@
--- `worths::any_below` is safe and ends: the measure is what is left to look at. Assumes nothing.
+-- `bars::any_below` is safe and ends: the measure is what is left to look at. Assumes nothing.
 use Prim.Native.Nat.{_-_, _≤_}
 use native.Mathlib.Omega.{arith}
 use borrow.Author.Needs.{needs}
 use Rattle.deckpage.specs.Page.{mostDrawn}
-use Rattle.deckpage.proofs.worths.any_below.Statement.{statement}
-use Rattle.deckpage.proofs.worths.any_below.Tie as tie
+use Rattle.deckpage.proofs.bars.any_below.Statement.{statement}
+use Rattle.deckpage.proofs.bars.any_below.Tie as tie
 
 abbrev Inv-loop : tie.InvT-loop
 Inv-loop far ends i₀ i = i ≤ mostDrawn
