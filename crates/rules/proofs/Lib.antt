@@ -48,3 +48,4 @@ pub mod Finer
 pub mod Doubles
 pub mod DoubleExamples
 pub mod Changes
+pub mod Limits
