@@ -5,7 +5,7 @@ ghost use Rattle.rules.specs.State.{S, unitOf};
 ghost use Rattle.units.specs.Step.{whole};
 ghost use Rattle.text.specs.Added.{Added};
 ghost use Rattle.systems.specs.Arrays.{answerAt};
-ghost use Rattle.systems.specs.Within.{WithinUnit};
+ghost use Rattle.rules.specs.Within.{WithinUnit};
 ghost use Rattle.printing.specs.Listable.{Listable};
 ghost use Rattle.printing.specs.Front.{WholePrinted};
 ghost use Rattle.decklist.specs.Lines.{endText, ratingText, lineText, linesText, headText, listText};

@@ -2,7 +2,7 @@
 ghost use Prim.Native.Nat.{_≤_};
 ghost use lib.ListN.{length};
 ghost use Rattle.rules.specs.State.{S};
-ghost use Rattle.systems.specs.Within.{WithinUnit};
+ghost use Rattle.rules.specs.Within.{WithinUnit};
 ghost use Rattle.deckpage.specs.Page.{Within, Drawable};
 use crate::advice;
 use crate::bars;

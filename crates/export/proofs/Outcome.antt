@@ -8,8 +8,8 @@ use Rattle.rules.specs.State.{S}
 use Rattle.rules.specs.Doubles.{exportOf}
 use Rattle.rules.proofs.Unless.{unless-by}
 use Rattle.doubles.proofs.Once.{over-once}
-use Rattle.systems.specs.Within.{WithinUnit}
-use Rattle.systems.proofs.Figures.{loading-within}
+use Rattle.rules.specs.Within.{WithinUnit}
+use Rattle.rules.proofs.Within.{loading-within}
 use Rattle.export.specs.declared.Ends.{Ends}
 use Rattle.export.specs.declared.Chance.{Chance}
 use Rattle.export.specs.declared.Chance.the-variants.{Range, Refused}

@@ -1,7 +1,7 @@
 // The figures that go out: low and high of a version 1 deck's system, each divided by 2^30, or the refusal.
 ghost use Prim.Native.Nat.{_≤_};
 ghost use Rattle.rules.specs.State.{S};
-ghost use Rattle.systems.specs.Within.{WithinUnit};
+ghost use Rattle.rules.specs.Within.{WithinUnit};
 ghost use Rattle.export.specs.Outcome.{Both, Tells, Exported};
 use rules::Rating;
 

@@ -16,7 +16,7 @@ use Rattle.rules.proofs.Tests.{by-test}
 use Rattle.packing.proofs.Packed.{packed-tells, planned-packable}
 use Rattle.doubles.specs.Floats.{Over}
 use Rattle.doubles.proofs.Once.{over-once}
-use Rattle.systems.specs.Within.{WithinUnit}
+use Rattle.rules.specs.Within.{WithinUnit}
 use Rattle.export.specs.declared.Chance.{Chance}
 use Rattle.export.specs.declared.Chance.the-variants as chance
 use Rattle.export.specs.Outcome.{Tells}

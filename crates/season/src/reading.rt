@@ -78,7 +78,7 @@ pub fn read_files(shown: bool) -> Season
                 failed: false,
             };
         }
-        totals = totals::plus_file(totals, &file[..filled]);
+        totals = season_files::plus_file(totals, &file[..filled]);
         files += 1;
         if totals.refused != 0 {
             return Season {

@@ -21,8 +21,8 @@ use Rattle.rules.proofs.Units.{unit-some, unit-most}
 use Rattle.rules.proofs.Tests.{by-test}
 use Rattle.rules.proofs.EachKind.{within-true}
 use Rattle.rules.proofs.Accepted.{figures-third}
-use Rattle.systems.specs.Within.{WithinUnit}
-use Rattle.systems.proofs.Figures.{figures-within}
+use Rattle.rules.specs.Within.{WithinUnit}
+use Rattle.rules.proofs.Within.{figures-within}
 use Rattle.totals.specs.declared.tally.Refusals.{Refusals}
 use Rattle.totals.specs.declared.tally.Lowest.{Lowest}
 use Rattle.totals.specs.declared.tally.Widths.{Widths}

@@ -1,14 +1,13 @@
-// The totals of a season: what each kind comes to over the decks read, one file added after another.
+// The totals of a season: what each kind comes to over the decks read, and one answer more.
 pub mod tally; // tally.rt: the totals of one kind
 
 ghost use mathlib.Core.Path.{_≡_};
 ghost use mathlib.Core.List.{[]};
 ghost use Prim.Native.Nat.{_≤_};
 ghost use Rattle.rules.specs.State.{S};
-ghost use Rattle.rules.specs.File.{countIn, fileRefusal};
 ghost use Rattle.totals.specs.Season.{totalsOf};
-ghost use Rattle.totals.specs.Plus.{systemPlus, systemsPlus, filePlus};
-ghost use Rattle.totals.specs.Room.{mostAnswers, answersBefore, Room, Open, Fair};
+ghost use Rattle.totals.specs.Plus.{systemPlus};
+ghost use Rattle.totals.specs.Room.{mostAnswers, Room, Fair};
 use rules::Rating;
 use tally::Tally;
 
@@ -40,7 +39,7 @@ pub fn none() -> Totals
 }
 
 // One answer more, of a system of the deck that was read last.
-fn plus_system(totals: Totals, system: u64, unit: u64, kind: u64, answer: Rating) -> Totals
+pub fn plus_system(totals: Totals, system: u64, unit: u64, kind: u64, answer: Rating) -> Totals
     requires room { ⌜ Room mostAnswers totals ⌝ }
     requires unit { ⌜ unit ≤ S ⌝ }
     requires fair { ⌜ Fair answer ⌝ }
@@ -66,49 +65,4 @@ fn plus_system(totals: Totals, system: u64, unit: u64, kind: u64, answer: Rating
         other: totals.other,
         kinds,
     }
-}
-
-// The answers of a deck's systems, each rated once.
-fn plus_systems(totals: Totals, file: &[u8]) -> Totals
-    requires accepted { ⌜ fileRefusal (now file) ≡ 0 ⌝ }
-    requires room { ⌜ Room answersBefore totals ⌝ }
-    ensures { λ r. ⌜ r ≡ systemsPlus totals (now (file .entry)) (countIn (now (file .entry))) ⌝ }
-{
-    let unit = units::whole(units::is_decimal(deck::version_in(file)));
-    let m = deck::count_in(file);
-    let mut sum = totals;
-    let mut s: usize = 0;
-    while s < m {
-        let system = deck::system_in(file, s);
-        let answer = systems::rate_in(file, s);
-        s += 1;
-        sum = plus_system(sum, s as u64, unit, system.rule.kind, answer);
-    }
-    sum
-}
-
-// One file more: a deck, or a refused one.
-pub fn plus_file(totals: Totals, file: &[u8]) -> Totals
-    requires { ⌜ Open totals ⌝ }
-    ensures { λ r. ⌜ r ≡ filePlus totals (now (file .entry)) ⌝ }
-{
-    let kinds = totals.kinds;
-    let refusal = deck::file_refusal(file);
-    if refusal != 0 {
-        return Totals {
-            decks: totals.decks,
-            refused: totals.refused + 1,
-            number: refusal,
-            other: totals.other,
-            kinds,
-        };
-    }
-    let more = Totals {
-        decks: totals.decks + 1,
-        refused: totals.refused,
-        number: totals.number,
-        other: totals.other,
-        kinds,
-    };
-    plus_systems(more, file)
 }

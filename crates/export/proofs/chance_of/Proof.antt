@@ -4,7 +4,7 @@ use borrow.Author.Needs.{needs}
 use Rattle.rules.specs.declared.Rating.{Rating}
 use Rattle.rules.specs.Doubles.{exportOf}
 use Rattle.rules.proofs.Unless.{unless-none, unless-some}
-use Rattle.systems.proofs.Figures.{loading-within}
+use Rattle.rules.proofs.Within.{loading-within}
 use Rattle.export.specs.Outcome.{Tells}
 use Rattle.export.proofs.chance_of.Statement.{statement}
 use Rattle.export.proofs.chance_of.Tie as tie

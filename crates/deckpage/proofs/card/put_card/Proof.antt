@@ -1,5 +1,5 @@
 -- `card::put_card` meets its contract: what is rated is within the unit. Assumes nothing.
-use Rattle.systems.proofs.Figures.{loading-within}
+use Rattle.rules.proofs.Within.{loading-within}
 use native.Mathlib.Omega.{arith}
 use borrow.Author.Needs.{needs}
 use Rattle.deckpage.proofs.card.put_card.Statement.{statement}

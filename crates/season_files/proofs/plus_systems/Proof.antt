@@ -7,12 +7,12 @@ use Rattle.rules.specs.State.{unitOf}
 use Rattle.rules.specs.File.{countIn}
 use Rattle.rules.proofs.Units.{unit-most}
 use Rattle.deck.proofs.Sound.{sound}
 use Rattle.totals.specs.Plus.{systemPlus, systemsPlus}
 use Rattle.totals.specs.Room.{mostAnswers, answersBefore}
 use Rattle.totals.proofs.Spare.{answer-fair, totals-more, systems-room}
 use borrow.Author.Needs.{needs}
-use Rattle.totals.proofs.plus_systems.Statement.{statement}
-use Rattle.totals.proofs.plus_systems.Tie as tie
+use Rattle.season_files.proofs.plus_systems.Statement.{statement}
+use Rattle.season_files.proofs.plus_systems.Tie as tie
 
 abbrev Inv-loop : tie.InvT-loop
 Inv-loop file unit m sum₀ s₀ sum s = (s ≤ m) × (sum ≡ systemsPlus sum₀ file s)

@@ -4,12 +4,12 @@ use native.Mathlib.Omega.{arith}
 use Prim.Native.Nat.{_*_}
 use Rattle.rules.specs.File.{mostSystems}
 use Rattle.rules.proofs.Unless.{unless-some, unless-none}
 use Rattle.totals.specs.Plus.{refusalPlus, filePlus}
 use Rattle.totals.specs.Room.{answersBefore}
 use Rattle.totals.proofs.Spare.{totals-more}
 use borrow.Author.Needs.{needs}
-use Rattle.totals.proofs.plus_file.Statement.{statement}
-use Rattle.totals.proofs.plus_file.Tie as tie
+use Rattle.season_files.proofs.plus_file.Statement.{statement}
+use Rattle.season_files.proofs.plus_file.Tie as tie
 
 file-refusal-requires : tie.Need-file-refusal-requires
 file-refusal-requires c κs = search needs
