@@ -34,6 +34,7 @@ pub mod Sets
 pub mod Boards
 pub mod Combining
 pub mod Accepted
+pub mod Within
 pub mod WithoutBoards
 pub mod Shorter
 pub mod Unread
@@ -49,3 +50,5 @@ pub mod Doubles
 pub mod DoubleExamples
 pub mod Changes
 pub mod Limits
+pub mod Alone
+pub mod Lent

@@ -10,9 +10,11 @@ pub mod Figure
 pub mod Boards
 pub mod Stretch
 pub mod Asked
+pub mod Alike
 pub mod Refusal
 pub mod Accepted
 pub mod Answer
+pub mod Within
 pub mod Worth
 pub mod Better
 pub mod File
