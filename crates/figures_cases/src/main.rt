@@ -1,80 +1,35 @@
 // Runs the cases of standard input and writes an answer and the checksum of the lent table a line. All of the input is words of 64 bits, lowest
-// byte first: the number of cases, then each case: the call (1 the worth of a fan, else the figures), the version, kind, first, second, a, b, the fan,
-// room, seed, the number of survival numbers, the survival numbers, the number of weights, the weights, how many numbers the further pairs have,
-// these, the number of board numbers, these, the number of boards, their survival numbers. A case that is cut short ends the run.
-mod size; // size.rt: how long a case is
-
+// byte first: the number of cases, then each case. A case that is cut short ends the run.
 ghost use Prim.Native.Nat.{_+_, _≤_};
 ghost use lib.ListN.{length};
 ghost use Rattle.io.specs.Counts.{Counts};
-ghost use Rattle.figures_cases.specs.Whole.{headWords, Whole};
+ghost use Rattle.figures_case.specs.Whole.{headWords, Whole};
 use casefile::MOST_NUMBERS;
 use casefile::cases;
 use casefile::tables;
 use casefile::words;
+use figures_case::A;
+use figures_case::B;
+use figures_case::CALL;
+use figures_case::FAN;
+use figures_case::HEAD;
+use figures_case::MOST_CELLS;
+use figures_case::OTHERS;
+use figures_case::PAIRED;
+use figures_case::PLACED;
+use figures_case::RULE;
+use figures_case::SEED;
+use figures_case::Sizes;
+use figures_case::VERSION;
+use figures_case::WEIGHED;
+use figures_case::line::Answer;
+use figures_case::line::put_line;
+use figures_case::size;
 use libc::STDIN_FILENO;
 use libc::STDOUT_FILENO;
-use rules::Rating;
-use rules::Worth;
-use text::lines;
-
-// Where a case has its call, version, rule, a, b, the fan, the cells of the table, the seed and the number of survival numbers.
-const CALL: usize = 0;
-
-const VERSION: usize = 1;
-
-const RULE: usize = 2;
-
-const A: usize = 5;
-
-const B: usize = 6;
-
-const FAN: usize = 7;
-
-const CELLS: usize = 8;
-
-const SEED: usize = 9;
-
-const FANS: usize = 10;
-
-// The words before the survival numbers; with the number of weights; with that of the further pairs' numbers; with that of the board numbers; and with
-// the number of boards, all of a case beside its lists.
-const HEAD: usize = 11;
-
-const WEIGHED: usize = 12;
-
-const PAIRED: usize = 13;
-
-const PLACED: usize = 14;
-
-const OTHERS: usize = 15;
 
 // The call for the worth of a fan.
 const WORTH: u64 = 1;
-
-// The cells of a table, at most.
-const MOST_CELLS: usize = 8000;
-
-// The bytes that the two ends of a worth take with their names, at most.
-const ENDS: usize = 55;
-
-// How many survival numbers, weights, numbers of further pairs, board numbers, boards, words and cells a case has, and whether it is whole.
-pub struct Sizes {
-    pub fans: usize,
-    pub weights: usize,
-    pub more: usize,
-    pub boards: usize,
-    pub switchboards: usize,
-    pub long: usize,
-    pub room: usize,
-    pub whole: bool,
-}
-
-// What a call answers.
-enum Answer {
-    Rated(Rating),
-    Weighed(Worth),
-}
 
 // The answer that the case at `at` asks of its lists.
 fn asked(
@@ -152,63 +107,6 @@ fn answered(bytes: &[u8], at: usize, s: Sizes, table: &mut [u64]) -> Answer
         &switchboards[..g],
         table,
     )
-}
-
-// Puts a rating into the buffer and answers where it ends.
-fn put_rating(rating: Rating, out: &mut [u8], at: usize) -> usize
-    requires { ⌜ at ≤ length (now out) ⌝ }
-    ensures { λ r. ⌜ r ≤ length (now (out .exit)) ⌝ }
-{
-    match rating {
-        Rating::Range { low, high } => {
-            let end = text::put_named(b"low ", low, out, at);
-            text::put_named(b" high ", high, out, end)
-        }
-        Rating::Refused(number) => text::put_named(b"refused ", number, out, at),
-    }
-}
-
-// Puts a worth's two ends, likewise; nothing where there is no room.
-fn put_ends(lower: i64, upper: i64, out: &mut [u8], at: usize) -> usize
-    requires { ⌜ at ≤ length (now out) ⌝ }
-    ensures { λ r. ⌜ r ≤ length (now (out .exit)) ⌝ }
-{
-    if out.len() - at < ENDS {
-        return at;
-    }
-    lines::put_signed_pair(b"lower ", lower, b" upper ", upper, out, at)
-}
-
-// Puts a worth, likewise.
-fn put_worth(worth: Worth, out: &mut [u8], at: usize) -> usize
-    requires { ⌜ at ≤ length (now out) ⌝ }
-    ensures { λ r. ⌜ r ≤ length (now (out .exit)) ⌝ }
-{
-    match worth {
-        Worth::Ends { lower, upper } => put_ends(lower, upper, out, at),
-        Worth::Refused(number) => text::put_named(b"refused ", number, out, at),
-    }
-}
-
-// Puts an answer, likewise.
-fn put_answer(answer: Answer, out: &mut [u8], at: usize) -> usize
-    requires { ⌜ at ≤ length (now out) ⌝ }
-    ensures { λ r. ⌜ r ≤ length (now (out .exit)) ⌝ }
-{
-    match answer {
-        Answer::Rated(rating) => put_rating(rating, out, at),
-        Answer::Weighed(worth) => put_worth(worth, out, at),
-    }
-}
-
-// Puts a case's line, likewise.
-fn put_line(answer: Answer, cells: u64, out: &mut [u8], at: usize) -> usize
-    requires { ⌜ at ≤ length (now out) ⌝ }
-    ensures { λ r. ⌜ r ≤ length (now (out .exit)) ⌝ }
-{
-    let answered = put_answer(answer, out, at);
-    let end = text::put_named(b" cells ", cells, out, answered);
-    text::put(out, end, b"\n")
 }
 
 // Runs one case over a table that it fills with rubbish, and puts its line.

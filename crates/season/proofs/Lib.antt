@@ -1,5 +1,4 @@
--- The laws of the report and of the files that are read.
-mod Lengths
+-- The laws of the files that are read.
 mod Parts
 mod Ongoing
 mod Streams

@@ -13,7 +13,7 @@ use Rattle.totals.specs.Season.{totalsOf}
 use Rattle.totals.specs.Plus.{oneIf}
 use Rattle.totals.specs.Stream.{filesOf, isWaiting}
 use Rattle.totals.proofs.Streams.{filesPlus, stream-totals}
-use Rattle.season.specs.Lines.{reportText, seasonText}
+use Rattle.season_report.specs.Lines.{reportText, seasonText}
 use Rattle.season.specs.Reading.{Taken}
 
 -- fewer than they ask for are there only where the stream ends

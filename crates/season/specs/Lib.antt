@@ -1,3 +1,2 @@
--- What season prints, and what it reads.
-pub mod Lines
+-- What season reads.
 pub mod Reading

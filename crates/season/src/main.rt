@@ -1,7 +1,6 @@
 // Prints the totals of the deck files on standard input, one after another.
 
 mod reading; // reading.rt: the files, and their totals
-mod report; // report.rt: the lines
 
 use libc::STDERR_FILENO;
 use libc::STDOUT_FILENO;
@@ -30,9 +29,9 @@ fn report_input() {
     let Input::Filled(more) = reading::read_waiting(season.files) else {
         return;
     };
-    let mut out = [0u8; report::OUTPUT];
+    let mut out = [0u8; season_report::OUTPUT];
     let totals = season.totals;
-    let end = report::put_report(totals, more as u64, &mut out);
+    let end = season_report::put_report(totals, more as u64, &mut out);
     write_text(&out[..end])
 }
 

@@ -1,0 +1,38 @@
+-- `report::put_kind` meets its contract: line after line. Assumes nothing.
+use native.Mathlib.Omega.{arith}
+use Rattle.text.proofs.Adding.{added-more}
+use Rattle.season_report.proofs.Lengths.{reach, answers-short, lowest-short}
+use Rattle.season_report.specs.Lines.{answersRoom, lowestRoom}
+use borrow.Author.Needs.{needs}
+use Rattle.season_report.proofs.put_kind.Statement.{statement}
+use Rattle.season_report.proofs.put_kind.Tie as tie
+
+put-answers-requires : tie.Need-put-answers-requires
+put-answers-requires c κs = search needs
+
+put-lowest-requires : tie.Need-put-lowest-requires
+put-lowest-requires c κs =
+    let start = c .before .before .before .before .before .before .before .before .before in
+    let answers = c .before .before .before .put-answers in
+    omega (arith, start .pre, answers .kept, reach answersRoom (answers-short _ _ _) (answers .ensures))
+
+put-widths-requires : tie.Need-put-widths-requires
+put-widths-requires c κs =
+    let start = c .before .before .before .before .before .before .before .before .before .before .before .before .before in
+    let answers = c .before .before .before .before .before .before .before .put-answers in
+    let lowest = c .before .before .before .put-lowest in
+    let first = reach answersRoom (answers-short _ _ _) (answers .ensures) in
+    let second = reach lowestRoom (lowest-short _ _) (lowest .ensures) in
+    omega (arith, start .pre, answers .kept, lowest .kept, first, second)
+
+same-length : tie.Need-same-length
+same-length c = search needs
+
+returns : tie.Need-returns
+returns c =
+    added-more (added-more (c .before .before .before .before .before .before .before .before .before .before .put-answers .ensures) (c .before .before .before .before .before .before .put-lowest .ensures)) (c .before .before .put-widths .ensures)
+
+pub put-kind-spec : {M : Type 1} → statement M
+put-kind-spec =
+    tie.close
+    (tie.spec put-answers-requires put-lowest-requires put-widths-requires same-length returns)

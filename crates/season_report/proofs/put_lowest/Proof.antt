@@ -1,0 +1,62 @@
+-- `report::put_lowest` meets its contract: number after number. Assumes nothing.
+use native.Mathlib.Omega.{arith}
+use Rattle.text.specs.Decimal.{text}
+use Rattle.text.proofs.Adding.{pair-reach, added-more}
+use borrow.Author.Needs.{needs}
+use Rattle.season_report.proofs.put_lowest.Statement.{statement}
+use Rattle.season_report.proofs.put_lowest.Tie as tie
+
+slice-aggregate-put-pair : tie.Need-slice-aggregate-put-pair
+slice-aggregate-put-pair c = search needs
+
+slice-aggregate-put-pair-2 : tie.Need-slice-aggregate-put-pair-2
+slice-aggregate-put-pair-2 c = search needs
+
+put-pair-requires : tie.Need-put-pair-requires
+put-pair-requires c κs = search needs
+
+slice-aggregate-put-pair-3 : tie.Need-slice-aggregate-put-pair-3
+slice-aggregate-put-pair-3 c = search needs
+
+slice-aggregate-put-pair-4 : tie.Need-slice-aggregate-put-pair-4
+slice-aggregate-put-pair-4 c = search needs
+
+put-pair-requires-2 : tie.Need-put-pair-requires-2
+put-pair-requires-2 c κs =
+    let start = c .before .before .before .before .before .before .before .before .before .before in
+    let pair = c .before .before .before .before .before .put-pair in
+    omega (arith, start .pre, pair .kept, pair-reach (text "kind ") _ (text " lowest ") _ (pair .ensures))
+
+slice-aggregate-put-one : tie.Need-slice-aggregate-put-one
+slice-aggregate-put-one c = search needs
+
+put-one-requires : tie.Need-put-one-requires
+put-one-requires c κs =
+    let start = c .before .before .before .before .before .before .before .before .before .before .before .before .before .before .before in
+    let pair = c .before .before .before .before .before .before .before .before .before .before .put-pair in
+    let next = c .before .before .before .before .put-pair2 in
+    let first = pair-reach (text "kind ") _ (text " lowest ") _ (pair .ensures) in
+    let second = pair-reach (text " unit ") _ (text " deck ") _ (next .ensures) in
+    omega (arith, start .pre, pair .kept, next .kept, first, second)
+
+same-length : tie.Need-same-length
+same-length c = search needs
+
+returns : tie.Need-returns
+returns c =
+    added-more (added-more (c .before .before .before .before .before .before .before .before .before .before .before .before .before .put-pair .ensures) (c .before .before .before .before .before .before .before .put-pair2 .ensures)) (c .before .before .put-one .ensures)
+
+pub put-lowest-spec : {M : Type 1} → statement M
+put-lowest-spec =
+    tie.close
+    (tie.spec
+    slice-aggregate-put-pair
+    slice-aggregate-put-pair-2
+    put-pair-requires
+    slice-aggregate-put-pair-3
+    slice-aggregate-put-pair-4
+    put-pair-requires-2
+    slice-aggregate-put-one
+    put-one-requires
+    same-length
+    returns)

@@ -1,0 +1,2 @@
+-- What the season report says.
+pub mod Lines
