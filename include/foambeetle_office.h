@@ -33,11 +33,11 @@ extern "C" {
  * `version` is the file's, 1 to 3, and says what the survival numbers are parts of: 2^30 in version 1, 1,000,000,000 in
  * versions 2 and 3. `w` and `s` are how many numbers `weights` and `systems` have: n, and five for each system, its kind,
  * first, second, and the first and last fan of its stretch. In version 3 `boards` has `b` numbers, n of them, each fan's
- * board, 0 for none, and `board_survival` the survival numbers of the `g` boards; versions 1 and 2 read neither list nor
+ * board, 0 for none, and `switchboards` the survival numbers of the `g` boards; versions 1 and 2 read neither list nor
  * its length. No pointer is null, also where its list is empty, and the room overlaps no list. The answer is the file's
  * length, or, for a refusal, (2^32 - 1) times 2^32 plus its number; then nothing is written. */
 uint64_t foambeetle_write(uint64_t version, const uint32_t *survival, size_t n, const uint16_t *weights, size_t w,
-                          const uint8_t *boards, size_t b, const uint32_t *board_survival, size_t g,
+                          const uint8_t *boards, size_t b, const uint32_t *switchboards, size_t g,
                           const uint16_t *systems, size_t s, uint8_t *room, size_t length);
 
 /* 10  file under 20 bytes

@@ -25,6 +25,7 @@ others=(
     "the programs' words, percents and failures: python3 tests/program.py"
     "the walk through a deck is true as printed: python3 tests/walk.py"
     "the libraries link every way, and export their calls alone: python3 tests/library.py"
+    "the headers declare the C calls as they are defined: python3 tests/signatures.py"
     "what is installed runs, and goes again: python3 tests/install.py"
     "one version everywhere: python3 tests/version.py"
     "the list of proofs names what there is: python3 tests/names.py"

@@ -1,6 +1,7 @@
-"""What the tests share: the project's folder, its programs and C samples, running a command, building by make, and the C compiler for x86-64."""
+"""What the tests share: the project's folder, its programs and C samples, running a command, building by make, the C compiler for x86-64, a header's calls."""
 
 import os
+import re
 import subprocess
 import sys
 from concurrent.futures import ThreadPoolExecutor
@@ -106,6 +107,13 @@ def linked(program):
     file = root / f"target/programs/{program}"
     make(file.relative_to(root))
     return [*tools()[1], file]
+
+
+def prototypes(header):
+    """The functions that a header's text declares and does not define: the type of the answer, and the parameters in their order."""
+    text = re.sub(r"/\*.*?\*/", "", header, flags=re.S).replace('extern "C" {', "")
+    found = re.findall(r"(\w+) (foambeetle_\w+)\(([^()]*)\);", re.sub(r"\{[^{}]*\}", "", text))
+    return {name: (answer, [" ".join(one.split()) for one in parameters.split(",")]) for answer, name, parameters in found}
 
 
 def mapped(function, inputs):

@@ -6,13 +6,13 @@ Where the machine is not x86-64 the programs run under the emulator; what cannot
 
 import ctypes
 import platform
-import re
 import shutil
 import sys
 from pathlib import Path
 
 from common import (
-    LIBRARIES, OFFICE, SAMPLES, SHIP, WRITER, build, compare, compare_example, compare_samples, decks, make, root, run, sample, static, tools,
+    LIBRARIES, OFFICE, SAMPLES, SHIP, WRITER, build, compare, compare_example, compare_samples, decks, make, prototypes, root, run, sample, static,
+    tools,
 )
 
 from foambeetle import NO_BOARDS, UNITS, Boards, Refusal, rate, read_deck, system_numbers, unit_of_file, worth_of_file, write_deck
@@ -31,12 +31,6 @@ def shared(library):
     return LIBRARY / f"lib{library}.so"
 
 
-def header_calls(library):
-    """The functions that the header declares and does not define."""
-    text = re.sub(r"/\*.*?\*/", "", (LIBRARY / f"{library}.h").read_text(), flags=re.S).replace('extern "C" {', "")
-    return set(re.findall(r"\b(foambeetle_\w+)\([^()]*\);", re.sub(r"\{[^{}]*\}", "", text)))
-
-
 def symbols(*words):
     """The names that nm lists."""
     nm = run([tools()[0], "-print-prog-name=nm"]).decode().strip()
@@ -48,7 +42,7 @@ def names(library):
     """What the archive and the shared library export and need, against the header."""
     exported = [symbols("--extern-only", "--defined-only", archive(library)), symbols("--dynamic", "--extern-only", "--defined-only", shared(library))]
     needed = [symbols("--undefined-only", archive(library)), symbols("--dynamic", "--undefined-only", shared(library))]
-    calls = header_calls(library)
+    calls = set(prototypes((LIBRARY / f"{library}.h").read_text()))
     print(f"{library}: exported {exported}, needed {needed}, the header's calls {calls}")
     return all(found == calls for found in exported) and all(found <= NEEDED for found in needed)
 
