@@ -5,13 +5,13 @@ from typing import NamedTuple
 
 import published
 from foambeetle import (
-    MOST_WEIGHT, PAIRS_KIND, SEVEN_KINDS, TABLE_CELLS, Refusal, Rule, count_slots_after, count_table, working_table_after,
+    MOST_WEIGHT, PAIRS_KIND, SEVEN_KINDS, TABLE_CELLS, Refusal, Rule, count_slots_after, count_table,
 )
 from samples import (
     all_rules, edge_rules, random_rule, random_weights, short_lines, spoil_rule, unread_weights, weights_for,
     weights_of_total, wrong_rules,
 )
-from words import checksum, rubbish
+from words import checksum, checksum_after, rubbish
 
 ANSWERS_WANTED = {"counts"} | {f"refused {number}" for number in (1, 2, 5, 6, 7, 8, 15)}
 SEEDS = (0, 1, 2, 2 ** 32, 2 ** 63, 2 ** 64 - 1, 88172645463325252)
@@ -31,12 +31,10 @@ class Case(NamedTuple):
 
     def line(self):
         answer = count_table(self.rule, self.n, self.weights, self.room, self.slots)
-        table, slots = rubbish(self.seed, self.room, self.slots)
-        table, slots = working_table_after(table, answer), count_slots_after(slots, answer)
-        sums = f"cells {checksum(table)} {checksum(slots)}"
-        if isinstance(answer, Refusal):
-            return f"refused {answer.number} {sums}"
-        return f"counts {' '.join(map(str, answer))} {sums}"
+        refused = isinstance(answer, Refusal)
+        _, slots = rubbish(self.seed, self.room, self.slots)
+        sums = f"cells {checksum_after(self.seed, self.room, not refused)} {checksum(count_slots_after(slots, answer))}"
+        return f"refused {answer.number} {sums}" if refused else f"counts {' '.join(map(str, answer))} {sums}"
 
 
 def published_cases():

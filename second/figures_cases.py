@@ -11,14 +11,14 @@ from typing import NamedTuple
 import published
 from foambeetle import (
     KINDS, LONGEST_WINDOW, MOST_BOARDS, MOST_PAIRS, MOST_WEIGHT, NO_BOARDS, PAIRS_KIND, SEVEN_KINDS, TABLE_CELLS, UNIT, UNITS, Boards, Refusal, Rule,
-    figures, working_table_after,
+    figures,
 )
 from samples import (
     BINARY, BOARDED, DECIMAL, EDGE_SURVIVALS, HUGE, NO_VERSIONS, OVER_UNIT, WITHOUT_BOARDS, all_rules, edge_rules, edges, far_too_many_pairs, over,
     random_boards, random_pairs, random_rule, random_stretch, random_survivals, random_weights, rule_for, rules_in_range, same_chances, short_lines,
     two_windows, unread_boards, unread_more, unread_weights, weights_for, weights_of_total, wrong_further_pairs, wrong_numbers_of_pairs, wrong_rules,
 )
-from words import checksum, rubbish
+from words import checksum_after
 
 FIGURES = 0  # the word `call`
 ANSWERS_WANTED = {"low"} | {f"refused {number}" for number in (*range(1, 8), 11, 20, 21)}
@@ -46,11 +46,9 @@ class Case(NamedTuple):
 
     def line_of(self, answer, first, second):
         """The line of an answer whose two ends have these names."""
-        table, = rubbish(self.seed, self.room)
-        cells = f"cells {checksum(working_table_after(table, answer))}"
-        if isinstance(answer, Refusal):
-            return f"refused {answer.number} {cells}"
-        return f"{first} {answer[0]} {second} {answer[1]} {cells}"
+        refused = isinstance(answer, Refusal)
+        cells = f"cells {checksum_after(self.seed, self.room, not refused)}"
+        return f"refused {answer.number} {cells}" if refused else f"{first} {answer[0]} {second} {answer[1]} {cells}"
 
     def line(self):
         return self.line_of(self.answer(), "low", "high")

@@ -31,6 +31,7 @@ LONGEST_WINDOW = 10  # document 02, request 05: "1 <= k <= r <= 10"
 MOST_PAIRS = 4  # document 02, request 05: "one to four pairs (k, r)"
 WORKS = "works"
 DEAD = "dead"
+ASKED_AGAIN = 1024  # how many answers are kept of what is asked again and again
 
 
 class Rule(NamedTuple):
@@ -340,16 +341,18 @@ def with_failed(failed, survivals, of_fans):
     return tuple(0 if place in lost else survival for place, survival in enumerate(survivals))
 
 
+@lru_cache(maxsize=ASKED_AGAIN)
+def figure(rule, survivals, weights, unit):
+    """Low and high, worked out once: the sets of failed boards, the fans of a worth and the systems of a file ask for the same lists again."""
+    return low_and_high(rule, survivals, weights, unit)
+
+
 def low_and_high_behind(rule, survivals, weights, boards, unit=UNIT):
     """Low and high of fans behind boards; without boards those of the fans alone."""
-    @lru_cache(maxsize=None)
-    def figure(numbers):
-        return low_and_high(rule, numbers, weights, unit)
-
     def combined(board, failed):
         # document 02, request 11: "Then the boards are combined by the same rounded step, one rounding each, board 1 last"
         if board > len(boards.survivals):
-            return figure(with_failed(failed, survivals, boards.of_fans))
+            return figure(rule, with_failed(failed, survivals, boards.of_fans), tuple(weights), unit)
         after_working, after_failed = combined(board + 1, failed), combined(board + 1, failed | {board})
         return rounded_step(boards.survivals[board - 1], after_working, after_failed, unit)
 
@@ -668,11 +671,9 @@ def worth(rule, a, b, fan, survivals, weights, room=TABLE_CELLS, version=1, boar
     return lower_and_upper(rule, fan - a + 1, survivals[a - 1:b], weights[a - 1:b], UNITS[version], rated_boards(version, boards, a, b))
 
 
-def working_table_after(cells, answer):
-    # document 01, 'Refusal numbers': "the first 7,800 cells of the working table are 0"
-    if isinstance(answer, Refusal):
-        return cells
-    return [0] * TABLE_CELLS + cells[TABLE_CELLS:]
+def working_table_after(cells, accepted):
+    # document 01, 'Refusal numbers': "After an accepted call the first 7,800 cells of the working table are 0"
+    return [0] * TABLE_CELLS + cells[TABLE_CELLS:] if accepted else cells
 
 
 def count_slots_after(slots, answer):
@@ -687,7 +688,7 @@ def count_slots_after(slots, answer):
 
 def number_at(data, at, size):
     # document 01, 'Deck file and printing': "Little-endian"
-    return sum(data[at + place] << 8 * place for place in range(size))
+    return int.from_bytes(data[at:at + size], "little")
 
 
 class Layout(NamedTuple):
@@ -758,6 +759,7 @@ def system_at(data, at):
     return System(Rule(kind, first, second), a, b)
 
 
+@lru_cache(maxsize=ASKED_AGAIN)
 def read_deck(data):
     # document 01, 'Deck file and printing': "Then P (4 bytes each), weights (2 each), systems"
     number = file_refusal(data)

@@ -742,8 +742,8 @@ def lent_tables():
     yield words.checksum([5, 7, 2 ** 64 - 1]), 16
     yield words.pack([1, 2 ** 63]), bytes.fromhex("0100000000000000" + "0000000000000080")
     cells = list(range(1, TABLE_CELLS + 3))
-    yield working_table_after(cells, (0, 1)), [0] * TABLE_CELLS + [TABLE_CELLS + 1, TABLE_CELLS + 2]
-    yield working_table_after(cells, Refusal(7)), cells
+    yield working_table_after(cells, True), [0] * TABLE_CELLS + [TABLE_CELLS + 1, TABLE_CELLS + 2]
+    yield working_table_after(cells, False), cells
     yield count_slots_after([7, 8, 9, 10], [1, 2, 0]), [1, 2, 0, 10]
     yield count_slots_after([7, 8], Refusal(8)), [7, 8]
 

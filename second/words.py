@@ -3,6 +3,8 @@
 from functools import lru_cache
 from operator import mul
 
+from foambeetle import working_table_after
+
 WORD = 2 ** 64
 FACTOR = 6364136223846793005
 ADDEND = 1442695040888963407
@@ -35,3 +37,10 @@ def rubbish(seed, *counts):
 def checksum(cells):
     """The sum of (i + 1) * cell i, modulo 2^64."""
     return sum(map(mul, range(1, len(cells) + 1), cells)) % WORD
+
+
+@lru_cache(maxsize=None)
+def checksum_after(seed, room, accepted):
+    """That of a working table after a call; there are few seeds and lengths of it."""
+    table, = rubbish(seed, room)
+    return checksum(working_table_after(table, accepted))
