@@ -4,9 +4,7 @@ import random
 from typing import NamedTuple
 
 import published
-from foambeetle import (
-    MOST_WEIGHT, PAIRS_KIND, SEVEN_KINDS, TABLE_CELLS, Refusal, Rule, count_slots_after, count_table,
-)
+from foambeetle import MOST_WEIGHT, PAIRS_KIND, SEVEN_KINDS, TABLE_CELLS, Refusal, Rule, count_slots_after, count_table
 from samples import (
     all_rules, edge_rules, random_rule, random_weights, short_lines, spoil_rule, unread_weights, weights_for,
     weights_of_total, wrong_rules,

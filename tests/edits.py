@@ -1,9 +1,11 @@
-"""Each must-fail edit was refused because a fact no longer holds, and not because the proof files no longer fit the code's shape.
+"""Each must-fail edit was refused because a fact no longer holds, and not because the proof files no longer fit the code's shape; and all of them together
+are no more, and took no longer, than docs/PROOFS.md allows.
 
     edits.py [TARGET]
 
 Reads the logs that rt ci leaves below TARGET (target/ otherwise), must-fail/NAME/LABEL/.log, and prints a line for each edit: fact or shape, and
-the first thing that was refused. An edit shows something where it keeps the code's operations and changes an operand.
+the first thing that was refused. An edit shows something where it keeps the code's operations and changes an operand. What rt said of the edit,
+must-fail/NAME/LABEL.out, ends in the seconds that it took, and they are printed by crate.
 """
 
 import re
@@ -14,6 +16,11 @@ from typing import NamedTuple
 from common import root
 
 SHOWN = 150  # characters of a refusal
+TOOK = re.compile(r"(\d+) s\)$", re.M)
+# What docs/PROOFS.md allows, in its section of that name.
+ALLOWED = "Time of the check"
+MOST_SECONDS = re.compile(r"The must-fail edits may take at most ([\d,]+)\s+seconds in all, added up\.")
+MOST_EDITS = re.compile(r"There are at most ([\d,]+) of them\.")
 
 # A refusal in a proof file or a specification, which names the declaration unless the file could not be read; and one in a proof that rattle made.
 ERROR = re.compile(r"(?P<place>\S+:\d+):\d+: error: (`(?P<name>[^`]*)`: )?(?P<text>.*)")
@@ -111,6 +118,44 @@ def judged(edit, target):
     return (False, f"shape {name}: {why}; first {first}") if why else (True, f"fact  {name}: {first}")
 
 
+def seconds_of(edit, target):
+    """How long rt tried an edit; 0 where it did not."""
+    said = target / "must-fail" / edit.parent.parent.name / f"{edit.stem}.out"
+    found = TOOK.findall(said.read_text(errors="replace")) if said.exists() else []
+    return int(found[-1]) if found else 0
+
+
+def by_crate(edits, target):
+    """The number of edits of each crate, and their seconds, as many at a time as rt tries."""
+    table = {}
+    for edit in edits:
+        count, seconds = table.get(edit.parent.parent.name, (0, 0))
+        table[edit.parent.parent.name] = count + 1, seconds + seconds_of(edit, target)
+    return table
+
+
+def allowed(proofs, sentence):
+    """The number that a sentence of docs/PROOFS.md allows; None where it has no such sentence."""
+    section = proofs.read_text().partition(f"\n## {ALLOWED}\n")[2].partition("\n## ")[0]
+    found = sentence.search(section)
+    return int(found[1].replace(",", "")) if found else None
+
+
+def within(table, proofs):
+    """Are the edits as few and as quick as is allowed? Prints the table, and what is not."""
+    print(f"{'crate':16}{'edits':>8}{'seconds':>8}")
+    total = tuple(map(sum, zip(*table.values())))
+    for crate, numbers in (*table.items(), ("in all", total)):
+        print(f"{crate:16}{numbers[0]:8}{numbers[1]:8}")
+    good = True
+    for what, found, sentence in zip(("edits", "seconds"), total, (MOST_EDITS, MOST_SECONDS)):
+        most = allowed(proofs, sentence)
+        if most is None or found > most:
+            print(f"{found} {what} in all, and docs/PROOFS.md allows {'no number that could be read' if most is None else most}")
+            good = False
+    return good
+
+
 def main(arguments):
     target = Path(arguments[0]).resolve() if arguments else root / "target"
     edits = sorted((target.parent / "crates").glob("*/must-fail/*.edit"))
@@ -118,8 +163,9 @@ def main(arguments):
     for _, line in lines:
         print(line)
     bad = sum(not good for good, _ in lines)
+    good = bool(edits) and within(by_crate(edits, target), target.parent / "docs/PROOFS.md")
     print(f"{len(edits)} must-fail edits, {bad} refused for their shape")
-    return 1 if bad or not edits else 0
+    return 0 if good and not bad else 1
 
 
 if __name__ == "__main__":

@@ -1,10 +1,10 @@
 #!/usr/bin/env python3
-"""Runs a command, keeps all that it says in a log, and shows how far it is.
+"""Runs rt, keeps all that it says in a log, and shows how far it is.
 
-    progress.py LOG rt WORDS..           a line for each crate proved, must-fail edit refused and program run, of how many
-    progress.py LOG WHICH NAME WORDS..   any other test: one line when it has passed, all that it said when it has not
+    progress.py LOG rt WORDS..
 
-WHICH is the test's place among the tests, as "3 of 8". While nothing ends, a line every half minute says what is being worked on.
+A line for each crate proved, must-fail edit refused and program run, of how many; while nothing ends, one every half minute says what is being worked on. The log's
+last line says how long each of these took. tests/others.py shows the other tests in the same way.
 """
 
 import queue
@@ -28,6 +28,9 @@ PASSED = (
     ("proved", re.compile(r"rt: target/staticlib/lib(\w+)\.a has the functions of ")),
 )
 TALLY = re.compile(r"\d+ passed, \d+ failed$")
+# What rt ci goes through, one after the other, by the word that is shown; and how the log's line of their times begins.
+PARTS = {"proved": "proofs", "refused": "must-fail edits", "ran": "programs"}
+TOOK = "took: "
 
 
 def house():
@@ -60,13 +63,13 @@ class RtLines:
     """What is shown of rt's lines."""
 
     def __init__(self, words):
-        self.words, self.total, self.count, self.errors = words, totals(words), {}, 0
+        self.total, self.count, self.errors, self.last = totals(words), {}, 0, {}
 
     def show(self, line):
         for word, pattern in PASSED:
             found = pattern.match(line)
             if found:
-                self.count[word] = self.count.get(word, 0) + 1
+                self.count[word], self.last[word] = self.count.get(word, 0) + 1, time.time()
                 took = next((part for part in found.groups()[1:] if part), None)
                 return f"{word} {self.count[word]} of {self.total[word]}: {found[1]}" + (f" ({took})" if took else "")
         if ": error" in line and "was not admitted (" not in line and self.errors < MOST_ERRORS:
@@ -79,33 +82,12 @@ class RtLines:
         # the last line of the gate's log is to be the only one of its form
         return f"rt {line}" if TALLY.match(line) else line
 
-    @staticmethod
-    def ended(status, log, seconds):
-        if status:
-            print(f"NOT PASSED: the prover's text is in {log.relative_to(ROOT)}")
-
-
-class TestLines:
-    """What is shown of another test's lines: what was skipped, and everything once it has failed."""
-
-    def __init__(self, which, name):
-        self.which, self.name, self.said = which, name, []
-
-    def show(self, line):
-        self.said.append(line)
-        return line if line.startswith("skipped") else None
-
-    @staticmethod
-    def logged(line):
-        return line
-
-    def ended(self, status, log, seconds):
-        end = f"passed {self.which}: {self.name} ({seconds:.0f} s)"
-        if status:
-            print(*self.said, sep="\n")
-            end = f"FAILED {self.which}: {self.name}"
-        print(end)
-        keep(log, end)
+    def took(self, began):
+        """How long each part took, from the last line of the part before it to its own last one."""
+        ends = [began]
+        for word in PARTS:
+            ends.append(self.last.get(word, ends[-1]))
+        return TOOK + ", ".join(f"{name} {end - start:.0f} s" for name, start, end in zip(PARTS.values(), ends, ends[1:]))
 
 
 def at_work(began):
@@ -116,8 +98,7 @@ def at_work(began):
             for file in begun if file.stat().st_size == 0 and file.stat().st_mtime >= began - 1]
 
 
-def still(lines, began):
-    names = at_work(began) if isinstance(lines, RtLines) else [lines.name]
+def still(names, began):
     return f"  at work for {time.time() - began:.0f} s" + (f": {', '.join(sorted(names))}" if names else "")
 
 
@@ -129,7 +110,7 @@ def keep(log, line):
 
 
 def follow(words, lines, log):
-    """Runs the command to its end; its exit status."""
+    """Runs rt to its end; its exit status."""
     began, said = time.time(), queue.Queue()
     command = subprocess.Popen(words, cwd=ROOT, stdout=subprocess.PIPE, stderr=subprocess.STDOUT, text=True, errors="replace")
 
@@ -149,24 +130,22 @@ def follow(words, lines, log):
             keep(log, lines.logged(line))
             shown = lines.show(line)
         except queue.Empty:
-            shown = still(lines, began)
+            shown = still(at_work(began), began)
         if shown is not None:
             print(shown, flush=True)
             quiet_since = time.time()
     status = command.wait()
-    lines.ended(status, log, time.time() - began)
+    keep(log, lines.took(began))
+    if status:
+        print(f"NOT PASSED: the prover's text is in {log.relative_to(ROOT)}")
     return status
 
 
 def main(arguments):
-    log = ROOT / arguments[0]
-    if arguments[1] == "rt":
-        words, lines = arguments[1:], RtLines(arguments[2:])
-        log.unlink(missing_ok=True)
-    else:
-        words, lines = arguments[3:], TestLines(arguments[1], arguments[2])
+    log, words = ROOT / arguments[0], arguments[1:]
+    log.unlink(missing_ok=True)
     try:
-        return follow(words, lines, log)
+        return follow(words, RtLines(words[1:]), log)
     except FileNotFoundError:
         print(f"{words[0]} is not on the path (README.md says what is wanted)")
         return 2

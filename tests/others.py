@@ -1,0 +1,126 @@
+#!/usr/bin/env python3
+"""The gate's other tests, as many at a time as there are processors (RT_JOBS, if set), those that take longest first.
+
+    others.py LOG [WORD..]    all of them, or those whose command has one of the words
+
+What they start is built before, so that no two of them build in one folder. A test has one line when it has passed; when it has failed all that it said stands
+before that line. While none ends, a line every half minute says what is being worked on. LOG gets all that each said, one test after the other. The last line is
+how long each part of the gate took. The exit status is how many failed.
+"""
+
+import os
+import re
+import subprocess
+import sys
+import time
+from concurrent.futures import FIRST_COMPLETED, ThreadPoolExecutor, wait
+from typing import NamedTuple
+
+from common import EVERY_PROGRAM
+from progress import QUIET, ROOT, TOOK, keep, still
+
+JOBS = int(os.environ.get("RT_JOBS") or os.cpu_count() or 1)
+
+
+class Test(NamedTuple):
+    name: str
+    command: str
+
+
+class Ended(NamedTuple):
+    """A test that has come to its end: its exit status, its lines, and how long it took."""
+
+    test: Test
+    status: int
+    said: list
+    seconds: float
+
+
+BUILD = Test("what the other tests start is built", " ".join(("make --no-print-directory lib", *(f"target/programs/{program}" for program in EVERY_PROGRAM))))
+TESTS = tuple(Test(*line) for line in (
+    ("the library's calls and the programs against the second program", "python3 tests/run.py"),
+    ("deckmend against the second program", "python3 tests/mend.py"),
+    ("deckmake and deckshow against the second program", "python3 tests/typed.py"),
+    ("deckpage against the second program, and in a browser", "python3 tests/page.py"),
+    ("the season report against the second program", "python3 tests/season.py"),
+    ("deckstate against the second program", "python3 tests/states.py"),
+    ("the programs' words, percents and failures", "python3 tests/program.py"),
+    ("the office's calls over doubles against the second program", "python3 tests/doubles.py"),
+    ("the second program checks itself", "python3 second/selfcheck.py"),
+    ("the office's writer against the second program", "python3 tests/office.py"),
+    ("the libraries link every way, and export their calls alone", "python3 tests/library.py"),
+    ("what is installed runs, and goes again", "python3 tests/install.py"),
+    ("the stored cases are the second program's", "tests/cases.sh"),
+    ("the walk through a deck is true as printed", "python3 tests/walk.py"),
+    ("each must-fail edit is refused for a fact, within their time", "python3 tests/edits.py"),
+    ("one version everywhere", "python3 tests/version.py"),
+    ("the library's calls hold within the stack that the ship grants", "python3 tests/stack.py"),
+    ("the published figures are what the proved programs print", "python3 tests/published.py"),
+    ("the headers declare the C calls as they are defined", "python3 tests/signatures.py"),
+    ("the list of proofs names what there is", "python3 tests/names.py"),
+))
+
+
+def ended(test):
+    """Runs a test to its end."""
+    began = time.time()
+    done = subprocess.run(test.command.split(), cwd=ROOT, stdin=subprocess.DEVNULL, stdout=subprocess.PIPE, stderr=subprocess.STDOUT, text=True, errors="replace")
+    return Ended(test, done.returncode, done.stdout.splitlines(), time.time() - began)
+
+
+def tell(one, which, log):
+    """What is shown of a test at its end: what it skipped, or everything where it failed, and the line that says so."""
+    line = f"FAILED {which}: {one.test.name}" if one.status else f"passed {which}: {one.test.name} ({one.seconds:.0f} s)"
+    print(*(said for said in one.said if one.status or said.startswith("skipped")), line, sep="\n", flush=True)
+    keep(log, "\n".join([*one.said, line]))
+
+
+def each_ended(tests):
+    """The tests as they end."""
+    began, pool = time.time(), ThreadPoolExecutor(JOBS)
+    try:
+        waiting = {pool.submit(ended, test): test.name for test in tests}
+        while waiting:
+            done, _ = wait(waiting, QUIET, FIRST_COMPLETED)
+            if not done:
+                print(still([name for future, name in waiting.items() if future.running()], began), flush=True)
+            for future in done:
+                del waiting[future]
+                yield future.result()
+    finally:
+        pool.shutdown(cancel_futures=True)
+
+
+def failures(tests, log):
+    """How many of the tests fail; all of them where what they start cannot be built."""
+    failed, total = 0, 1 + len(tests)
+    for first in each_ended([BUILD]):
+        tell(first, f"1 of {total}", log)
+        if first.status:
+            print(f"not run for want of it: {len(tests)} tests")
+            return total
+    for place, one in enumerate(each_ended(tests), 2):
+        tell(one, f"{place} of {total}", log)
+        failed += one.status != 0
+    return failed
+
+
+def times(log, seconds):
+    """How long each part of the gate took, those before the tests as tests/progress.py left them in the log."""
+    before = [line.removeprefix(TOOK) for line in log.read_text(errors="replace").splitlines() if line.startswith(TOOK)]
+    parts = ", ".join((*before[-1:], f"other tests {seconds:.0f} s"))
+    return f"{parts}: {sum(map(int, re.findall(r'([0-9]+) s', parts)))} s in all"
+
+
+def main(arguments):
+    log, words = ROOT / arguments[0], arguments[1:]
+    began = time.time()
+    failed = failures([test for test in TESTS if not words or any(word in test.command for word in words)], log)
+    line = times(log, time.time() - began)
+    print(line)
+    keep(log, line)
+    return failed
+
+
+if __name__ == "__main__":
+    sys.exit(main(sys.argv[1:]))
