@@ -1,4 +1,5 @@
-"""What the tests share: the project's folder, its programs and C samples, running a command, building by make, the C compiler for x86-64, a header's calls."""
+"""What the tests share: the project's folder, its programs and C samples, running a command, building by make, the C compiler for x86-64, a header's
+calls."""
 
 import os
 import re
@@ -19,6 +20,7 @@ from states import deckstate_output  # noqa: E402
 from typed import deckmake_output, deckshow_output  # noqa: E402
 
 STRICT = ("-Wall", "-Wextra", "-Werror", "-O1")
+BUILT = "FOAMBEETLE_BUILT"  # in the environment where tests/others.py has built all that the tests start
 
 
 def rated_lines(data):
@@ -53,9 +55,15 @@ def make(*words):
     return run(["make", "--no-print-directory", "-C", root, *words], env=plain)
 
 
+def ready(*targets):
+    """These as make builds them; two tests that run at once build nothing."""
+    if BUILT not in os.environ:
+        make(*targets)
+
+
 def prove():
     """The programs, proved and built."""
-    make(*(f"target/stamp/{program}" for program in EVERY_PROGRAM))
+    ready(*(f"target/stamp/{program}" for program in EVERY_PROGRAM))
 
 
 def started(program, *words):
@@ -99,14 +107,20 @@ def sample(name):
 def compare_samples(what, words, output, by_name=False):
     """The sample decks through a program, each on its standard input, and where the program opens it itself by its name too."""
     got = [run([*words, *([deck] if by_name else [])], deck.read_bytes()).decode() for deck in decks()]
-    return compare(f"samples through {what}", got, [output(deck.read_bytes()) for deck in decks()])
+    return compare(f"samples through {what}", got, [once(output, deck.read_bytes()) for deck in decks()])
+
+
+@lru_cache(maxsize=None)
+def once(output, data):
+    """What the second program prints of a file that several programs are held to."""
+    return output(data)
 
 
 def linked(program):
-    """The words that start a program that make has linked into one file."""
-    file = root / f"target/programs/{program}"
-    make(file.relative_to(root))
-    return [*tools()[1], file]
+    """The words that start a program that make has linked into one file, which takes less than half the time of starting what rt built."""
+    file = f"target/programs/{program}"
+    ready(file)
+    return [*tools()[1], root / file]
 
 
 def prototypes(header):

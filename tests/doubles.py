@@ -11,7 +11,7 @@ import struct
 import subprocess
 import sys
 
-from common import OFFICE, compare, decks, make, root, run, sample, static
+from common import OFFICE, compare, decks, ready, root, run, sample, static
 
 from doubles import bits_of, chance, planned
 from doubles_samples import CHANCES, NO_CHANCES, about_grid, grid_points, random_plan, wrong_plans
@@ -90,7 +90,7 @@ def refused(line):
 
 
 def main():
-    make("lib")
+    ready("lib")
     lent, asked = list(files()), list(plans())
     program = static(root / "tests/doubles_test.c", "doubles_test", OFFICE)
     out = run(program, b"".join(to_tell(*one) for one in lent)).decode().splitlines()

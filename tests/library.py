@@ -11,7 +11,7 @@ import sys
 from pathlib import Path
 
 from common import (
-    LIBRARIES, OFFICE, SAMPLES, SHIP, WRITER, build, compare, compare_example, compare_samples, decks, make, prototypes, root, run, sample, static,
+    LIBRARIES, OFFICE, SAMPLES, SHIP, WRITER, build, compare, compare_example, compare_samples, decks, prototypes, ready, root, run, sample, static,
     tools,
 )
 
@@ -122,7 +122,7 @@ def python_answers():
 
 
 def main():
-    make("lib")
+    ready("lib")
     good = all([names(library) for library in LIBRARIES])
     for name, output in SAMPLES.items():
         for what, words in built(name, SHIP):

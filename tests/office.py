@@ -9,7 +9,7 @@ import random
 import struct
 import sys
 
-from common import OFFICE, compare, make, root, run, static
+from common import OFFICE, compare, ready, root, run, static
 
 from files import random_deck
 from foambeetle import BOARDS_VERSION, Boards, Deck, Refusal, boards_read, layout, listed_systems, packed, read_deck, system_numbers, write_deck
@@ -138,7 +138,7 @@ def seen(said):
 
 
 def main():
-    make("lib")
+    ready("lib")
     asked = list(cases())
     said = run(static(root / "tests/office_test.c", "office_test", OFFICE), b"".join(to_write(*case) for case in asked)).decode().splitlines()
     good = compare("decks through the office's call", said, [told(*case) for case in asked])

@@ -16,7 +16,7 @@ import time
 from concurrent.futures import FIRST_COMPLETED, ThreadPoolExecutor, wait
 from typing import NamedTuple
 
-from common import EVERY_PROGRAM
+from common import BUILT, EVERY_PROGRAM
 from progress import QUIET, ROOT, TOOK, keep, still
 
 JOBS = int(os.environ.get("RT_JOBS") or os.cpu_count() or 1)
@@ -64,7 +64,8 @@ TESTS = tuple(Test(*line) for line in (
 def ended(test):
     """Runs a test to its end."""
     began = time.time()
-    done = subprocess.run(test.command.split(), cwd=ROOT, stdin=subprocess.DEVNULL, stdout=subprocess.PIPE, stderr=subprocess.STDOUT, text=True, errors="replace")
+    done = subprocess.run(test.command.split(), cwd=ROOT, env={**os.environ, BUILT: "yes"}, stdin=subprocess.DEVNULL, stdout=subprocess.PIPE,
+                          stderr=subprocess.STDOUT, text=True, errors="replace")
     return Ended(test, done.returncode, done.stdout.splitlines(), time.time() - began)
 
 

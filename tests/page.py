@@ -10,9 +10,8 @@ import shutil
 import subprocess
 import sys
 import xml.etree.ElementTree as tree
-from concurrent.futures import ThreadPoolExecutor
 
-from common import PAGER, compare, decks, make, room, run, started
+from common import PAGER, compare, decks, linked, mapped, room, run
 
 from files import DAMAGES, VERSIONS, random_deck
 from foambeetle import BOARDS_VERSION, UNITS, Boards, Deck, Rule, System, deck_bytes
@@ -142,7 +141,7 @@ def looked_at(words, name, text):
     return wrong if 1 <= sheets <= SHEETS else [*wrong, f"{name}: {sheets} sheets"]
 
 
-def in_browser():
+def in_browser(pager):
     words = browser()
     if not words:
         print("no Chromium here: pages were not looked at in a browser")
@@ -152,18 +151,16 @@ def in_browser():
     if not looked_at(words, "planted", PLANTED):
         print("a page with a line that is cut was not found wrong")
         return False
-    wrong = [line for name, data in files.items() for line in looked_at(words, name, run(started(PAGER), data).decode())]
+    wrong = [line for name, data in files.items() for line in looked_at(words, name, run(pager, data).decode())]
     print("\n".join([*wrong, f"{len(files)} pages looked at, {len(WIDTHS)} widths and paper each: {len(wrong)} things wrong"]))
     return not wrong
 
 
 def main():
-    make(f"target/stamp/{PAGER}")
-    files = list(inputs(random.Random(31)))
-    with ThreadPoolExecutor() as pool:
-        got = [seen(page) for page in pool.map(lambda data: run(started(PAGER), data).decode(), files)]
+    pager, files = linked(PAGER), list(inputs(random.Random(31)))
+    got = [seen(page) for page in mapped(lambda data: run(pager, data).decode(), files)]
     good = compare("pages by deckpage", got, [wanted(data) for data in files])
-    return 0 if in_browser() and good else 1
+    return 0 if in_browser(pager) and good else 1
 
 
 if __name__ == "__main__":

@@ -5,7 +5,7 @@ import re
 import subprocess
 import sys
 
-from common import EVERY_PROGRAM, MAKER, compare, decks, held, prove, root, run, started
+from common import EVERY_PROGRAM, MAKER, compare, decks, held, linked, mapped, prove, root, run, started
 
 from files import random_files
 from foambeetle import UNITS, Boards, Deck, Rule, System, deck_bytes, decklist_output
@@ -51,7 +51,8 @@ def near(version):
 
 def percents():
     inputs = [deck.read_bytes() for deck in decks()] + [*map(near, UNITS), b""] + list(random_files(31, FILES))
-    printed = [run(started("decklist", "--percent"), data).decode() for data in inputs]
+    words = [*linked("decklist"), "--percent"]
+    printed = mapped(lambda data: run(words, data).decode(), inputs)
     return compare("inputs through decklist --percent", printed, [with_percents(data) for data in inputs])
 
 

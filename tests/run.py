@@ -1,23 +1,27 @@
 """The library's calls and the programs against the second program, byte for byte.
 
-5,200 random deck files of every version, sound and damaged by turns, one of lines shorter than their window, one of pairs, three whose fans stand about
+1,800 random deck files of every version, sound and damaged by turns, one of lines shorter than their window, one of pairs, three whose fans stand about
 the units, and some whose boards do, go through a C program linked with libfoambeetle.a, which rates their systems, asks for the worth of a fan under
-each and for the file's unit, with guard pages on either side of what it lends and a stack that shows how deep a call goes; some of them, and inputs of
-odd lengths, through the programs; the samples through the programs and through the C samples.
+each and for the file's unit, with guard pages on either side of what it lends and a stack that shows how deep a call goes. Every refusal is met, and every
+kind is answered in every version. Some of the files, and inputs of odd lengths, go through the programs as they are installed; the samples through the
+programs as rt built them, and through the C samples.
 """
 
 import random
+import re
 import struct
 import sys
 
-from common import PROGRAMS, SAMPLES, compare, compare_samples, make, prove, root, run, sample, started, static
+from common import PROGRAMS, SAMPLES, compare, compare_samples, linked, mapped, prove, ready, root, run, sample, started, static
 
 from files import random_files
-from foambeetle import BOARDS_VERSION, UNITS, Boards, Deck, Refusal, Rule, System, deck_bytes, rate, unit_of_file, worth_of_file
+from foambeetle import BOARDS_VERSION, KINDS, UNITS, Boards, Deck, Refusal, Rule, System, deck_bytes, rate, read_deck, unit_of_file, worth_of_file
 from samples import edges, over
 
-FILES = 5200
-PRINTED = 150  # a process each, so fewer
+FILES = 1800
+PRINTED = 100  # a process each, so fewer
+SHORT = 300  # bytes of a file that is printed: the second program works for seconds on the worth of every fan of the longest
+REFUSALS = {*range(1, 7), *range(10, 15), 17, 20, 21}  # include/foambeetle.h
 MOST_ASKED = 33
 HUGE = (2 ** 63, 2 ** 64 - 1)
 MOST_STACK = 70000  # of which the working table takes 62,400
@@ -113,13 +117,32 @@ def units_seen(lines):
     return met == {0, *UNITS.values()}
 
 
+def refusals_met(lines):
+    """Every refusal was met, in a rating or in a worth."""
+    met = {int(number) for line in lines for number in re.findall(r"refused (\d+)", line)}
+    met |= {int(number, 16) for line in lines for number in re.findall(r"^system \d+ ffffffff([0-9a-f]{8}) ", line)}
+    print(f"refusals met: {sorted(met)}")
+    return met == REFUSALS
+
+
+def kinds_answered(asked, lines):
+    """Systems of every kind were answered in files of every version."""
+    met = set()
+    for (data, system), line in zip(asked, lines, strict=True):
+        if not line.split()[2].startswith("ffffffff"):
+            deck = read_deck(data)
+            met.add((deck.version, deck.systems[system - 1].rule.kind))
+    print(f"kinds answered, by version: {len(met)}")
+    return met == {(version, kind) for version in UNITS for kind in KINDS}
+
+
 def compare_calls(files):
     """Every file through the C program."""
     rng = random.Random(6)
     pairs = [(data, list(asked(rng, data))) for data in files]
     said = run(static(root / "tests/loading_test.c", "loading_test"), b"".join(to_ask(*pair) for pair in pairs)).decode().splitlines()
     lines, stacks = said[:-CALLS], said[-CALLS:]
-    good = compare_stacks(stacks) & units_seen(lines)
+    good = compare_stacks(stacks) & units_seen(lines) & refusals_met(lines) & kinds_answered([(data, one[0]) for data, asks in pairs for one in asks], lines)
     return good & compare(f"calls on {len(files)} files", lines, [answered(data, *one) for data, asks in pairs for one in asks])
 
 
@@ -133,13 +156,14 @@ def compare_stored():
 
 
 def main():
-    make("lib")
+    ready("lib")
     prove()
     files = [short_lines(), pairs(), *map(about_units, UNITS), *about_boards(), *random_files(2026, FILES)]
     good = compare_stored() & compare_calls(files)
-    inputs = files[:PRINTED] + list(odd_inputs())
+    inputs = [data for data in files if len(data) < SHORT][:PRINTED] + list(odd_inputs())
     for program, output in PROGRAMS.items():
-        printed = [run(started(program), data).decode() for data in inputs]
+        words = linked(program)
+        printed = mapped(lambda data: run(words, data).decode(), inputs)
         good &= compare(f"inputs through {program}", printed, [output(data) for data in inputs])
         good &= compare_samples(program, started(program), output)
     for name, output in SAMPLES.items():

@@ -7,7 +7,7 @@ import random
 import subprocess
 import sys
 
-from common import compare, held, prove, run, started
+from common import compare, held, linked, mapped, run
 
 from season import season_output
 from season_samples import many_files, named, random_streams, single_fan
@@ -18,13 +18,13 @@ TOLD = 100  # decks are told by the hundred
 SHOWN = 250
 
 
-def through(data):
-    return run(started("season"), data).decode()
+def through(words, streams):
+    return mapped(lambda data: run(words, data).decode(), streams)
 
 
-def in_pieces(rng, data):
+def in_pieces(words, rng, data):
     """What season prints where the stream comes by a few bytes at a time."""
-    with subprocess.Popen([str(word) for word in started("season")], stdin=subprocess.PIPE, stdout=subprocess.PIPE) as program:
+    with subprocess.Popen(words, stdin=subprocess.PIPE, stdout=subprocess.PIPE) as program:
         at = 0
         while at < len(data):
             end = at + rng.choice((1, 2, 7, 19, 20, 21, 300))
@@ -37,10 +37,10 @@ def in_pieces(rng, data):
         return program.stdout.read().decode()
 
 
-def on_terminal(data):
+def on_terminal(words, data):
     """What season prints, and what it shows on a terminal."""
     mine, theirs = pty.openpty()
-    with subprocess.Popen([str(word) for word in started("season")], stdin=subprocess.PIPE, stdout=subprocess.PIPE, stderr=theirs) as program:
+    with subprocess.Popen(words, stdin=subprocess.PIPE, stdout=subprocess.PIPE, stderr=theirs) as program:
         printed, _ = program.communicate(data)
     os.close(theirs)
     shown = b""
@@ -58,10 +58,10 @@ def on_terminal(data):
 
 def decks_shown():
     """A count of decks read, by the hundred, wiped at the end; and nothing at all where standard error is no terminal."""
-    data = single_fan(1, 1) * SHOWN
-    printed, shown = on_terminal(data)
+    data, words = single_fan(1, 1) * SHOWN, linked("season")
+    printed, shown = on_terminal(words, data)
     told = [f"decks {count}" for count in range(TOLD, SHOWN + 1, TOLD)]
-    done = subprocess.run([str(word) for word in started("season")], input=data, capture_output=True, check=True)
+    done = subprocess.run(words, input=data, capture_output=True, check=True)
     return (
         printed == season_output(data) == done.stdout.decode()
         and [part for part in shown.split("\r") if part.strip()] == told
@@ -71,14 +71,13 @@ def decks_shown():
 
 
 def main():
-    prove()
-    rng = random.Random(13)
+    words, rng = linked("season"), random.Random(13)
     streams = [*named(), *random_streams(2026, STREAMS)]
-    good = compare("streams through season", [through(data) for data in streams], [season_output(data) for data in streams])
+    good = compare("streams through season", through(words, streams), [season_output(data) for data in streams])
     many = list(many_files())
-    good &= compare("streams of 10,000 files and more", [through(data) for data in many], [season_output(data) for data in many])
+    good &= compare("streams of 10,000 files and more", through(words, many), [season_output(data) for data in many])
     pieces = [stream for stream in streams if stream][-IN_PIECES:]
-    good &= compare("streams in pieces", [in_pieces(rng, data) for data in pieces], [season_output(data) for data in pieces])
+    good &= compare("streams in pieces", [in_pieces(words, rng, data) for data in pieces], [season_output(data) for data in pieces])
     return 0 if good & held(decks_shown) else 1
 
 

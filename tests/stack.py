@@ -8,7 +8,7 @@ import re
 import sys
 from functools import lru_cache
 
-from common import make, reported, root, run, tools
+from common import ready, reported, root, run, tools
 
 MOST_STACK = 70000  # document 02, request 07
 CALLS = ("foambeetle_rate", "foambeetle_worth", "foambeetle_unit")
@@ -71,7 +71,7 @@ def read(lines, wrong):
 
 
 def main():
-    make("lib")
+    ready("lib")
     wrong = []
     functions = {name: read(lines, wrong) for name, lines in disassembled().items()}
 

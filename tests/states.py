@@ -2,11 +2,9 @@
 and wrong ones, damaged files, the samples, and a word of each kind that is no number."""
 
 import random
-import subprocess
 import sys
-from concurrent.futures import ThreadPoolExecutor
 
-from common import compare, decks, prove, started
+from common import compare, decks, linked, mapped, written
 
 from files import DAMAGES, VERSIONS, random_deck
 from foambeetle import deck_bytes
@@ -19,10 +17,10 @@ DAMAGED = 40
 MANY = 2000  # words
 
 
-def through(case):
+def through(program, case):
     data, words = case
-    done = subprocess.run([str(word) for word in started("deckstate", *words)], input=data, capture_output=True, check=True)
-    return done.stdout.decode(), done.stderr.decode()
+    printed, said = written([*program, *words], data)
+    return printed.decode(), said
 
 
 def random_cases(rng):
@@ -52,13 +50,9 @@ def named_cases(rng):
 
 
 def main():
-    prove()
-    rng = random.Random(31)
-    good = True
+    program, rng, good = linked("deckstate"), random.Random(31), True
     for what, cases in (("named words", list(named_cases(rng))), ("random words", list(random_cases(rng)))):
-        with ThreadPoolExecutor() as pool:
-            got = list(pool.map(through, cases))
-        good &= compare(f"{what} through deckstate", got, [deckstate_output(*case) for case in cases])
+        good &= compare(f"{what} through deckstate", mapped(lambda case: through(program, case), cases), [deckstate_output(*case) for case in cases])
     return 0 if good else 1
 
 

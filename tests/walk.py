@@ -4,7 +4,7 @@ it; a slip in it is told as it says; its make command, its C program, built as p
 import re
 import sys
 
-from common import held, make, prove, room, root, run, started, static, written
+from common import held, make, prove, ready, room, root, run, started, static, written
 
 
 def blocks(kind):
@@ -68,7 +68,7 @@ def shown_as_said():
 
 
 def main():
-    make("lib")
+    ready("lib")
     prove()
     return 0 if held(made_as_said, begun_as_said, told_as_said, printed_as_said, called_as_said, worth_as_said, shown_as_said) else 1
 
