@@ -1,7 +1,8 @@
 """deckmend against the second program, what it writes and what it says of it.
 
-Every byte of a header set to every value, in each version; headers with several bytes damaged, the files whole, cut or run on; files cut at every
-length; from 1 to 100,000 bytes behind a file; sound and damaged files at random; input that comes in pieces; and a file with far more behind it.
+Every byte of a header set to 0, to 255, to one more, to one less and with each bit changed, in each version; headers with several bytes damaged, the files
+whole, cut or run on; files cut at every length; from 1 to 100,000 bytes behind a file; sound and damaged files at random; input that comes in pieces; and a
+file with far more behind it. A process each, so there are not more of them; second/selfcheck.py has every byte at every value.
 """
 
 import random
@@ -14,9 +15,10 @@ from foambeetle import BOARDS_VERSION, UNITS, Boards, Deck, Rule, System, deck_b
 from mending import deckmend_output, mend
 
 HEADERS = {version: 28 if version == BOARDS_VERSION else 20 for version in UNITS}
-SEVERAL = 2500
-FILES = 1500
+SEVERAL = 500
+FILES = 300
 BEHIND = 100000
+BORDERS = 1024, 5120, 9216  # where the program's buffer ends, and the pieces by which it counts what is behind
 PIECE = 100
 MUCH = 20_000_000  # bytes behind a file
 
@@ -31,11 +33,12 @@ def longest(version):
 
 
 def single_bytes():
-    """Every byte of a header set to every other value."""
+    """Every byte of a header set to the ends of its range, beside what it was, and with each bit changed."""
     for version in UNITS:
         data = sound(version)
         for at in range(HEADERS[version]):
-            yield from (data[:at] + bytes([value]) + data[at + 1:] for value in range(256) if value != data[at])
+            values = {0, 255, (data[at] + 1) % 256, (data[at] - 1) % 256, *(data[at] ^ 1 << bit for bit in range(8))} - {data[at]}
+            yield from (data[:at] + bytes([value]) + data[at + 1:] for value in sorted(values))
 
 
 def several_bytes():
@@ -52,25 +55,26 @@ def several_bytes():
 
 
 def cut_files():
-    """Files cut at every length, sound and damaged; the longest ones near their end and the buffer's."""
+    """Files cut at every length, sound, and damaged in one of two places by turns; the longest ones near their header's end and their own."""
     for version in UNITS:
         data = sound(version)
-        for front in (data, with_field(data, 2, 2, 257), with_field(data, 8, 4, 2 ** 32 - 1)):
-            yield from (front[:length] for length in range(len(front) + 1))
+        damaged = with_field(data, 2, 2, 257), with_field(data, 8, 4, 2 ** 32 - 1)
+        yield from (front[:length] for length in range(len(data) + 1) for front in (data, damaged[length % 2]))
         data = longest(version)
-        yield from (data[:length] for length in (*range(HEADERS[version] + 2), *range(len(data) - 12, len(data) + 1)))
+        yield from (data[:length] for length in (*range(HEADERS[version] - 2, HEADERS[version] + 2), *range(len(data) - 12, len(data) + 1)))
 
 
 def run_on():
-    """From 1 to 100,000 bytes behind a file, more of the lengths about the buffer's end and a piece's."""
+    """From 1 to 100,000 bytes behind a file; and files that end about each border."""
     rng = random.Random(1402)
-    near = (3071, 3072, 3073, 4095, 4096, 4097, 65536)
-    anywhere = (rng.randint(1, BEHIND) for _ in range(60))
-    for place, length in enumerate((*range(1, 60), *range(100, 1400, 7), *range(960, 1030), *near, *anywhere, BEHIND)):
+    anywhere = (rng.randint(1, BEHIND) for _ in range(20))
+    for place, length in enumerate((*range(1, 30), *range(100, 1400, 37), 65536, *anywhere, BEHIND)):
         version = tuple(UNITS)[place % len(UNITS)]
         data = longest(version) if place % 4 == 0 else sound(version)
         yield (data, with_field(data, 16, 4, length))[place % 2] + rng.randbytes(length)
     yield from (longest(version) + b"\0" * BEHIND for version in UNITS)
+    for data in (make(version) for version in UNITS for make in (sound, longest)):
+        yield from (data + rng.randbytes(border + more - len(data)) for border in BORDERS for more in (-1, 0, 1))
 
 
 def in_pieces(words):

@@ -3,17 +3,18 @@ and wrong ones, damaged files, the samples, and a word of each kind that is no n
 
 import random
 import sys
+from itertools import combinations_with_replacement
 
 from common import compare, decks, linked, mapped, written
 
 from files import DAMAGES, VERSIONS, random_deck
-from foambeetle import deck_bytes
+from foambeetle import BOARDS_VERSION, deck_bytes
 from states import BOARD, deckstate_output
 from states_samples import NO_NUMBERS, every_kind, every_kind_file, fan_words, right_words, wrong_words
 
-DECKS = 120  # of each version
-WRONG = 60
-DAMAGED = 40
+DECKS = 80  # of each version
+WRONG = 40
+DAMAGED = 30
 MANY = 2000  # words
 
 
@@ -36,11 +37,14 @@ def random_cases(rng):
 
 
 def named_cases(rng):
-    """Every pair of fans of a deck of every kind, each of its boards, words that are no number in each place that a number has, and very many words."""
+    """Every fan of a deck of every kind, and where it has boards every pair of fans and every board; words that are no number in each place that a number
+    has, and very many words."""
     for version in VERSIONS:
         data = every_kind_file(version)
         yield data, []
-        yield from ((data, [str(one), str(other)]) for one in range(1, 13) for other in range(one, 13))
+        fans = range(1, 13)
+        pairs = combinations_with_replacement(fans, 2) if version == BOARDS_VERSION else zip(fans, fans)
+        yield from ((data, [str(one), str(other)]) for one, other in pairs)
         yield from ((data, [BOARD, board]) for board in "0123")
         yield from ((data, words) for word in NO_NUMBERS for words in ([word], ["1", word, "x"], [BOARD, word]))
         yield from ((data, words) for words in ([BOARD], ["1", BOARD], [BOARD, BOARD], [BOARD, "1", BOARD], [BOARD, "1", BOARD, "2", "12", "13"], [f"{BOARD} 1"]))
