@@ -29,21 +29,32 @@ MANY = 32
 SVG = "{http://www.w3.org/2000/svg}"
 
 
-def hardest(seed=3):
-    """64 fans behind four boards and 32 systems: every kind over the whole deck, then over stretches; one that is refused."""
-    rng, unit = random.Random(seed), UNITS[BOARDS_VERSION]
+def full_deck(rng, stretches):
+    """64 fans behind four boards, and 32 systems: every kind in turn over these stretches, and one that is refused."""
+    unit = UNITS[BOARDS_VERSION]
     rules = (Rule(1, 5, 0), Rule(2, 8, 0), Rule(3, 2, 5), Rule(4, 3, 0), Rule(5, 3, 0), Rule(6, 2, 5), Rule(7, 2, 4), Rule(8, 8, 10))
-    systems = [System(rule, 1, 64) for rule in rules]
-    systems += [System(rules[at % 8], a, rng.randint(a + 12, 64)) for at in range(23) for a in [rng.randint(1, 29)]]
+    systems = [System(rules[at % len(rules)], *stretch) for at, stretch in enumerate(stretches)]
     systems.append(System(Rule(4, 70, 0), 1, 64))
     fans = [unit - rng.randint(1, 30_000_000) for _ in range(64)]
     boards = Boards([rng.randint(0, 4) for _ in range(64)], [unit - rng.randint(1, 100_000) for _ in range(4)])
     return deck_bytes(Deck(fans, [fan % 3 for fan in range(64)], systems, BOARDS_VERSION, boards))
 
 
+def hardest():
+    """Every kind over the whole deck, and then over long stretches."""
+    rng = random.Random(3)
+    return full_deck(rng, [(1, 64)] * 8 + [(a, rng.randint(a + 12, 64)) for _ in range(23) for a in [rng.randint(1, 29)]])
+
+
+def quickest():
+    """Kind 1 over the whole deck, and every kind over short stretches, since the second program takes half a minute for the hardest."""
+    rng = random.Random(4)
+    return full_deck(rng, [(1, 64)] + [(a, a + rng.randint(9, 15)) for _ in range(30) for a in [rng.randint(1, 49)]])
+
+
 def inputs(rng):
     yield from (deck.read_bytes() for deck in decks())
-    yield hardest()
+    yield quickest()
     for version in VERSIONS:
         yield from (deck_bytes(random_deck(rng, version)) for _ in range(RANDOM))
         yield from (rng.choice(DAMAGES)(rng, deck_bytes(random_deck(rng, version))) for _ in range(DAMAGED))
@@ -86,25 +97,27 @@ def wanted(data):
 
 # Every piece of text by where it stands, and the drawing that it belongs to: what lies outside the page or its drawing, and what lies over another.
 LOOK = """
-const frame = document.querySelector('iframe'), inner = frame.contentDocument, wrong = [], boxes = [];
-const walk = inner.createTreeWalker(inner.body, NodeFilter.SHOW_TEXT);
-for (let node = walk.nextNode(); node; node = walk.nextNode()) {
-  if (!node.data.trim()) continue;
-  const range = inner.createRange();
-  range.selectNodeContents(node);
-  const drawing = node.parentElement.closest('svg');
-  const bounds = drawing ? drawing.getBoundingClientRect() : {left: 0, right: frame.clientWidth};
-  for (const box of range.getClientRects()) {
-    if (box.left < bounds.left - 1 || box.right > bounds.right + 1 || (drawing && (box.bottom > bounds.bottom + 3))) wrong.push('cut: ' + node.data);
-    for (const other of boxes)
-      if (box.left < other.box.right - 1 && other.box.left < box.right - 1 && box.top < other.box.bottom - 3 && other.box.top < box.bottom - 3)
-        wrong.push('over another: ' + node.data + ' / ' + other.text);
-    boxes.push({box, text: node.data});
+function look(frame) {
+  const inner = frame.contentDocument, wrong = [], boxes = [];
+  const walk = inner.createTreeWalker(inner.body, NodeFilter.SHOW_TEXT);
+  for (let node = walk.nextNode(); node; node = walk.nextNode()) {
+    if (!node.data.trim()) continue;
+    const range = inner.createRange();
+    range.selectNodeContents(node);
+    const drawing = node.parentElement.closest('svg');
+    const bounds = drawing ? drawing.getBoundingClientRect() : {left: 0, right: frame.clientWidth};
+    for (const box of range.getClientRects()) {
+      if (box.left < bounds.left - 1 || box.right > bounds.right + 1 || (drawing && (box.bottom > bounds.bottom + 3))) wrong.push('cut: ' + node.data);
+      for (const other of boxes)
+        if (box.left < other.box.right - 1 && other.box.left < box.right - 1 && box.top < other.box.bottom - 3 && other.box.top < box.bottom - 3)
+          wrong.push('over another: ' + node.data + ' / ' + other.text);
+      boxes.push({box, text: node.data});
+    }
   }
+  if (inner.documentElement.scrollWidth > frame.clientWidth) wrong.push('wider than the page');
+  return boxes.length ? wrong.slice(0, 5) : ['no text'];
 }
-if (inner.documentElement.scrollWidth > frame.clientWidth) wrong.push('wider than the page');
-document.title = 'texts ' + boxes.length;
-document.body.dataset.wrong = JSON.stringify(wrong.slice(0, 5));
+window.onload = () => { document.body.dataset.wrong = JSON.stringify([...document.querySelectorAll('iframe')].map(look)); };
 """
 
 
@@ -123,22 +136,24 @@ def looking(words, *more):
     return run([*words, *more], stderr=subprocess.DEVNULL, timeout=PATIENCE)
 
 
-def looked_at(words, name, text):
-    """What is wrong with a page at each width, and on paper."""
-    wrong = []
-    for width in WIDTHS:
-        outer = room / f"{name}-{width}.html"
-        outer.write_text(f"<!DOCTYPE html><body><iframe width='{width}' height='20000' style='border:0' srcdoc='{html.escape(text)}'></iframe>"
-                         f"<script>document.querySelector('iframe').onload = () => {{ {LOOK} }}</script></body>")
-        dumped = looking(words, "--dump-dom", f"file://{outer}").decode()
-        found = re.search(r'data-wrong="([^"]*)"', dumped)
-        told = json.loads(html.unescape(found.group(1))) if found else ["nothing was measured"]
-        wrong += [f"{name} at {width}: {line}" for line in told]
+def looked_at(words, pages):
+    """What is wrong with each page at each width, by its name and the width; all of them in frames of one page, since the browser takes long to start."""
+    outer, frames = room / "frames.html", [(name, width) for name in pages for width in WIDTHS]
+    outer.write_text("<!DOCTYPE html><body>" + "".join(
+        f"<iframe width='{width}' height='20000' style='border:0' srcdoc='{html.escape(pages[name])}'></iframe>" for name, width in frames
+    ) + f"<script>{LOOK}</script></body>")
+    found = re.search(r'data-wrong="([^"]*)"', looking(words, "--dump-dom", f"file://{outer}").decode())
+    told = json.loads(html.unescape(found.group(1))) if found else [["nothing was measured"]] * len(frames)
+    return dict(zip(frames, told, strict=True))
+
+
+def on_paper(words, name, text):
+    """What is wrong with a page on paper."""
     page, paper = room / f"{name}.html", room / f"{name}.pdf"
     page.write_text(text)
     looking(words, "--no-pdf-header-footer", f"--print-to-pdf={paper}", f"file://{page}")
     sheets = len(re.findall(rb"/Type\s*/Page\b", paper.read_bytes()))
-    return wrong if 1 <= sheets <= SHEETS else [*wrong, f"{name}: {sheets} sheets"]
+    return [] if 1 <= sheets <= SHEETS else [f"{name}: {sheets} sheets"]
 
 
 def in_browser(pager):
@@ -148,10 +163,13 @@ def in_browser(pager):
         return True
     room.mkdir(parents=True, exist_ok=True)
     files = {deck.stem: deck.read_bytes() for deck in decks()} | {"hardest": hardest(), "refused": b""}
-    if not looked_at(words, "planted", PLANTED):
+    pages = {name: run(pager, data).decode() for name, data in files.items()}
+    told = looked_at(words, pages | {"planted": PLANTED})
+    if not all(told.pop(("planted", width)) for width in WIDTHS):
         print("a page with a line that is cut was not found wrong")
         return False
-    wrong = [line for name, data in files.items() for line in looked_at(words, name, run(pager, data).decode())]
+    wrong = [f"{name} at {width}: {line}" for (name, width), lines in told.items() for line in lines]
+    wrong += [line for name, text in pages.items() for line in on_paper(words, name, text)]
     print("\n".join([*wrong, f"{len(files)} pages looked at, {len(WIDTHS)} widths and paper each: {len(wrong)} things wrong"]))
     return not wrong
 
