@@ -125,7 +125,7 @@ def window_rule(rule, n):
 
 def two_near(r, state):
     # document 02, request 03: "the system fails exactly if two failed components' numbers differ by less than r"
-    failed = [component for component in range(1, MOST_FANS + 1) if state >> component - 1 & 1]
+    failed = [component for component in range(1, state.bit_length() + 1) if state >> component - 1 & 1]
     return any(later - earlier < r for earlier, later in combinations(failed, 2))
 
 
@@ -337,7 +337,7 @@ def boards_read(version, boards):
 
 def with_failed(failed, survivals, of_fans):
     # document 02, request 11: "For each set of failed boards the figures are worked with those fans' survival 0"
-    lost = [place for place, board in enumerate(of_fans) if board in failed]
+    lost = {place for place, board in enumerate(of_fans) if board in failed}
     return tuple(0 if place in lost else survival for place, survival in enumerate(survivals))
 
 

@@ -1,10 +1,12 @@
 """Document 02, request 13, "Season report": deck files one after another, and the totals of their single answers."""
 
 from fractions import Fraction
+from functools import lru_cache
 from typing import NamedTuple
 
 from foambeetle import (
-    BOARDS_HEADER_BYTES, BOARDS_VERSION, HEADER_BYTES, KINDS, UNITS, Refusal, boards_in, header_refusal, layout, number_at, rate_system, read_deck,
+    ASKED_AGAIN, BOARDS_HEADER_BYTES, BOARDS_VERSION, HEADER_BYTES, KINDS, UNITS, Refusal, boards_in, header_refusal, layout, number_at, rate_system,
+    read_deck,
 )
 
 MOST_FILES = 10000  # request 13: "at most 10,000 files are read"
@@ -47,10 +49,17 @@ def files_of(data):
     return files, len(files) == MOST_FILES and at < len(data)
 
 
-def singles_of(decks):
-    for number, deck in enumerate(decks, 1):
-        for place, system in enumerate(deck.systems, 1):
-            yield Single(number, place, system.rule.kind, UNITS[deck.version], rate_system(deck, system))
+@lru_cache(maxsize=ASKED_AGAIN)
+def answers_of(file):
+    """The kind, the unit and the answer of each system of a sound file; a stream may have one file thousands of times."""
+    deck = read_deck(file)
+    return [(system.rule.kind, UNITS[deck.version], rate_system(deck, system)) for system in deck.systems]
+
+
+def singles_of(files):
+    for number, file in enumerate(files, 1):
+        for place, answer in enumerate(answers_of(file), 1):
+            yield Single(number, place, *answer)
 
 
 def refused_by(singles, number):
@@ -71,9 +80,8 @@ def kind_lines(kind, singles):
 
 def season_output(data):
     files, waiting = files_of(data)
-    decks = [read_deck(file) for file in files]
-    refused = [deck.number for deck in decks if isinstance(deck, Refusal)]
-    singles = list(singles_of(deck for deck in decks if not isinstance(deck, Refusal)))
+    refused = [deck.number for deck in map(read_deck, files) if isinstance(deck, Refusal)]
+    singles = list(singles_of(file for file in files if not isinstance(read_deck(file), Refusal)))
     lines = [f"decks {len(files) - len(refused)}", f"files refused {len(refused)} number {sum(refused)}", f"waiting {int(waiting)}"]
     for kind in KINDS:
         lines += kind_lines(kind, [one for one in singles if one.kind == kind])

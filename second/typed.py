@@ -15,10 +15,12 @@ P has no point and is in parts of the unit, or has one and is a decimal from 0 t
 """
 
 import sys
+from functools import lru_cache
 from typing import NamedTuple
 
 from foambeetle import (
-    BOARDS_VERSION, MOST_BOARDS, MOST_FANS, MOST_SYSTEMS, UNITS, Boards, Deck, Refusal, Rule, System, deck_bytes, file_refusal, rate_system, read_deck,
+    ASKED_AGAIN, BOARDS_VERSION, MOST_BOARDS, MOST_FANS, MOST_SYSTEMS, UNITS, Boards, Deck, Refusal, Rule, System, deck_bytes, file_refusal, rate_system,
+    read_deck,
 )
 
 NEWLINE, COMMENT, BLANKS = b"\n", b"#", b" \t\r"
@@ -53,6 +55,7 @@ def lines_of(text):
     return lines[:-1] if lines[-1] == b"" else lines
 
 
+@lru_cache(maxsize=ASKED_AGAIN)
 def words_of(line):
     plain = line.split(COMMENT)[0]
     for blank in BLANKS:

@@ -155,9 +155,9 @@ def across():
 
 
 def many_lines():
-    """A million lines about a small deck, and a million faulty ones."""
+    """A million lines about a small deck, and a hundred thousand faulty ones."""
     yield b"# a comment\n" * (MILLION // 2) + SOUND[3] + b"\r\n" * (MILLION // 2)
-    yield b"x\n" * MILLION
+    yield b"x\n" * (MILLION // 10)
 
 
 def random_lines(rng):

@@ -1,7 +1,7 @@
 """The office's calls over doubles against the second program, bit for bit.
 
-Out: 1,600 random deck files of every version, sound and damaged, and the samples, each asked for its systems and for some that it has not. In: every
-edge of the doubles, the grid's points and their neighbours, one fan each; 6,000 random lists under every kind; and 2,560 with every choice of things wrong,
+Out: 600 random deck files of every version, sound and damaged, and the samples, each asked for its systems and for some that it has not. In: every
+edge of the doubles, the grid's points and their neighbours, one fan each; 2,000 random lists under every kind; and 1,280 with every choice of things wrong,
 so that the order of the refusals shows. All of it through a C program linked with libfoambeetle_office.a, with guard pages on either side of what it
 lends.
 """
@@ -18,7 +18,7 @@ from doubles_samples import CHANCES, NO_CHANCES, about_grid, grid_points, random
 from files import random_files
 from foambeetle import Refusal, Rule, packed, read_deck
 
-FILES, LISTS, WRONG, GRID = 1600, 6000, 2560, 1500
+FILES, LISTS, WRONG, GRID = 600, 2000, 1280, 500
 HUGE = (2 ** 32 + 1, 2 ** 63, 2 ** 64 - 1)
 OUT, IN = 0, 1
 NO_SUCH_SYSTEM = 14

@@ -1,6 +1,6 @@
 """The office's writer against the second program, byte for byte.
 
-2,000 random decks of every version, each typed into a room that just suffices, one a byte longer and one a byte shorter, and with one thing wrong by
+600 random decks of every version, each typed into a room that just suffices, one a byte longer and one a byte shorter, and with one thing wrong by
 turns, or two, so that the order of the refusals shows, go through a C program linked with libfoambeetle_office.a, with guard pages on either side of
 what it lends. Versions without boards have lists of any boards beside them. What is written reads back as the deck that was typed.
 """
@@ -15,7 +15,7 @@ from files import random_deck
 from foambeetle import BOARDS_VERSION, Boards, Deck, Refusal, boards_read, layout, listed_systems, packed, read_deck, system_numbers, write_deck
 from samples import unread_boards
 
-DECKS = 2000
+DECKS = 600
 PAINT = b"\xa5"  # of tests/pages.h
 FIVE = [1, 1, 0, 1, 1]
 WORD = 2 ** 16

@@ -1,4 +1,4 @@
-"""The season report against the second program, byte for byte: streams of deck files on standard input, named ones for each sentence of request 13, 300
+"""The season report against the second program, byte for byte: streams of deck files on standard input, named ones for each sentence of request 13, 120
 random ones, and 10,000 files and more; the same in pieces of any size; and the count of decks that a terminal is shown meanwhile."""
 
 import os
@@ -12,7 +12,7 @@ from common import compare, held, linked, mapped, run
 from season import season_output
 from season_samples import many_files, named, random_streams, single_fan
 
-STREAMS = 300
+STREAMS = 120
 IN_PIECES = 12
 TOLD = 100  # decks are told by the hundred
 SHOWN = 250

@@ -97,7 +97,7 @@ def main():
     for what, inputs in (
         ("slips", by_version(slips)), ("numbers", by_version(numbers)), ("counts, boards and versions", [text for version in UNITS for text in named(version)]),
         ("bytes that are no text", no_text()), ("long words", long_words()), ("long lines", long_lines()), ("lines across the buffer's end", across()),
-        ("a million lines", many_lines()), ("lines at random", random_texts(rng)),
+        ("very many lines", many_lines()), ("lines at random", random_texts(rng)),
     ):
         good &= compare_written(what, MAKER, maker, list(inputs))
     return 0 if good & there_and_back(rng, maker, shower) & damaged_files(shower) else 1
