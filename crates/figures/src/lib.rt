@@ -1,157 +1,12 @@
 // Low and high: the figures of a stretch of a list.
 ghost use mathlib.Core.Path.{_≡_};
-ghost use mathlib.Core.Bool.{false};
-ghost use Prim.Native.Nat.{_≤_};
-ghost use Rattle.rules.specs.State.{S};
 ghost use Rattle.rules.specs.Asked.{askedOf};
-ghost use Rattle.rules.specs.Refusal.{badStretch, someAbove, aboveUnit, figuresRefusal};
-ghost use Rattle.figures.specs.Outcome.{ratedOf, placeRefusal, partRefusal, Worked, Ranged, Rated};
+ghost use Rattle.rules.specs.Refusal.{figuresRefusal};
+ghost use Rattle.figures.specs.Outcome.{Worked, Ranged, Rated};
 use cells::CELLS;
 use places::Ends;
 use rules::Rating;
 use rules::Rule;
-
-// Refusal 3.
-fn stretch_out(a: u64, b: u64, n: u64) -> bool
-    ensures { λ r. ⌜ r ≡ badStretch a b n ⌝ }
-{
-    if a == 0 {
-        return true;
-    }
-    if b < a {
-        return true;
-    }
-    n < b
-}
-
-// Is a number above the unit? Every one is looked at, so that the compiler can look at several at once.
-fn above_unit(all: u64, survival: &[u32]) -> bool
-    requires { ⌜ all ≤ S ⌝ }
-    ensures { λ r. ⌜ r ≡ someAbove all (now (survival .entry)) ⌝ }
-{
-    let most = all as u32;
-    let mut above = false;
-    let mut i: usize = 0;
-    while i < survival.len() {
-        if most < survival[i] {
-            above = true;
-        }
-        i += 1;
-    }
-    above
-}
-
-// The weights of the components rated, which only kind 2 has.
-fn rated_weights(rule: Rule, n: usize, weights: &[u16], a: u64, b: u64) -> &[u16]
-    requires { ⌜ badStretch a b n ≡ false ⌝ }
-    ensures { λ r. ⌜ now r ≡ ratedOf rule n (now (weights .entry)) a b ⌝ }
-{
-    if rule.kind != 2 {
-        return &weights[0..0];
-    }
-    if weights.len() != n {
-        return &weights[0..0];
-    }
-    let from = a as usize - 1;
-    let upto = b as usize;
-    &weights[from..upto]
-}
-
-// Refusals 1, 2 and 3 of a list of n, the first that applies; 0 for none.
-pub fn place_refusal(rule: Rule, a: u64, b: u64, n: u64) -> u64
-    ensures { λ r. ⌜ r ≡ placeRefusal rule a b n ⌝ }
-{
-    if refusals::kind_out(rule) {
-        return 1;
-    }
-    if refusals::size_out(n) {
-        return 2;
-    }
-    if stretch_out(a, b, n) {
-        return 3;
-    }
-    0
-}
-
-// Refusal 4, of the components rated and of the boards.
-fn numbers_out(all: u64, survival: &[u32], own: &[u32]) -> bool
-    requires { ⌜ all ≤ S ⌝ }
-    ensures { λ r. ⌜ r ≡ aboveUnit all (now (survival .entry)) (now (own .entry)) ⌝ }
-{
-    if above_unit(all, survival) {
-        return true;
-    }
-    above_unit(all, own)
-}
-
-// Refusals 5 and 6 of a stretch that lies in a list of n.
-pub fn part_refusal(rule: Rule, a: u64, b: u64, n: usize, weights: &[u16], more: &[u64]) -> u64
-    requires { ⌜ placeRefusal rule a b n ≡ 0 ⌝ }
-    ensures { λ r. ⌜ r ≡ partRefusal rule a b n (now (weights .entry)) (now (more .entry)) ⌝ }
-{
-    let from = a as usize - 1;
-    let upto = b as usize;
-    let rated = rated_weights(rule, n, weights, a, b);
-    refusals::rated_refusal(
-        rule,
-        n as u64,
-        weights.len() as u64,
-        (upto - from) as u64,
-        rated,
-        more,
-    )
-}
-
-// Refusals 11, then 1 to 7 with 20 and 21 before 4, the first that applies; 0 for none.
-pub fn refusal(
-    version: u64,
-    rule: Rule,
-    a: u64,
-    b: u64,
-    survival: &[u32],
-    weights: &[u16],
-    more: &[u64],
-    boards: &[u8],
-    switchboards: &[u32],
-    table: &[u64],
-) -> u64
-    ensures { λ r. ⌜ r ≡ figuresRefusal (askedOf version rule a b (now (survival .entry)) (now (weights .entry)) (now (more .entry)) (now (boards .entry)) (now (switchboards .entry))) (now (table .entry)) ⌝ }
-{
-    if refusals::version_out(version) {
-        return 11;
-    }
-    let n = survival.len();
-    let place = place_refusal(rule, a, b, n as u64);
-    if place != 0 {
-        return place;
-    }
-    let from = a as usize - 1;
-    let upto = b as usize;
-    let boarded = refusals::board_lists::refusal(
-        version,
-        n,
-        switchboards.len() as u64,
-        boards,
-        from,
-        upto,
-    );
-    if boarded != 0 {
-        return boarded;
-    }
-    let own = refusals::board_lists::numbers_read(version, switchboards);
-    let all = units::whole(units::is_decimal(version));
-    if numbers_out(all, &survival[from..upto], own) {
-        return 4;
-    }
-    let part = part_refusal(rule, a, b, n, weights, more);
-    if part != 0 {
-        return part;
-    }
-    if table.len() < CELLS {
-        return 7;
-    }
-    0
-}
 
 // Low and high of a stretch that is not refused, worked on that part of the lent lists where it stands. The table is left as it was worked.
 pub fn work(
@@ -171,7 +26,7 @@ pub fn work(
 {
     let start = a as usize - 1;
     let end = b as usize;
-    let rated = rated_weights(rule, survival.len(), weights, a, b);
+    let rated = asked::rated_weights(rule, survival.len(), weights, a, b);
     // lent anew, a list has no copy in memory at each call on the way here (docs/DECISIONS.md, "The two units")
     let placed = refusals::board_lists::boards_read(version, &boards[..], start, end);
     let own = refusals::board_lists::numbers_read(version, &switchboards[..]);
@@ -237,7 +92,7 @@ pub fn figures(
 ) -> Rating
     ensures { λ r. ⌜ Rated (askedOf version rule a b (now (survival .entry)) (now (weights .entry)) (now (more .entry)) (now (boards .entry)) (now (switchboards .entry))) (now (table .entry)) (now (table .exit)) r ⌝ }
 {
-    let refused = refusal(
+    let refused = asked::refusal(
         version,
         rule,
         a,

@@ -25,7 +25,7 @@ use Rattle.places.specs.declared.Ends.{Ends}
 use Rattle.places.specs.Cells.{Kept}
 use Rattle.doubles.specs.Floats.{bits, bitsOf}
 use Rattle.figures.specs.Outcome.{Worked}
-use Rattle.figures.proofs.Refused.{part-is}
+use Rattle.asked.proofs.Refused.{part-is}
 use Rattle.planning.specs.Outcome.{Filled}
 
 -- the floats that are read, as the code takes them

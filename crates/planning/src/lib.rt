@@ -75,7 +75,7 @@ pub fn refusal(
     ensures { λ r. ⌜ r ≡ plannedRefusal (plannedOf rule a b (bitsOf (now (survival .entry))) (now (weights .entry)) (now (more .entry))) (now (table .entry)) ⌝ }
 {
     let n = survival.len();
-    let place = figures::place_refusal(rule, a, b, n as u64);
+    let place = asked::place_refusal(rule, a, b, n as u64);
     if place != 0 {
         return place;
     }
@@ -85,7 +85,7 @@ pub fn refusal(
     if outside(floats) {
         return 18;
     }
-    let part = figures::part_refusal(rule, a, b, n, weights, more);
+    let part = asked::part_refusal(rule, a, b, n, weights, more);
     if part != 0 {
         return part;
     }

@@ -14,7 +14,7 @@ use Rattle.rules.specs.Stretch.{stretch}
 use Rattle.rules.specs.Answer.{unless, verdictOf}
 use Rattle.rules.specs.File as file
 use Rattle.rules.specs.File.{deckIn, systemIn}
-use Rattle.figures.specs.Outcome.{placeRefusal}
+use Rattle.asked.specs.Parts.{placeRefusal}
 use Rattle.deck.specs.declared.Deck.{Deck}
 use Rattle.deck.specs.Read.{noSystem}
 use Rattle.systems.specs.Arrays.{deckOf}

@@ -106,7 +106,7 @@ fn judge_part(system: System, weights: &[u16], state: u64) -> Verdict
     let rule = system.rule;
     let a = system.a;
     let b = system.b;
-    let refused = figures::place_refusal(rule, a, b, weights.len() as u64);
+    let refused = asked::place_refusal(rule, a, b, weights.len() as u64);
     if refused != 0 {
         return Verdict::Refused(refused);
     }

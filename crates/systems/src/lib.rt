@@ -33,7 +33,7 @@ fn rate_lists(
     let rule = system.rule;
     let a = system.a;
     let b = system.b;
-    let refused = figures::refusal(
+    let refused = asked::refusal(
         version,
         rule,
         a,

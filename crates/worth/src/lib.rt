@@ -33,7 +33,7 @@ pub fn refusal(
 ) -> u64
     ensures { λ r. ⌜ r ≡ worthRefusal (askedOf version rule a b (now (survival .entry)) (now (weights .entry)) (now (more .entry)) (now (boards .entry)) (now (switchboards .entry))) fan (now (table .entry)) ⌝ }
 {
-    let own = figures::refusal(
+    let own = asked::refusal(
         version,
         rule,
         a,

@@ -1,11 +1,40 @@
 -- `work` rates the part where it stands; without a refusal the part can be rated, and its figures are those asked for. Assumes nothing.
-use mathlib.Core.Path.{_∙_}
+use mathlib.Core.Path.{ap, _∙_}
 use mathlib.Core.Bool.{true, false}
+use mathlib.Core.List.{List}
+use Prim.Native.Nat.{ℕ, _-_}
 use native.Mathlib.Omega.{arith}
-use Rattle.figures.proofs.Refused.{part-is, inside, fits, listed, part-ratable, part-boarded, part-figure}
+use lib.ListN.{take, drop}
+use Rattle.rules.specs.Asked.{Asked, askedOf}
+use Rattle.rules.specs.Boards.{boardsRead}
+use Rattle.units.specs.Step.{whole}
+use Rattle.asked.proofs.Refused.{part-is}
+use Rattle.figures.proofs.Part.{Handed, inside, fits, listed, handed-able, handed-figure}
 use borrow.Author.Needs.{needs}
 use Rattle.figures.proofs.work.Statement.{statement}
 use Rattle.figures.proofs.work.Tie as tie
+
+-- what is asked, and the lists that are handed to the boards
+abbrev asked : tie.After-is-decimal → Asked
+asked c =
+    let x = c .before .before .before .before .before .before .before .before .before .before .args in
+    askedOf (x .version) (x .rule) (x .a) (x .b) (x .survival .now) (x .weights .now) (x .more .now) (x .boards .now) (x .switchboards .now)
+
+abbrev part : List ℕ → tie.After-is-decimal → List ℕ
+part xs c = let x = c .before .before .before .before .before .before .before .before .before .before .args in take (x .b - (x .a - 1)) (drop (x .a - 1) xs)
+
+handed : (c : tie.After-is-decimal)
+    → Handed (asked c) (whole (c .is-decimal .result)) (part (asked c .survival) c) (c .before .before .before .rated-weights .result .now) (c .before .before .boards-read .result .now) (c .before .numbers-read .result .now)
+handed c =
+    let x = c .before .before .before .before .before .before .before .before .before .before .args in
+    let three = inside _ _ (c .before .before .before .before .before .before .before .before .before .before .pre) in
+    record {
+      unit = c .is-decimal .ensures;
+      part = part-is (x .a) (x .b) _ (x .survival .now) three;
+      rated = c .before .before .before .rated-weights .ensures;
+      placed = c .before .before .boards-read .ensures ∙ ap (boardsRead (x .version)) (part-is (x .a) (x .b) _ (x .boards .now) three);
+      own = c .before .numbers-read .ensures;
+    }
 
 sub-start : tie.Need-sub-start
 sub-start c = omega (arith, fits _ _ (c .before .before .before .before .before .before .pre))
@@ -35,27 +64,16 @@ part-rate-end : tie.Need-part-rate-end
 part-rate-end c = omega (arith, fits _ _ (c .before .before .before .before .before .before .before .before .before .before .pre))
 
 rate-requires : tie.Need-rate-requires
-rate-requires c κs =
-    let x = c .before .before .before .before .before .before .before .before .before .before .before .before .args in
-    let three = inside _ _ (c .before .before .before .before .before .before .before .before .before .before .before .before .pre) in
-    rw (c .before .before .is-decimal .ensures, c .before .before .before .before .before .rated-weights .ensures, c .before .before .before .before .boards-read .ensures, c .before .before .before .numbers-read .ensures, part-is (x .a) (x .b) _ (x .survival .now) three, part-is (x .a) (x .b) _ (x .boards .now) three)
-    (part-ratable _ _ (c .before .before .before .before .before .before .before .before .before .before .before .before .pre), part-boarded _ _ (c .before .before .before .before .before .before .before .before .before .before .before .before .pre))
+rate-requires c κs = handed-able _ _ (c .before .before .before .before .before .before .before .before .before .before .before .before .pre) (handed (c .before .before))
 
 same-length : tie.Need-same-length
 same-length c = search needs
 
 returns : tie.Need-returns
 returns c =
-    let x = c .before .before .before .before .before .before .before .before .before .before .before .before .before .before .before .args in
-    let three = inside _ _ (c .before .before .before .before .before .before .before .before .before .before .before .before .before .before .before .pre) in
-    let e =
-    rw (c .before .before .before .before .before .is-decimal .ensures, c .before .before .before .before .before .before .before .before .rated-weights .ensures, c .before .before .before .before .before .before .before .boards-read .ensures, c .before .before .before .before .before .before .numbers-read .ensures, part-is (x .a) (x .b) _ (x .survival .now) three, part-is (x .a) (x .b) _ (x .boards .now) three)
-    at (c .before .before .rate .ensures) in
-    record {
-      low = e .0 .low ∙ part-figure _ _ (c .before .before .before .before .before .before .before .before .before .before .before .before .before .before .before .pre) false;
-      high = e .0 .high ∙ part-figure _ _ (c .before .before .before .before .before .before .before .before .before .before .before .before .before .before .before .pre) true;
-      kept = e .1;
-    }
+    let figure = handed-figure _ _ (c .before .before .before .before .before .before .before .before .before .before .before .before .before .before .before .pre) (handed (c .before .before .before .before .before)) in
+    let e = c .before .before .rate .ensures in
+    record { low = e .0 .low ∙ figure false; high = e .0 .high ∙ figure true; kept = e .1 }
 
 pub work-spec : {M : Type 1} → statement M
 work-spec =

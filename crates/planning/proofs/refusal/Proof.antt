@@ -13,8 +13,8 @@ use Rattle.rules.specs.Doubles.{Planned, plannedOf, askedIn, floatsOf, sizeIn, 
 use Rattle.rules.proofs.Accepted.{first-of, first-after}
 use Rattle.rules.proofs.Unless.{after-none, after-some}
 use Rattle.doubles.specs.Floats.{bits, bitsOf}
-use Rattle.figures.specs.Outcome.{placeRefusal, partRefusal}
-use Rattle.figures.proofs.Refused.{place-first, part-first, Placed, placed}
+use Rattle.asked.specs.Parts.{placeRefusal, partRefusal}
+use Rattle.asked.proofs.Refused.{place-first, part-first, Placed, placed}
 use Rattle.planning.proofs.Stretches.{floats-are}
 use Rattle.planning.proofs.refusal.Statement.{statement}
 use Rattle.planning.proofs.refusal.Tie as tie

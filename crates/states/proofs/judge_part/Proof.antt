@@ -10,8 +10,8 @@ use Rattle.rules.specs.Refusal.{most}
 use Rattle.rules.specs.Answer.{verdictOf}
 use Rattle.rules.proofs.EachKind.{within-true}
 use Rattle.rules.proofs.Unless.{unless-none, unless-some}
-use Rattle.figures.specs.Outcome.{placeRefusal}
-use Rattle.figures.proofs.Refused.{Placed, placed, part-is}
+use Rattle.asked.specs.Parts.{placeRefusal}
+use Rattle.asked.proofs.Refused.{Placed, placed, part-is}
 use Rattle.verdict.proofs.Outcome.{verdict-is}
 use Rattle.states.specs.States.{onDeck, partVerdict}
 use Rattle.states.proofs.Places.{few-places}

@@ -1,7 +1,7 @@
 -- `stretch_out` takes the tests of `badStretch` in their order. Assumes nothing.
 use borrow.Author.Tests.{eq-eqb, ne-eqb, lt-ltb, le-ltb}
-use Rattle.figures.proofs.stretch_out.Statement.{statement}
-use Rattle.figures.proofs.stretch_out.Tie as tie
+use Rattle.asked.proofs.stretch_out.Statement.{statement}
+use Rattle.asked.proofs.stretch_out.Tie as tie
 
 returns : tie.Need-returns
 returns c = simp (eq-eqb _ _ (c .if1 .taken))

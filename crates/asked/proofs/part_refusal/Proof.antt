@@ -7,10 +7,10 @@ use borrow.Author.Tests.{not-false}
 use Rattle.rules.specs.Below.{total}
 use Rattle.rules.proofs.EachKind.{within-true}
 use Rattle.refusals.specs.Shared.{ratedRefusal}
-use Rattle.figures.specs.Outcome.{partRefusal}
-use Rattle.figures.proofs.Refused.{own-is, rated-short, placed}
-use Rattle.figures.proofs.part_refusal.Statement.{statement}
-use Rattle.figures.proofs.part_refusal.Tie as tie
+use Rattle.asked.specs.Parts.{partRefusal}
+use Rattle.asked.proofs.Refused.{own-is, rated-short, placed}
+use Rattle.asked.proofs.part_refusal.Statement.{statement}
+use Rattle.asked.proofs.part_refusal.Tie as tie
 
 sub-from : tie.Need-sub-from
 sub-from c = omega (arith, placed _ _ _ _ (c .before .before .pre) .fits)

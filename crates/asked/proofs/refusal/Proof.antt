@@ -10,10 +10,10 @@ use Rattle.rules.specs.Refusal.{after, aboveUnit, shortTable, firstOf, figuresR
 use Rattle.rules.proofs.Accepted.{first-of, first-after}
 use Rattle.rules.proofs.Unless.{after-none, after-some}
 use Rattle.units.proofs.Laws.{whole-most}
-use Rattle.figures.specs.Outcome.{placeRefusal, partRefusal}
-use Rattle.figures.proofs.Refused.{part-is, part-first, Placed, placed, from4, from20, past-version, boards-first}
-use Rattle.figures.proofs.refusal.Statement.{statement}
-use Rattle.figures.proofs.refusal.Tie as tie
+use Rattle.asked.specs.Parts.{placeRefusal, partRefusal}
+use Rattle.asked.proofs.Refused.{part-is, part-first, Placed, placed, from4, from20, past-version, boards-first}
+use Rattle.asked.proofs.refusal.Statement.{statement}
+use Rattle.asked.proofs.refusal.Tie as tie
 
 -- what is asked, and its refusal, at each stage
 abbrev asked1 : tie.Else1 → Asked

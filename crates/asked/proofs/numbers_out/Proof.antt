@@ -3,8 +3,8 @@ use mathlib.Core.Path.{sym, ap, _∙_}
 use mathlib.Core.Bool.{_||_}
 use Rattle.rules.specs.Refusal.{someAbove}
 use borrow.Author.Needs.{needs}
-use Rattle.figures.proofs.numbers_out.Statement.{statement}
-use Rattle.figures.proofs.numbers_out.Tie as tie
+use Rattle.asked.proofs.numbers_out.Statement.{statement}
+use Rattle.asked.proofs.numbers_out.Tie as tie
 
 above-unit-requires : tie.Need-above-unit-requires
 above-unit-requires c κs = search needs

@@ -3,10 +3,10 @@ use borrow.Author.Needs.{needs}
 use native.Mathlib.Omega.{arith}
 use borrow.Author.Tests.{eq-eqb, ne-eqb}
 use Rattle.rules.proofs.Accepted.{in-stretch}
-use Rattle.figures.specs.Outcome.{ratedOf}
-use Rattle.figures.proofs.Refused.{part-is}
-use Rattle.figures.proofs.rated_weights.Statement.{statement}
-use Rattle.figures.proofs.rated_weights.Tie as tie
+use Rattle.asked.specs.Parts.{ratedOf}
+use Rattle.asked.proofs.Refused.{part-is}
+use Rattle.asked.proofs.rated_weights.Statement.{statement}
+use Rattle.asked.proofs.rated_weights.Tie as tie
 
 sub-result : tie.Need-sub-result
 sub-result c = search needs

@@ -11,8 +11,8 @@ use lib.ListN.{length, getD}
 use borrow.Author.Tests.{lt-ltb, le-ltb}
 use Rattle.rules.specs.Below.{some}
 use Rattle.rules.specs.Refusal.{someAbove}
-use Rattle.figures.proofs.above_unit.Statement.{statement}
-use Rattle.figures.proofs.above_unit.Tie as tie
+use Rattle.asked.proofs.above_unit.Statement.{statement}
+use Rattle.asked.proofs.above_unit.Tie as tie
 
 abbrev Inv-loop : tie.InvT-loop
 Inv-loop all survival most above₀ i₀ above i = (i ≤ length survival) × (above ≡ some (λ k. ltb most (getD survival k 0)) i)

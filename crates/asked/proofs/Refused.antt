@@ -1,5 +1,5 @@
 -- The refusal of the figures, as the code works it out: 11, then 1 to 3, then 20 and 21, then 4, then 5 and 6 over the weights that are rated and the further
--- pairs, then 7; and where there is none, the part can be rated. A list that the kind does not read changes nothing. Assumes nothing.
+-- pairs, then 7. Assumes nothing.
 use Prim.Native.Nat.{ℕ, suc, _-_, _≤_}
 use mathlib.Core.Path.{_≡_, refl, sym, ap, _∙_}
 use mathlib.Core.Bool.{Bool, true, false, cond, not}
@@ -12,18 +12,15 @@ use borrow.Author.Tests.{eqb-true, eqb-false, eq-eqb, ne-eqb}
 use Rattle.rules.specs.declared.Rule.{Rule}
 use Rattle.rules.specs.Below.{total}
 use Rattle.rules.specs.State.{besideOf}
-use Rattle.rules.specs.Boards.{hasBoards, behind, figureBehind}
 use Rattle.rules.specs.Stretch.{stretch}
-use Rattle.rules.specs.Asked.{Asked, unitIn, lengthOf, sizeOf, partOf, weightsOf, readOf, boardsOf, boardSurvivalOf, boardCount, roundedOf}
+use Rattle.rules.specs.Asked.{Asked, unitIn, lengthOf, sizeOf, partOf, weightsOf, readOf, boardsOf, boardSurvivalOf, boardCount}
 use Rattle.rules.specs.Refusal.{after, firstOf, badVersion, badKind, badSize, badStretch, badBoards, misplaced, aboveUnit, weightsOut, badWeights, ranged, inRange, shortTable, figuresRefusal}
-use Rattle.rules.specs.Accepted.{Boarded, Ratable}
 use Rattle.rules.proofs.Tests.{by-test}
-use Rattle.rules.proofs.Boards.{combined-same}
-use Rattle.rules.proofs.Accepted.{none-first, first-same, first-after, first-more, first-rest, in-stretch, figures-ratable, figures-boarded, weights-accepted}
-use Rattle.rules.proofs.Unread.{Unread, accepted-unread, unread-total, beside-range, unread-figure}
+use Rattle.rules.proofs.Accepted.{none-first, first-same, first-after, first-more, first-rest, in-stretch, weights-accepted}
+use Rattle.rules.proofs.Unread.{unread-total, beside-range}
 use Rattle.refusals.specs.Shared.{ratedRefusal, boardsRefusal}
 use Rattle.refusals.proofs.Laws.{boards-as-read}
-use Rattle.figures.specs.Outcome.{ratedOf, placeRefusal, partRefusal}
+use Rattle.asked.specs.Parts.{ratedOf, placeRefusal, partRefusal}
 
 -- the part as the code takes it
 pub part-is : (a b n : ℕ) (xs : List ℕ) → badStretch a b n ≡ false → take (b - (a - 1)) (drop (a - 1) xs) ≡ stretch a b xs
@@ -51,7 +48,7 @@ module _ (rule : Rule) (n : ℕ) (ws : List ℕ) (a b : ℕ) where
       ⊎-elim (λ s. rw (s .0)) (λ o. ⊎-elim (λ k. rw (eq-eqb (rule .kind) 2 (k .0), k .1)) (λ k. rw (ne-eqb (rule .kind) 2 k)) o) rated-by
 
   -- where kind 2 has as many as there are components, they are the stretch's, or the kind reads none
-  rated-same : (rule .kind ≡ 2 → length ws ≡ n) → (ratedOf rule n ws a b ≡ stretch a b ws) ⊎ (rule .kind ≡ 2 → ⊥)
+  pub rated-same : (rule .kind ≡ 2 → length ws ≡ n) → (ratedOf rule n ws a b ≡ stretch a b ws) ⊎ (rule .kind ≡ 2 → ⊥)
   rated-same listed = ⊎-elim (λ s. inl (s .0)) (λ o. ⊎-elim (λ k. absurd (eqb-false _ _ (k .1) (listed (k .0)))) inr o) rated-by
 
   six-same : (m : ℕ) (more : List ℕ) → badWeights rule n ws (stretch a b ws) ≡ false
@@ -99,13 +96,6 @@ placed rule a b n e =
     let three = none-first 2 _ _ (two .1) in
     record { kind = one .0; size = two .0; inside = three .0; fits = in-stretch a b n (three .0) }
 
--- the weights that the code hands on, and what is read with the rule then
-abbrev handed : Asked → List ℕ
-handed q = ratedOf (q .rule) (lengthOf q) (q .weights) (q .a) (q .b)
-
-abbrev read : Asked → List ℕ
-read q = besideOf (q .rule) (handed q) (q .more)
-
 -- what is left past 20 and 21, and past 1 to 3
 abbrev pub from4 : Asked → (table : List ℕ) → List (ℕ × Bool)
 from4 q table =
@@ -136,42 +126,3 @@ boards-first q table inside =
     ∙ ap (λ r. after r (firstOf (from4 q table)))
     (sym (ap (boardsRefusal (q .version) (lengthOf q) (length (q .boardSurvival)) (q .boards)) (part-is (q .a) (q .b) _ (q .boards) inside)
     ∙ boards-as-read (q .version) (lengthOf q) (q .boards) (stretch (q .a) (q .b) (q .boards)) (q .boardSurvival)))
-
--- no refusal: the part can be rated, and its figures are those asked for
-module _ (q : Asked) (table : List ℕ) (none : figuresRefusal q table ≡ 0) where
-  ratable : (badStretch (q .a) (q .b) (lengthOf q) ≡ false) × (q .rule .kind ≡ 2 → length (q .weights) ≡ lengthOf q) × Ratable (unitIn q) (q .rule) (partOf q) (readOf q) table
-  ratable = figures-ratable q table none
-
-  pub inside : badStretch (q .a) (q .b) (lengthOf q) ≡ false
-  inside = ratable .0
-
-  pub fits : (1 ≤ q .a) × (q .a ≤ q .b) × (q .b ≤ lengthOf q)
-  fits = in-stretch (q .a) (q .b) (lengthOf q) inside
-
-  same : (read q ≡ readOf q) ⊎ Unread (q .rule .kind)
-  same =
-      ⊎-elim (λ s. inl (ap (λ ws. besideOf (q .rule) ws (q .more)) s)) (λ not-two. by-eight not-two (eqb (q .rule .kind) 8) refl)
-      (rated-same (q .rule) (lengthOf q) (q .weights) (q .a) (q .b) (ratable .1))
-    where
-      by-eight : (q .rule .kind ≡ 2 → ⊥) → (b : Bool) → eqb (q .rule .kind) 8 ≡ b → (cond b (q .more) (handed q) ≡ cond b (q .more) (weightsOf q)) ⊎ Unread (q .rule .kind)
-      by-eight not-two true e = inl refl
-      by-eight not-two false e = inr (record { not-two = not-two; not-eight = eqb-false _ _ e })
-
-  pub part-ratable : Ratable (unitIn q) (q .rule) (partOf q) (read q) table
-  part-ratable =
-      let y = ratable .2 in
-      record { accepted = ⊎-elim (λ s. rw s (y .accepted)) (accepted-unread (y .accepted)) same; units = y .units; room = y .room }
-
-  pub part-figure : (up : Bool) → figureBehind up (unitIn q) (q .rule) (partOf q) (read q) (boardsOf q) (boardSurvivalOf q) ≡ roundedOf up q
-  part-figure up =
-      ⊎-elim (λ s. rw s)
-      (λ k. combined-same up (unitIn q) (boardSurvivalOf q) _ _
-      (λ out. unread-figure up (unitIn q) (q .rule) (behind (boardsOf q) out (partOf q)) (read q) (readOf q) k))
-      same
-
-  -- its boards can be combined, and there is a board number for each fan where the version has them
-  pub part-boarded : Boarded (unitIn q) (boardsOf q) (boardSurvivalOf q)
-  part-boarded = figures-boarded q table none .1
-
-  pub listed : hasBoards (q .version) ≡ true → q .b ≤ length (q .boards)
-  listed has = omega (arith, fits, figures-boarded q table none .0 has)

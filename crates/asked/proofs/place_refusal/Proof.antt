@@ -3,9 +3,9 @@ use borrow.Author.Needs.{needs}
 use mathlib.Core.Path.{sym, _∙_}
 use Rattle.rules.specs.Refusal.{firstOf}
 use Rattle.rules.proofs.Accepted.{first-of, first-after}
-use Rattle.figures.specs.Outcome.{placeRefusal}
-use Rattle.figures.proofs.place_refusal.Statement.{statement}
-use Rattle.figures.proofs.place_refusal.Tie as tie
+use Rattle.asked.specs.Parts.{placeRefusal}
+use Rattle.asked.proofs.place_refusal.Statement.{statement}
+use Rattle.asked.proofs.place_refusal.Tie as tie
 
 kind-out-requires : tie.Need-kind-out-requires
 kind-out-requires c κs = search needs

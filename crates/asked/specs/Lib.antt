@@ -1,0 +1,2 @@
+-- The parts of a rating's refusals.
+pub mod Parts
