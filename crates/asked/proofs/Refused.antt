@@ -18,8 +18,9 @@ use Rattle.rules.specs.Refusal.{after, firstOf, badVersion, badKind, badSize, b
 use Rattle.rules.proofs.Tests.{by-test}
 use Rattle.rules.proofs.Accepted.{none-first, first-same, first-after, first-more, first-rest, in-stretch, weights-accepted}
 use Rattle.rules.proofs.Unread.{unread-total, beside-range}
-use Rattle.refusals.specs.Shared.{ratedRefusal, boardsRefusal}
-use Rattle.refusals.proofs.Laws.{boards-as-read}
+use Rattle.refusals.specs.Shared.{ratedRefusal}
+use Rattle.board_lists.specs.Refused.{boardsRefusal}
+use Rattle.board_lists.proofs.Laws.{boards-as-read}
 use Rattle.asked.specs.Parts.{ratedOf, placeRefusal, partRefusal}
 
 -- the part as the code takes it

@@ -125,18 +125,11 @@ pub fn refusal(
     }
     let from = a as usize - 1;
     let upto = b as usize;
-    let boarded = refusals::board_lists::refusal(
-        version,
-        n,
-        switchboards.len() as u64,
-        boards,
-        from,
-        upto,
-    );
+    let boarded = board_lists::refusal(version, n, switchboards.len() as u64, boards, from, upto);
     if boarded != 0 {
         return boarded;
     }
-    let own = refusals::board_lists::numbers_read(version, switchboards);
+    let own = board_lists::numbers_read(version, switchboards);
     let all = units::whole(units::is_decimal(version));
     if numbers_out(all, &survival[from..upto], own) {
         return 4;

@@ -44,7 +44,7 @@ pub const SYSTEM_BYTES: usize = 10;
 pub fn header_length(version: u64) -> usize
     ensures { λ r. ⌜ (r ≡ headerLength version) × (r < 2 ^ 16) ⌝ }
 {
-    if refusals::board_lists::has_boards(version) {
+    if board_lists::has_boards(version) {
         return LONGER_HEADER;
     }
     SHORTEST_HEADER
@@ -54,7 +54,7 @@ pub fn header_length(version: u64) -> usize
 pub fn board_fans(version: u64, n: usize) -> usize
     ensures { λ r. ⌜ (r ≡ boardFans version n) × (r ≤ n) ⌝ }
 {
-    if refusals::board_lists::has_boards(version) {
+    if board_lists::has_boards(version) {
         return n;
     }
     0

@@ -53,7 +53,7 @@ pub fn boards_given(bytes: &[u8]) -> usize
     ensures { λ r. ⌜ (r ≡ boardCountIn (now (bytes .entry))) × (r < 2 ^ 32) ⌝ }
 {
     let version = number::number2(bytes, layout::VERSION_FIELD);
-    if refusals::board_lists::has_boards(version) {
+    if board_lists::has_boards(version) {
         return number::number4(bytes, layout::BOARD_COUNT_FIELD) as usize;
     }
     0
@@ -86,7 +86,7 @@ pub fn counts_refusal(bytes: &[u8]) -> u64
     }
     let version = number::number2(bytes, layout::VERSION_FIELD);
     let g = boards_given(bytes);
-    if refusals::board_lists::boards_out(version, g as u64) {
+    if board_lists::boards_out(version, g as u64) {
         return 20;
     }
     0
@@ -98,7 +98,7 @@ fn boards_elsewhere(bytes: &[u8]) -> bool
     ensures { λ r. ⌜ r ≡ boardsElsewhere (now (bytes .entry)) ⌝ }
 {
     let version = number::number2(bytes, layout::VERSION_FIELD);
-    if refusals::board_lists::has_boards(version) {
+    if board_lists::has_boards(version) {
         let n = number::number2(bytes, layout::FANS_FIELD) as usize;
         let from = layout::boards_offset(version, n);
         return number::number4(bytes, layout::BOARDS_FIELD) as usize != from;
@@ -152,7 +152,7 @@ fn misplaced(bytes: &[u8]) -> bool
     let n = number::number2(bytes, layout::FANS_FIELD) as usize;
     let g = boards_given(bytes);
     let boards = board_bytes(bytes, version, n);
-    refusals::board_lists::misplaced(version, n, g as u64, boards, 0, n)
+    board_lists::misplaced(version, n, g as u64, boards, 0, n)
 }
 
 // A file's refusal, checked 10, 11, 10 again, 2, 12, 20, 13, 21; 0 where there is none.

@@ -28,8 +28,8 @@ pub fn work(
     let end = b as usize;
     let rated = asked::rated_weights(rule, survival.len(), weights, a, b);
     // lent anew, a list has no copy in memory at each call on the way here (docs/DECISIONS.md, "The two units")
-    let placed = refusals::board_lists::boards_read(version, &boards[..], start, end);
-    let own = refusals::board_lists::numbers_read(version, &switchboards[..]);
+    let placed = board_lists::boards_read(version, &boards[..], start, end);
+    let own = board_lists::numbers_read(version, &switchboards[..]);
     let decimal = units::is_decimal(version);
     boards::rate(
         decimal,

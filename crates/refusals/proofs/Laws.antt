@@ -1,25 +1,23 @@
 -- What the refusals 1, 2, 5 and 6 share: a call's refusal is theirs followed by its own, each kind's row of the column "range", and a rule that none of
 -- them meets is `Accepted`. By cases on the tests; the rows are taken at a number. Assumes nothing.
-use mathlib.Core.Path.{_≡_, refl, subst, _∙_}
-use mathlib.Core.Bool.{Bool, true, false, cond, not, _&&_, _||_}
+use mathlib.Core.Path.{_≡_, refl, subst}
+use mathlib.Core.Bool.{Bool, true, false, cond, not}
 use mathlib.Core.Logic.{_⊎_, inl, inr}
 use mathlib.Core.List.{List, [], _∷_}
 use Prim.Native.Nat.{ℕ, suc, _≤_, _<_}
 use native.Mathlib.Omega.{arith}
 use native.Mathlib.Nat.{eq-or-lt-of-le, le-antisymm}
-use lib.Dec.{eqb}
 use lib.ListN.{length}
-use borrow.Author.Tests.{eqb-true, eq-eqb, ne-eqb}
+use borrow.Author.Tests.{eqb-true}
 use Rattle.rules.specs.declared.Rule.{Rule}
-use Rattle.rules.specs.Below.{total, within}
+use Rattle.rules.specs.Below.{total}
 use Rattle.rules.specs.State.{ruleOf, besideOf}
-use Rattle.rules.specs.Boards.{hasBoards, boardsRead}
-use Rattle.rules.specs.Refusal.{after, someAbove, mostBoards, badBoards, misplaced, rangeOne, badKind, notCounted, badSize, badWeights, ranged, inRange, firstOf, highOne, shortTable, shortRoom, verdictRefusal, countRefusal}
+use Rattle.rules.specs.Refusal.{after, rangeOne, badKind, notCounted, badSize, badWeights, ranged, inRange, firstOf, highOne, shortTable, shortRoom, verdictRefusal, countRefusal}
 use Rattle.rules.specs.Accepted.{Accepted}
 use Rattle.rules.proofs.EachKind.{range-kind}
-use Rattle.rules.proofs.Accepted.{none-first, first-after, rule-accepted}
+use Rattle.rules.proofs.Accepted.{none-first, rule-accepted}
 use Rattle.rules.proofs.Unread.{beside-range}
-use Rattle.refusals.specs.Shared.{ratedRefusal, ruleRefusal, boardsRefusal}
+use Rattle.refusals.specs.Shared.{ratedRefusal, ruleRefusal}
 
 -- ---- one refusal after another
 
@@ -101,50 +99,3 @@ module _ (rule : Rule) (n t : ℕ) (more : List ℕ) where
           let l = h (k .0) in
           absurd (omega arith)
       go false e = e
-
--- no condition left
-pub none-left : firstOf [] ≡ 0
-unfolding firstOf
-none-left = refl
-
--- ---- 20 and 21, and what is read, by whether the version has boards
-
-pub read-some : (version : ℕ) (xs : List ℕ) → hasBoards version ≡ true → boardsRead version xs ≡ xs
-read-some version xs e = rw e
-
-pub read-none : (version : ℕ) (xs : List ℕ) → hasBoards version ≡ false → boardsRead version xs ≡ []
-read-none version xs e = rw e
-
--- of lists as they are lent, and as they are read
-pub boards-as-read : (version n : ℕ) (boards rated numbers : List ℕ)
-    → boardsRefusal version n (length numbers) boards rated ≡ boardsRefusal version n (length (boardsRead version numbers)) boards (boardsRead version rated)
-unfolding boardsRefusal
-boards-as-read version n boards rated numbers = go (hasBoards version)
-  where
-    go : (b : Bool)
-        → firstOf ((20, b && not (within 1 (length numbers) mostBoards)) ∷ (21, b && (not (eqb (length boards) n) || someAbove (length numbers) rated)) ∷ [])
-        ≡ firstOf ((20, b && not (within 1 (length (cond b numbers [])) mostBoards))
-        ∷ (21, b && (not (eqb (length boards) n) || someAbove (length (cond b numbers [])) (cond b rated []))) ∷ [])
-    go true = refl
-    go false = refl
-
-module _ (version g : ℕ) where
-  pub boards-some : hasBoards version ≡ true → badBoards version g ≡ not (within 1 g mostBoards)
-  boards-some e = rw e
-
-  pub boards-none : hasBoards version ≡ false → badBoards version g ≡ false
-  boards-none e = rw e
-
-  module _ (n : ℕ) (boards rated : List ℕ) where
-    pub misplaced-length : hasBoards version ≡ true → (length boards ≡ n → ⊥) → misplaced version n g boards rated ≡ true
-    misplaced-length e ne = rw (e, ne-eqb (length boards) n ne)
-
-    pub misplaced-above : hasBoards version ≡ true → length boards ≡ n → misplaced version n g boards rated ≡ someAbove g rated
-    misplaced-above e same = rw (e, eq-eqb (length boards) n same)
-
-    pub misplaced-none : hasBoards version ≡ false → misplaced version n g boards rated ≡ false
-    misplaced-none e = rw e
-
-    pub refused-none : hasBoards version ≡ false → boardsRefusal version n g boards rated ≡ 0
-    unfolding boardsRefusal
-    refused-none e = first-after 20 _ _ (boards-none e) ∙ first-after 21 _ [] (misplaced-none e) ∙ none-left

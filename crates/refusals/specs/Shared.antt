@@ -1,10 +1,10 @@
--- Refusals 5 and 6 over the total weight as a number, the refusals 1, 2, 5 and 6 that the verdict and the count table begin with, and 20 and 21.
+-- Refusals 5 and 6 over the total weight as a number, and the refusals 1, 2, 5 and 6 that the verdict and the count table begin with.
 use mathlib.Core.Bool.{not}
 use mathlib.Core.List.{List, [], _∷_}
 use Prim.Native.Nat.{ℕ, _^_, _-_}
 use Rattle.rules.specs.declared.Rule.{Rule}
 use Rattle.rules.specs.State.{besideOf}
-use Rattle.rules.specs.Refusal.{badKind, badSize, badBoards, misplaced, weightsOut, badWeights, ranged, inRange, firstOf}
+use Rattle.rules.specs.Refusal.{badKind, badSize, weightsOut, badWeights, ranged, inRange, firstOf}
 
 -- the largest weight that 16 bits hold
 abbrev pub largest : ℕ
@@ -24,7 +24,3 @@ ruleRefusal rule n weights more =
     ∷ (5, badWeights rule n weights weights)
     ∷ (6, not (inRange rule n (besideOf rule weights more)))
     ∷ [])
-
--- 20 and 21
-unfoldable pub boardsRefusal : (version n g : ℕ) (boards rated : List ℕ) → ℕ
-boardsRefusal version n g boards rated = firstOf ((20, badBoards version g) ∷ (21, misplaced version n g boards rated) ∷ [])

@@ -1,5 +1,4 @@
-// The refusals that several calls share: 11, 1, 2, 5 and 6 of document 01's table, 20 and 21.
-pub mod board_lists; // board_lists.rt: which versions have boards, 20 and 21
+// The refusals that several calls share: 11, 1, 2, 5 and 6 of document 01's table.
 mod pairs; // pairs.rt: kind 8's pairs
 
 ghost use mathlib.Core.Bool.{not};

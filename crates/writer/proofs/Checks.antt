@@ -12,7 +12,7 @@ use borrow.Author.Tests.{eqb-true}
 use Rattle.rules.specs.Refusal.{badVersion, badSize, badBoards, misplaced, firstOf, after}
 use Rattle.rules.specs.Writing.{Typed, unpaired, badFives, shortFor, writeRefusal}
 use Rattle.rules.proofs.Accepted.{none-first, first-after}
-use Rattle.refusals.specs.Shared.{boardsRefusal}
+use Rattle.board_lists.specs.Refused.{boardsRefusal}
 
 boards-first : (b c : Bool) (rest : List (ℕ × Bool)) → firstOf ((20, b) ∷ (21, c) ∷ rest) ≡ after (firstOf ((20, b) ∷ (21, c) ∷ [])) (firstOf rest)
 unfolding firstOf after

@@ -30,7 +30,7 @@ fn file_size(version: u64, n: usize, switchboards: &[u32], systems: &[u16]) -> u
     requires { ⌜ Sized version n (now switchboards) (now systems) ⌝ }
     ensures { λ r. ⌜ r ≡ fileLength version n (length (boardsRead version (now (switchboards .entry)))) (length (now (systems .entry)) / perSystem) ⌝ }
 {
-    let own = refusals::board_lists::numbers_read(version, switchboards);
+    let own = board_lists::numbers_read(version, switchboards);
     layout::file_length(version, n, own.len(), systems.len() / PER_SYSTEM)
 }
 
@@ -61,14 +61,7 @@ fn refusal(
     if bad_systems {
         return 12;
     }
-    let boarded = refusals::board_lists::refusal(
-        version,
-        n,
-        switchboards.len() as u64,
-        boards,
-        0,
-        n,
-    );
+    let boarded = board_lists::refusal(version, n, switchboards.len() as u64, boards, 0, n);
     if boarded != 0 {
         return boarded;
     }
@@ -94,7 +87,7 @@ pub fn put_header(version: u64, n: usize, g: usize, m: usize, room: &mut [u8])
     let boards = layout::boards_offset(version, n) as u32;
     let last = [g as u32, boards];
     bytes::put_all4(
-        refusals::board_lists::numbers_read(version, &last),
+        board_lists::numbers_read(version, &last),
         room,
         layout::BOARD_COUNT_FIELD,
     );
@@ -114,8 +107,8 @@ fn put_file(
     ensures { λ _. ⌜ now (room .exit) ≡ laid 0 (bytesFor (typedOf version (now (survival .entry)) (now (weights .entry)) (now (boards .entry)) (now (switchboards .entry)) (now (systems .entry)))) (now (room .entry)) ⌝ }
 {
     let n = survival.len();
-    let placed = refusals::board_lists::boards_read(version, boards, 0, n);
-    let own = refusals::board_lists::numbers_read(version, switchboards);
+    let placed = board_lists::boards_read(version, boards, 0, n);
+    let own = board_lists::numbers_read(version, switchboards);
     put_header(version, n, own.len(), systems.len() / PER_SYSTEM, room);
     bytes::put_all4(survival, room, layout::header_length(version));
     bytes::put_all2(weights, room, layout::weights_offset(version, n));

@@ -9,7 +9,7 @@ use Rattle.rules.specs.Writing.{typedOf, writeRefusal}
 use Rattle.rules.proofs.EachKind.{within-true}
 use Rattle.rules.proofs.Unless.{after-none, after-some}
 use Rattle.rules.proofs.Accepted.{first-of, first-after}
-use Rattle.refusals.proofs.Laws.{none-left}
+use Rattle.board_lists.proofs.Laws.{none-left}
 use Rattle.writer.proofs.Writable.{bytes-long, few-typed, fans-typed, fives}
 use Rattle.writer.proofs.Checks.{boards-are, typed-sound}
 use borrow.Author.Needs.{needs}

@@ -1,12 +1,12 @@
--- `refusals::board_lists::misplaced` meets its contract: the board list's length, then the rated fans' numbers. Assumes nothing.
+-- `misplaced` meets its contract: the board list's length, then the rated fans' numbers. Assumes nothing.
 use mathlib.Core.Path.{sym, _∙_}
 use Prim.Native.Nat.{_-_}
 use native.Mathlib.Omega.{arith}
 use lib.ListN.{take, drop}
 use borrow.Author.Needs.{needs}
-use Rattle.refusals.proofs.Laws.{misplaced-length, misplaced-above, misplaced-none}
-use Rattle.refusals.proofs.board_lists.misplaced.Statement.{statement}
-use Rattle.refusals.proofs.board_lists.misplaced.Tie as tie
+use Rattle.board_lists.proofs.Laws.{misplaced-length, misplaced-above, misplaced-none}
+use Rattle.board_lists.proofs.misplaced.Statement.{statement}
+use Rattle.board_lists.proofs.misplaced.Tie as tie
 
 has-boards-requires : tie.Need-has-boards-requires
 has-boards-requires c κs = search needs

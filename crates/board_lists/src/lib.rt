@@ -5,8 +5,8 @@ ghost use Prim.Native.Nat.{_-_, _≤_};
 ghost use lib.ListN.{length, take, drop};
 ghost use Rattle.rules.specs.Boards.{hasBoards, boardsRead};
 ghost use Rattle.rules.specs.Refusal.{someAbove, badBoards, misplaced};
-ghost use Rattle.refusals.specs.Shared.{boardsRefusal};
-use crate::outside;
+ghost use Rattle.board_lists.specs.Refused.{boardsRefusal};
+use refusals::outside;
 
 // The version that has boards, and the most boards of a deck.
 const BOARDS_VERSION: u64 = 3;

@@ -1,9 +1,9 @@
--- `refusals::board_lists::numbers_read` meets its contract. Assumes nothing.
+-- `numbers_read` meets its contract. Assumes nothing.
 use mathlib.Core.Path.{sym, _∙_}
-use Rattle.refusals.proofs.Laws.{read-some, read-none}
+use Rattle.board_lists.proofs.Laws.{read-some, read-none}
 use borrow.Author.Needs.{needs}
-use Rattle.refusals.proofs.board_lists.numbers_read.Statement.{statement}
-use Rattle.refusals.proofs.board_lists.numbers_read.Tie as tie
+use Rattle.board_lists.proofs.numbers_read.Statement.{statement}
+use Rattle.board_lists.proofs.numbers_read.Tie as tie
 
 has-boards-requires : tie.Need-has-boards-requires
 has-boards-requires c κs = search needs

@@ -1,9 +1,9 @@
--- `refusals::board_lists::boards_out` meets its contract: a version without boards is not refused for their number. Assumes nothing.
+-- `boards_out` meets its contract: a version without boards is not refused for their number. Assumes nothing.
 use mathlib.Core.Path.{sym, _∙_}
 use borrow.Author.Needs.{needs}
-use Rattle.refusals.proofs.Laws.{boards-some, boards-none}
-use Rattle.refusals.proofs.board_lists.boards_out.Statement.{statement}
-use Rattle.refusals.proofs.board_lists.boards_out.Tie as tie
+use Rattle.board_lists.proofs.Laws.{boards-some, boards-none}
+use Rattle.board_lists.proofs.boards_out.Statement.{statement}
+use Rattle.board_lists.proofs.boards_out.Tie as tie
 
 has-boards-requires : tie.Need-has-boards-requires
 has-boards-requires c κs = search needs

@@ -1,15 +1,15 @@
--- `refusals::board_lists::refusal` meets its contract: neither in a version without boards; else 20, then 21. Assumes nothing.
+-- `refusal` meets its contract: neither in a version without boards; else 20, then 21. Assumes nothing.
 use mathlib.Core.Path.{sym, _∙_}
 use mathlib.Core.List.{[]}
 use Prim.Native.Nat.{_-_}
 use lib.ListN.{take, drop}
 use Rattle.rules.proofs.Accepted.{first-of, first-after}
-use Rattle.refusals.specs.Shared.{boardsRefusal}
-use Rattle.refusals.proofs.Laws.{refused-none, none-left}
+use Rattle.board_lists.specs.Refused.{boardsRefusal}
+use Rattle.board_lists.proofs.Laws.{refused-none, none-left}
 use borrow.Author.Needs.{needs}
 use borrow.Author.Tests.{not-true}
-use Rattle.refusals.proofs.board_lists.refusal.Statement.{statement}
-use Rattle.refusals.proofs.board_lists.refusal.Tie as tie
+use Rattle.board_lists.proofs.refusal.Statement.{statement}
+use Rattle.board_lists.proofs.refusal.Tie as tie
 
 has-boards-requires : tie.Need-has-boards-requires
 has-boards-requires c κs = search needs

@@ -1,12 +1,12 @@
--- `refusals::board_lists::boards_read` meets its contract. Assumes nothing.
+-- `boards_read` meets its contract. Assumes nothing.
 use mathlib.Core.Path.{sym, _∙_}
 use Prim.Native.Nat.{_-_}
 use native.Mathlib.Omega.{arith}
 use lib.ListN.{take, drop}
-use Rattle.refusals.proofs.Laws.{read-some, read-none}
+use Rattle.board_lists.proofs.Laws.{read-some, read-none}
 use borrow.Author.Needs.{needs}
-use Rattle.refusals.proofs.board_lists.boards_read.Statement.{statement}
-use Rattle.refusals.proofs.board_lists.boards_read.Tie as tie
+use Rattle.board_lists.proofs.boards_read.Statement.{statement}
+use Rattle.board_lists.proofs.boards_read.Tie as tie
 
 has-boards-requires : tie.Need-has-boards-requires
 has-boards-requires c κs = search needs

@@ -1,4 +1,4 @@
--- `refusals::board_lists::some_above` meets its contract: none of the numbers that were passed is above the limit. Assumes nothing.
+-- `some_above` meets its contract: none of the numbers that were passed is above the limit. Assumes nothing.
 use Prim.Native.Nat.{_-_, _≤_}
 use mathlib.Core.Path.{_≡_, refl, sym}
 use mathlib.Core.Bool.{false}
@@ -11,8 +11,8 @@ use borrow.Author.Tests.{lt-ltb, le-ltb}
 use Rattle.rules.specs.Below.{some}
 use Rattle.rules.specs.Refusal.{someAbove}
 use Rattle.rules.proofs.Windows.{some-found}
-use Rattle.refusals.proofs.board_lists.some_above.Statement.{statement}
-use Rattle.refusals.proofs.board_lists.some_above.Tie as tie
+use Rattle.board_lists.proofs.some_above.Statement.{statement}
+use Rattle.board_lists.proofs.some_above.Tie as tie
 
 abbrev Inv-loop : tie.InvT-loop
 Inv-loop g boards i₀ i = (i ≤ length boards) × (some (λ k. ltb g (getD boards k 0)) i ≡ false)

@@ -1,0 +1,2 @@
+-- What the refusals of boards' lists share.
+pub mod Laws
