@@ -15,12 +15,12 @@ use Rattle.rules.specs.State.{numberOf}
 use Rattle.rules.specs.Memory.{Row, Memory, live, dead, below, moved, ended, row1}
 use Rattle.rules.specs.Refusal.{most, heaviest, cells}
 use Rattle.rules.proofs.Sums.{sum-same}
-use Rattle.counts.specs.From.{from, shift}
-use Rattle.counts.specs.Cells.{Stored, Outside}
+use Rattle.bins.specs.From.{from, shift}
+use Rattle.bins.specs.Cells.{Stored, Outside}
 use Rattle.counts.specs.Sums.{lighter, cellAt, Sums, Weighed, Addable, Turnable, Turned}
-use Rattle.counts.proofs.Cells.{below-or, outside-none, outside-then, outside-wider}
-use Rattle.counts.proofs.From.{from-end, from-above, from-zero, from-suc, from-fits}
-use Rattle.counts.proofs.InARow.{shift-at, shift-past, sum-past}
+use Rattle.bins.proofs.Cells.{below-or, outside-none, outside-then, outside-wider}
+use Rattle.bins.proofs.From.{from-end, from-above, from-zero, from-suc, from-fits}
+use Rattle.bins.proofs.InARow.{shift-at, shift-past, sum-past}
 
 -- what the components from i on add up to
 pub total-drop : (i : ℕ) (xs : List ℕ) → i < length xs → total (drop i xs) ≡ getD xs i 0 + total (drop (i + 1) xs)

@@ -12,12 +12,16 @@ use Rattle.rules.specs.Memory.{live, lead, pair, moved, ended, row6, row7, fail
 use Rattle.rules.proofs.Words.{count-above}
 use Rattle.pascal.specs.Ways.{waysOf}
 use Rattle.pascal.proofs.Triangle.{ways-sum, ways-first}
-use Rattle.counts.specs.From.{from, line6}
+use Rattle.bins.specs.From.{from}
 use Rattle.counts.specs.Ways.{apartOf, ringOf}
-use Rattle.counts.proofs.Cells.{below-or}
-use Rattle.counts.proofs.From.{from-end, from-above, from-zero, from-suc, from-dead, from-fits}
+use Rattle.bins.proofs.Cells.{below-or}
+use Rattle.bins.proofs.From.{from-end, from-above, from-zero, from-suc, from-dead, from-fits}
 
 -- ---- kind 6
+
+-- its line, read from memory 0
+abbrev pub line6 : (r i j : ℕ) → ℕ
+line6 r i j = from (row6 r) (live 0) i j
 
 -- Pascal's rule over what c components leave, none of them where there are no more
 ways-after : (i c j : ℕ) → waysOf (suc i - c) (suc (suc j)) ≡ waysOf (i - c) (suc j) + waysOf (i - c) (suc (suc j))

@@ -19,7 +19,7 @@ use Rattle.rules.proofs.Answer.{counts}
 use Rattle.refusals.proofs.Laws.{count-after, accepted}
 use Rattle.counts.specs.Tally.{refusalOf, Countable, Tallied}
 use Rattle.counts.specs.Outcome.{Outcome}
-use Rattle.counts.proofs.Cells.{outside-drop, stored-list}
+use Rattle.bins.proofs.Cells.{outside-drop, stored-list}
 
 neither-refused : (b : Bool) (next : ℕ) → cond b 15 next ≡ 0 → (b ≡ false) × (next ≡ 0)
 neither-refused true next e = absurd (omega arith)

@@ -16,15 +16,15 @@ use Rattle.rules.proofs.Accepted.{range2, range4, range5, range6, range7}
 use Rattle.rules.proofs.Conditions.{count-by-reading}
 use Rattle.rules.proofs.EachKind.{each-kind}
 use Rattle.pascal.proofs.Triangle.{count-fit}
-use Rattle.counts.specs.From.{from, line4, bins}
+use Rattle.bins.specs.From.{from, line4, bins}
 use Rattle.counts.specs.Ways.{entryOf, Spread}
-use Rattle.counts.specs.Bins.{Sized, Made}
+use Rattle.bins.specs.Bins.{Sized, Made}
 use Rattle.counts.specs.Sums.{Weighed, Added}
 use Rattle.counts.specs.Tally.{entryAt, OnTable, Workable, Worked, Layable}
-use Rattle.counts.proofs.Cells.{below-or}
+use Rattle.bins.proofs.Cells.{below-or}
 use Rattle.counts.proofs.Apart.{line6-is, ring7-is}
-use Rattle.counts.proofs.InARow.{ring5-is, ring5-all}
-use Rattle.counts.proofs.Filling.{around-is}
+use Rattle.bins.proofs.InARow.{ring5-is, ring5-all}
+use Rattle.bins.proofs.Filling.{around-is}
 use Rattle.counts.proofs.ByNumber.{entry-count}
 
 -- ---- by Pascal's table

@@ -1,10 +1,6 @@
 -- The laws that the functions' proofs share, and `Outcome`: the contract allows one outcome.
-pub mod Cells
-pub mod From
 pub mod ByNumber
 pub mod Apart
-pub mod InARow
-pub mod Filling
 pub mod Adding
 pub mod Entries
 pub mod Call

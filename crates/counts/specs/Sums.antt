@@ -9,8 +9,8 @@ use Rattle.rules.specs.Below.{sumBelow, total}
 use Rattle.rules.specs.State.{numberOf}
 use Rattle.rules.specs.Memory.{below, row1}
 use Rattle.rules.specs.Refusal.{most, heaviest, cells}
-use Rattle.counts.specs.From.{from}
-use Rattle.counts.specs.Cells.{Outside}
+use Rattle.bins.specs.From.{from}
+use Rattle.bins.specs.Cells.{Outside}
 
 -- the states that weigh less than c: as read from the sum k - c, which leaves c to k
 abbrev pub lighter : (k : ℕ) (weights : List ℕ) (i j c : ℕ) → ℕ

@@ -12,8 +12,8 @@ use Rattle.rules.specs.Count.{countOf}
 use Rattle.rules.specs.Refusal.{after, most, heaviest, cells, notCounted}
 use Rattle.rules.specs.Accepted.{Accepted}
 use Rattle.refusals.specs.Shared.{ruleRefusal}
-use Rattle.counts.specs.Cells.{Outside, Stored}
-use Rattle.counts.specs.Bins.{width, aroundAt}
+use Rattle.bins.specs.Cells.{Outside, Stored}
+use Rattle.bins.specs.Bins.{width, aroundAt}
 use Rattle.counts.specs.Sums.{cellAt}
 
 -- the call's refusal, by the lengths of the lent tables

@@ -2,9 +2,8 @@
 ghost use mathlib.Core.Path.{_≡_};
 ghost use Prim.Native.Nat.{suc, _≤_, _<_};
 ghost use lib.ListN.{length};
-ghost use Rattle.counts.specs.Cells.{Stored};
+ghost use Rattle.bins.specs.Cells.{Stored};
 ghost use Rattle.counts.specs.Tally.{entryAt, Workable, Worked, Layable};
-use crate::bins;
 use crate::sums;
 use rules::Rule;
 

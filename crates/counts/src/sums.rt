@@ -4,9 +4,9 @@ ghost use Prim.Native.Nat.{_+_, _-_, _≤_, _<_, min};
 ghost use lib.ListN.{length, getD, set};
 ghost use Rattle.rules.specs.Below.{sumBelow};
 ghost use Rattle.rules.specs.Refusal.{heaviest};
-ghost use Rattle.counts.specs.Cells.{Stored};
+ghost use Rattle.bins.specs.Cells.{Stored};
 ghost use Rattle.counts.specs.Sums.{Weighed, Added, Raisable, Addable, Turnable, Turned, Summable};
-use crate::cut;
+use bins::cut;
 
 // How far apart the rows stand: k is at most the heaviest total, and k itself is dead.
 pub const WIDTH: usize = 120;

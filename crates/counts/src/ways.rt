@@ -5,9 +5,9 @@ ghost use Prim.Native.Nat.{suc, _-_, _*_, _≤_, _<_};
 ghost use lib.ListN.{length};
 ghost use Rattle.pascal.specs.Ways.{waysOf};
 ghost use Rattle.pascal.specs.Folded.{foldedRule};
-ghost use Rattle.counts.specs.Cells.{Stored};
+ghost use Rattle.bins.specs.Cells.{Stored};
 ghost use Rattle.counts.specs.Ways.{failsAt, apartOf, ringOf, entryOf, Spread, Lookup};
-use crate::cut;
+use bins::cut;
 use rules::Rule;
 
 // Kinds 1 and 3: do the states with j failed fail?

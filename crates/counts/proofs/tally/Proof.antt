@@ -1,7 +1,7 @@
 -- `tally` hands each kind to what counts it, and lays what the worked table holds. Assumes nothing.
 use mathlib.Core.Logic.{inl, inr, ⊎-elim}
 use native.Mathlib.Omega.{arith}
-use Rattle.counts.proofs.Cells.{outside-none, stored-same}
+use Rattle.bins.proofs.Cells.{outside-none, stored-same}
 use Rattle.counts.proofs.Entries.{OnWays, on-table, spread, ways-count, layable}
 use borrow.Author.Needs.{needs}
 use Rattle.counts.proofs.tally.Statement.{statement}

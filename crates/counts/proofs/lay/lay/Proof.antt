@@ -3,9 +3,9 @@ use mathlib.Core.Path.{_≡_}
 use Prim.Native.Nat.{suc, _+_, _-_, _≤_, _<_}
 use native.Mathlib.Omega.{arith}
 use lib.ListN.{length, length-set}
-use Rattle.counts.specs.Cells.{Stored}
+use Rattle.bins.specs.Cells.{Stored}
 use Rattle.counts.specs.Tally.{entryAt}
-use Rattle.counts.proofs.Cells.{stored-none, stored-up}
+use Rattle.bins.proofs.Cells.{stored-none, stored-up}
 use borrow.Author.Needs.{needs}
 use Rattle.counts.proofs.lay.lay.Statement.{statement}
 use Rattle.counts.proofs.lay.lay.Tie as tie

@@ -3,9 +3,9 @@ use mathlib.Core.Path.{_≡_, refl}
 use Prim.Native.Nat.{_+_, _-_, _≤_}
 use native.Mathlib.Omega.{arith}
 use lib.ListN.{getD}
-use Rattle.counts.specs.Cells.{Stored}
+use Rattle.bins.specs.Cells.{Stored}
 use Rattle.counts.specs.Sums.{Addable}
-use Rattle.counts.proofs.Cells.{stored-none, stored-up}
+use Rattle.bins.proofs.Cells.{stored-none, stored-up}
 use Rattle.counts.proofs.Adding.{add-cell}
 use borrow.Author.Needs.{needs}
 use Rattle.counts.proofs.sums.add.Statement.{statement}

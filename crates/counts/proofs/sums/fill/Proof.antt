@@ -5,9 +5,9 @@ use native.Mathlib.Omega.{arith}
 use lib.ListN.{length, drop}
 use Rattle.rules.specs.Below.{total}
 use Rattle.rules.specs.Refusal.{heaviest, cells}
-use Rattle.counts.specs.Cells.{Outside}
+use Rattle.bins.specs.Cells.{Outside}
 use Rattle.counts.specs.Sums.{Weighed, Sums}
-use Rattle.counts.proofs.Cells.{outside-none, outside-then, one-first}
+use Rattle.bins.proofs.Cells.{outside-none, outside-then, one-first}
 use Rattle.counts.proofs.Adding.{total-drop, weighed-same, none-read, sums-turnable, sums-turned, turned-outside}
 use borrow.Author.Needs.{needs}
 use Rattle.counts.proofs.sums.fill.Statement.{statement}

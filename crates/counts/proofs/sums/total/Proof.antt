@@ -5,7 +5,7 @@ use native.Mathlib.Omega.{arith}
 use lib.ListN.{getD}
 use Rattle.rules.specs.Below.{sumBelow}
 use Rattle.counts.specs.Sums.{Summable}
-use Rattle.counts.proofs.Filling.{sum-step}
+use Rattle.bins.proofs.Filling.{sum-step}
 use borrow.Author.Needs.{needs}
 use Rattle.counts.proofs.sums.total.Statement.{statement}
 use Rattle.counts.proofs.sums.total.Tie as tie

@@ -1,9 +1,9 @@
 -- `full` is what a row lets go. Assumes nothing.
 use borrow.Author.Tests.{lt-ltb, le-ltb}
-use Rattle.counts.specs.Bins.{goneAt}
+use Rattle.bins.specs.Bins.{goneAt}
 use borrow.Author.Needs.{needs}
-use Rattle.counts.proofs.bins.full.Statement.{statement}
-use Rattle.counts.proofs.bins.full.Tie as tie
+use Rattle.bins.proofs.full.Statement.{statement}
+use Rattle.bins.proofs.full.Tie as tie
 
 returns : tie.Need-returns
 unfolding goneAt

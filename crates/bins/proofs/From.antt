@@ -8,7 +8,7 @@ use Rattle.rules.proofs.Words.{count-base, count-above, count-le}
 use Rattle.rules.proofs.Split.{count-zero, count-suc}
 use Rattle.pascal.specs.Ways.{waysOf}
 use Rattle.pascal.proofs.Triangle.{count-fit}
-use Rattle.counts.specs.From.{from}
+use Rattle.bins.specs.From.{from}
 
 module _ {A : Type 0} (R : Row A) where
   pub from-end : (m : Memory A) → from R m 0 0 ≡ cond (ended (R .end) m) 1 0

@@ -11,12 +11,12 @@ use Rattle.rules.specs.Memory.{live, row4}
 use Rattle.rules.proofs.Sums.{sum-add, sum-same}
 use Rattle.pascal.specs.Ways.{waysOf}
 use Rattle.pascal.proofs.Triangle.{ways-sum, ways-fit}
-use Rattle.counts.specs.From.{bins, shift}
-use Rattle.counts.specs.Cells.{Stored}
-use Rattle.counts.specs.Bins.{width, Sized, Bins, Made, goneAt, term, aroundAt}
-use Rattle.counts.proofs.Cells.{outside-wider, one-first}
-use Rattle.counts.proofs.From.{from-le}
-use Rattle.counts.proofs.InARow.{shift-at, shift-past, bins-first, bins-slide, sum-past}
+use Rattle.bins.specs.From.{bins, shift}
+use Rattle.bins.specs.Cells.{Stored}
+use Rattle.bins.specs.Bins.{width, Sized, Bins, Made, goneAt, term, aroundAt}
+use Rattle.bins.proofs.Cells.{outside-wider, one-first}
+use Rattle.bins.proofs.From.{from-le}
+use Rattle.bins.proofs.InARow.{shift-at, shift-past, bins-first, bins-slide, sum-past}
 
 -- ---- what fits
 

@@ -7,8 +7,8 @@ use lib.Dec.{ltb}
 use lib.ListN.{length, getD}
 use Rattle.rules.specs.Below.{sumBelow}
 use Rattle.rules.specs.Refusal.{most, cells}
-use Rattle.counts.specs.From.{bins}
-use Rattle.counts.specs.Cells.{Outside}
+use Rattle.bins.specs.From.{bins}
+use Rattle.bins.specs.Cells.{Outside}
 
 abbrev pub width : ℕ
 width = 66

@@ -3,11 +3,11 @@ use mathlib.Core.Path.{_≡_, refl, _∙_}
 use Prim.Native.Nat.{suc, _-_, _≤_, min}
 use native.Mathlib.Omega.{arith}
 use Rattle.rules.specs.Below.{sumBelow}
-use Rattle.counts.specs.Bins.{term, Around}
-use Rattle.counts.proofs.Filling.{sum-step}
+use Rattle.bins.specs.Bins.{term, Around}
+use Rattle.bins.proofs.Filling.{sum-step}
 use borrow.Author.Needs.{needs}
-use Rattle.counts.proofs.bins.around.Statement.{statement}
-use Rattle.counts.proofs.bins.around.Tie as tie
+use Rattle.bins.proofs.around.Statement.{statement}
+use Rattle.bins.proofs.around.Tie as tie
 
 abbrev Inv-loop : tie.InvT-loop
 Inv-loop k top j table ends sum₀ m₀ sum m = (m ≤ ends) × (ends ≡ min k (suc j)) × Around k top j table × (sum ≡ sumBelow m (term top table))

@@ -11,9 +11,9 @@ use borrow.Author.Tests.{lt-ltb, le-ltb}
 use Rattle.rules.specs.Below.{sumBelow}
 use Rattle.rules.specs.Memory.{live, lead, pair, below, moved, ended, row4, row5, working5, failing5, end5}
 use Rattle.rules.proofs.Sums.{sum-add, sum-scale}
-use Rattle.counts.specs.From.{from, line4, bins, shift}
-use Rattle.counts.proofs.Cells.{below-or}
-use Rattle.counts.proofs.From.{from-end, from-above, from-zero, from-suc, from-dead}
+use Rattle.bins.specs.From.{from, line4, bins, shift}
+use Rattle.bins.proofs.Cells.{below-or}
+use Rattle.bins.proofs.From.{from-end, from-above, from-zero, from-suc, from-dead}
 
 -- ---- shifts
 

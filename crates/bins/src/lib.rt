@@ -1,10 +1,11 @@
 // Kinds 4 and 5: v working components leave v + 1 bins for the failed ones, each of fewer than k. Row b of the working table holds for j failed ones
 // the ways to lay them into b bins, where b and j add up to n + 1 at most.
+pub mod cut; // cut.rt: the smaller of two numbers, and a difference that is cut at 0
+
 ghost use mathlib.Core.Path.{_≡_};
 ghost use Prim.Native.Nat.{suc, _+_, _-_, _*_, _≤_, _<_};
 ghost use lib.ListN.{length, getD};
-ghost use Rattle.counts.specs.Bins.{width, Sized, Bins, Made, goneAt, Slides, Filled, Part, aroundAt, Around};
-use crate::cut;
+ghost use Rattle.bins.specs.Bins.{width, Sized, Bins, Made, goneAt, Slides, Filled, Part, aroundAt, Around};
 
 // How far apart the rows stand: a row of no bins has 66 columns.
 pub const WIDTH: usize = 66;

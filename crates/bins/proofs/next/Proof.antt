@@ -2,14 +2,14 @@
 use mathlib.Core.Path.{_≡_, refl}
 use Prim.Native.Nat.{suc, _+_, _-_, _≤_}
 use native.Mathlib.Omega.{arith}
-use Rattle.counts.specs.From.{bins, shift}
-use Rattle.counts.specs.Cells.{Stored}
-use Rattle.counts.specs.Bins.{width}
-use Rattle.counts.proofs.Cells.{stored-none, stored-up}
-use Rattle.counts.proofs.Filling.{slid, rows-more}
+use Rattle.bins.specs.From.{bins, shift}
+use Rattle.bins.specs.Cells.{Stored}
+use Rattle.bins.specs.Bins.{width}
+use Rattle.bins.proofs.Cells.{stored-none, stored-up}
+use Rattle.bins.proofs.Filling.{slid, rows-more}
 use borrow.Author.Needs.{needs}
-use Rattle.counts.proofs.bins.next.Statement.{statement}
-use Rattle.counts.proofs.bins.next.Tie as tie
+use Rattle.bins.proofs.next.Statement.{statement}
+use Rattle.bins.proofs.next.Tie as tie
 
 abbrev Inv-loop : tie.InvT-loop
 Inv-loop k n b table₀ from to last held₀ j₀ table held j =

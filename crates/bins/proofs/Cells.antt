@@ -13,7 +13,7 @@ use lib.Seq.{ext-getD, getD-drop, getD-set-same, getD-set-other, getD-append-add
 use borrow.Author.Tests.{ltb-true, ltb-false}
 use Rattle.rules.specs.Below.{listBelow}
 use Rattle.rules.proofs.Lists.{below-length, below-get}
-use Rattle.counts.specs.Cells.{Outside, Stored}
+use Rattle.bins.specs.Cells.{Outside, Stored}
 
 pub below-or : (a b : ℕ) → (a < b) ⊎ (b ≤ a)
 below-or a b = go (ltb a b) refl

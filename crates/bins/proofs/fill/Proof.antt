@@ -1,12 +1,12 @@
 -- `fill` makes the rows one by one. Assumes nothing.
 use Prim.Native.Nat.{suc, _+_, _-_, _≤_}
 use native.Mathlib.Omega.{arith}
-use Rattle.counts.specs.Bins.{Sized, Made}
-use Rattle.counts.proofs.Cells.{outside-none, outside-then}
-use Rattle.counts.proofs.Filling.{first-row, rows-fewer, sized-same}
+use Rattle.bins.specs.Bins.{Sized, Made}
+use Rattle.bins.proofs.Cells.{outside-none, outside-then}
+use Rattle.bins.proofs.Filling.{first-row, rows-fewer, sized-same}
 use borrow.Author.Needs.{needs}
-use Rattle.counts.proofs.bins.fill.Statement.{statement}
-use Rattle.counts.proofs.bins.fill.Tie as tie
+use Rattle.bins.proofs.fill.Statement.{statement}
+use Rattle.bins.proofs.fill.Tie as tie
 
 abbrev Inv-loop : tie.InvT-loop
 Inv-loop k n table₀ b₀ table b = (b ≤ n + 1) × Sized k n table₀ × Made k n (suc b) table₀ table
