@@ -3,18 +3,17 @@ ghost use Prim.Native.Nat.{_≤_};
 ghost use lib.ListN.{length};
 ghost use Rattle.rules.specs.State.{S};
 ghost use Rattle.rules.specs.Within.{WithinUnit};
-ghost use Rattle.deckpage.specs.Page.{Within, Drawable};
-use crate::advice;
-use crate::bars;
-use crate::best;
-use crate::brackets;
-use crate::chance;
-use crate::fitted;
-use crate::shape;
-use crate::shape::Shape;
-use crate::worths;
+ghost use Rattle.forms.specs.Within.{Within};
+ghost use Rattle.worths.specs.Drawn.{Drawable};
+use drawing::bars;
+use drawing::brackets;
 use rules::Rating;
 use rules::System;
+use telling::best;
+use telling::chance;
+use telling::fitted;
+use worths::shape;
+use worths::shape::Shape;
 
 // A deck has no more systems.
 pub const MOST_SYSTEMS: usize = 32;
@@ -24,9 +23,9 @@ fn put_title(fans: u64, number: u64, system: System, out: &mut [u8]) -> usize
     ensures { λ r. ⌜ Within r (now (out .exit)) ⌝ }
 {
     let rule = system.rule;
-    let named = text::put_named(b"<section>\n<h2>System ", number, out, 0);
-    let colon = text::put(out, named, b": ");
-    let words = fitted::put_rule(rule, out, colon);
+    let numbers = [number, 0, 0, 0, 0, 0];
+    let named = forms::put_form(b"<section>\n<h2>System #: ", numbers, out, 0);
+    let words = fitted::put_rule(rule, out, named);
     let end = fitted::put_stretch(fans, system.a, system.b, out, words);
     text::put(out, end, b"</h2>\n")
 }

@@ -1,17 +1,9 @@
 // Draws the deck file on standard input as one page of HTML that needs nothing else.
 
-mod advice; // advice.rt: refusals in words, and what to do about them
-mod bars; // bars.rt: the worth of each fan, drawn
-mod best; // best.rt: the fans that are worth most
-mod brackets; // brackets.rt: the rule's windows, on the row and on the ring
 mod card; // card.rt: one system
-mod chance; // chance.rt: its chance, and the gap
-mod fitted; // fitted.rt: texts that want their room beforehand
 mod page; // page.rt: the page around the systems
-mod shape; // shape.rt: the fans and windows that are drawn
-mod worths; // worths.rt: what each fan is worth
 
-ghost use Rattle.deckpage.specs.Page.{Within};
+ghost use Rattle.forms.specs.Within.{Within};
 use deck::Deck;
 use libc::STDERR_FILENO;
 use libc::STDOUT_FILENO;

@@ -1,7 +1,7 @@
 // The page around the systems: its head, how it is read, its end, and the page of a refused file.
 ghost use Prim.Native.Nat.{_≤_};
 ghost use lib.ListN.{length};
-ghost use Rattle.deckpage.specs.Page.{Within};
+ghost use Rattle.forms.specs.Within.{Within};
 
 // Everything up to the title. Black on white alone; three systems side by side on paper, as many as fit on a screen.
 fn put_start(out: &mut [u8]) -> usize
@@ -115,7 +115,7 @@ pub fn put_refused(number: u64, out: &mut [u8]) -> usize
         start,
         b"<title>Deck file refused</title>\n</head>\n<body>\n<main>\n<section class='bad'>\n<h1>The deck file is refused</h1>\n",
     );
-    let why = crate::advice::put_advice(number, out, body);
+    let why = advice::put_advice(number, out, body);
     let section = text::put(out, why, b"</section>\n");
     put_end(out, section)
 }

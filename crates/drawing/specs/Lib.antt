@@ -1,0 +1,2 @@
+-- The bounds that drawings keep.
+pub mod Drawing

@@ -1,0 +1,2 @@
+-- The bound that what is put keeps.
+pub mod Within

@@ -1,0 +1,29 @@
+-- "for each system the worth of every fan": what is drawn and named of a system's fans.
+use mathlib.Core.Path.{_≡_}
+use mathlib.Core.List.{List}
+use Prim.Native.Nat.{ℕ, _+_}
+use lib.IntN.{ℤ, pos}
+use Rattle.rules.specs.Below.{listBelow}
+use Rattle.rules.specs.File.{worthLoadingOf}
+use Rattle.rules.specs.declared.Worth.{Worth}
+use Rattle.rules.specs.declared.Worth.the-variants.{Ends, Refused}
+use Rattle.deck.specs.Read.{padded}
+use Rattle.worths.specs.declared.Worths.{Worths}
+use Rattle.worths.specs.Drawn.{mostDrawn}
+
+-- an end of a worth; 0 where there is none
+abbrev pub lowerEnd : Worth → ℤ
+lowerEnd (Ends lower upper) = lower
+lowerEnd (Refused number) = pos 0
+
+abbrev pub upperEnd : Worth → ℤ
+upperEnd (Ends lower upper) = upper
+upperEnd (Refused number) = pos 0
+
+-- "in deck order": that end of fans 1 to n, and 0 behind the last
+abbrev pub endsIn : (end : Worth → ℤ) (bytes : List ℕ) (system n : ℕ) → List ℤ
+endsIn end bytes system n = padded mostDrawn (pos 0) (listBelow n (λ i. end (worthLoadingOf bytes system (i + 1))))
+
+pub record Weighed (bytes : List ℕ) (system n : ℕ) (w : Worths) : Type 0 where
+  pub lower : w .lower ≡ endsIn lowerEnd bytes system n
+  pub upper : w .upper ≡ endsIn upperEnd bytes system n

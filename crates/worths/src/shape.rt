@@ -1,0 +1,65 @@
+// The fans and windows of a system that are drawn.
+ghost use Prim.Native.Nat.{_≤_};
+ghost use Rattle.worths.specs.Drawn.{mostDrawn, Drawable};
+use rules::System;
+
+// A deck has no more fans.
+pub const FANS: usize = 64;
+
+const MOST: u64 = 64;
+
+// The deck's fans, the stretch, how long the rule's windows are (0 where it has none), and whether the stretch is a ring.
+pub struct Shape {
+    pub fans: u64,
+    pub from: u64,
+    pub upto: u64,
+    pub window: u64,
+    pub ring: bool,
+}
+
+// A number within bounds; those of a system that is answered are.
+pub fn bounded(least: u64, x: u64, most: u64) -> u64
+    requires { ⌜ least ≤ most ⌝ }
+    ensures { λ r. ⌜ (least ≤ r) × (r ≤ most) ⌝ }
+{
+    if x < least {
+        return least;
+    }
+    if x > most {
+        return most;
+    }
+    x
+}
+
+// How long a rule's windows are: kinds 4 and 5 have it as their first number, kinds 6 to 8 as their second.
+fn window_of(kind: u64, first: u64, second: u64) -> u64
+    ensures { λ r. ⌜ r ≤ mostDrawn ⌝ }
+{
+    if kind == 4 || kind == 5 {
+        return bounded(0, first, MOST);
+    }
+    if kind == 6 || kind == 7 || kind == 8 {
+        return bounded(0, second, MOST);
+    }
+    0
+}
+
+// What is drawn of a system of a deck of so many fans. A line that is shorter than its window is one window.
+pub fn shape_of(fans: u64, system: System) -> Shape
+    ensures { λ r. ⌜ Drawable r ⌝ }
+{
+    let rule = system.rule;
+    let n = bounded(1, fans, MOST);
+    let from = bounded(1, system.a, n);
+    let upto = bounded(from, system.b, n);
+    let window = window_of(rule.kind, rule.first, rule.second);
+    let size = upto + 1 - from;
+    let ring = rule.kind == 5 || rule.kind == 7;
+    Shape {
+        fans: n,
+        from,
+        upto,
+        window: bounded(0, window, size),
+        ring,
+    }
+}
