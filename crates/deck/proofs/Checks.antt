@@ -16,7 +16,7 @@ use Rattle.rules.proofs.Lists.{below-length}
 use Rattle.rules.proofs.Tests.{both}
 use Rattle.rules.proofs.Accepted.{first-after}
 use Rattle.deck.specs.Outcome.{countsRefusal}
-use Rattle.deck.proofs.Versions.{fans-bound}
+use Rattle.layout.proofs.Versions.{fans-bound}
 
 -- no check left
 pub none-left : firstOf [] ≡ 0

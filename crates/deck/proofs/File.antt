@@ -16,14 +16,15 @@ use Rattle.rules.specs.Refusal.{mostBoards}
 use Rattle.rules.specs.File.{Deck, numberAt, nthNumber, numbersFrom, allBytes, countsOf, offsetsOf, headerOf, systemNumbers, fileOf, nthSystem, systemIn, deckIn, fileRefusal}
 use Rattle.rules.specs.File.{versionIn, fansIn, countIn, boardCountIn, boardsElsewhere, versionField, zeroField, survivalField, weightsField, systemsField, boardCountField, boardsField, headerLength}
 use Rattle.rules.specs.File.{survivalBytes, weightBytes, boardBytes, systemBytes, boardFans, survivalOffset, weightsOffset, boardsOffset, boardSurvivalOffset, systemsOffset}
-use Rattle.deck.specs.Bounds.{Bytes, Bounds}
+use Rattle.layout.specs.Fits.{Bytes}
+use Rattle.deck.specs.Bounds.{Bounds}
 use Rattle.rules.proofs.Lists.{below-length}
-use Rattle.deck.proofs.Lists.{under-below}
-use Rattle.deck.proofs.Numbers.{Stands, all-length, number-fits, number-within, numbers-back, bytes-back}
+use Rattle.layout.proofs.Under.{under-below}
+use Rattle.layout.proofs.Numbers.{Stands, all-length, number-fits, number-within, numbers-back, bytes-back}
 use Rattle.deck.proofs.Systems.{numbers-length, systems-back, numbers-of}
-use Rattle.deck.proofs.Versions.{by-boards, second-none, read-own, few-boards, fans-boarded, boards-small}
-use Rattle.deck.proofs.Header as header
-use Rattle.deck.proofs.Header.{Headed, header-is, header-length}
+use Rattle.layout.proofs.Versions.{by-boards, second-none, read-own, few-boards, fans-boarded, boards-small}
+use Rattle.layout.proofs.Header as header
+use Rattle.layout.proofs.Header.{Headed, header-is, header-length}
 use Rattle.deck.proofs.Sound.{Sound, sound, not-refused}
 
 -- a file's parts before the weights, the boards' bytes, the boards' numbers and the systems

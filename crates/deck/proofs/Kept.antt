@@ -12,7 +12,7 @@ use Rattle.deck.specs.Outcome.{Handed}
 use Rattle.deck.specs.Bounds.{Bounds}
 use Rattle.rules.proofs.Lists.{below-length}
 use Rattle.rules.proofs.Unless.{unless-none}
-use Rattle.deck.proofs.Lists.{padded-take, padded-get}
+use Rattle.arrays.proofs.Lists.{padded-take, padded-get}
 use Rattle.deck.proofs.File.{file-accepted, deck-back}
 
 module _ (bytes : List ℕ) where

@@ -11,7 +11,7 @@ use Rattle.rules.specs.File.{numberAt, boardCountField, shortestHeader, zeroFie
 use Rattle.rules.proofs.Tests.{both, neither}
 use Rattle.rules.proofs.EachKind.{within-true}
 use Rattle.rules.proofs.Accepted.{none-first}
-use Rattle.deck.proofs.Versions.{header-bounds, without-boards, few-boards}
+use Rattle.layout.proofs.Versions.{header-bounds, without-boards, few-boards}
 
 pub record Sound (bytes : List ℕ) : Type 0 where
   pub long : headerLength (versionIn bytes) ≤ length bytes

@@ -10,7 +10,7 @@ use lib.ListN.{length, getD}
 use Rattle.rules.specs.declared.System.{System}
 use Rattle.rules.specs.Below.{listBelow}
 use Rattle.rules.specs.File.{numberAt, nthNumber, numbersFrom, systemNumbers, perSystem, fiveOf, systemsOf, systemBytes, systemAt, nthSystem}
-use Rattle.deck.specs.Read.{noSystem}
+use Rattle.arrays.specs.Padded.{noSystem}
 use Rattle.rules.proofs.Lists.{below-is}
 
 pub numbers-length : (ss : List System) → length (systemNumbers ss) ≡ 5 * length ss

@@ -2,20 +2,12 @@
 -- fit the layout's fields.
 use mathlib.Core.Path.{_≡_}
 use mathlib.Core.Bool.{false}
-use mathlib.Core.List.{List}
-use Prim.Native.Nat.{ℕ, _^_, _≤_, _<_}
-use lib.ListN.{length, getD}
+use Prim.Native.Nat.{_^_, _≤_}
+use lib.ListN.{length}
 use Rattle.rules.specs.Boards.{boardsRead}
 use Rattle.rules.specs.Refusal.{badVersion, badBoards, misplaced}
 use Rattle.rules.specs.File.{Deck, systemNumbers, mostFans, mostSystems}
-
--- every number of a list is below a limit
-pub record Under (limit : ℕ) (xs : List ℕ) : Type 0 where
-  pub each : (i : ℕ) → getD xs i 0 < limit
-
--- a list of bytes
-abbrev pub Bytes : List ℕ → Type 0
-Bytes bytes = Under 256 bytes
+use Rattle.layout.specs.Fits.{Under}
 
 -- "P (4 bytes each), weights (2 each)", a system's five numbers "2 each"; a board's number 4. A version without boards has no list of them.
 pub record Bounds (d : Deck) : Type 0 where

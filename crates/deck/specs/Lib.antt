@@ -1,5 +1,4 @@
--- What the reader hands on, what the two calls answer, which decks a file can hold, and where a file ends in a stream.
+-- What the reader hands on, what the two calls answer, and which decks a file can hold.
 pub mod Read
 pub mod Outcome
 pub mod Bounds
-pub mod Ending

@@ -1,21 +1,14 @@
 -- What a reader hands on: a file's deck in arrays of fixed length.
-use mathlib.Core.List.{List, _++_}
-use Prim.Native.Nat.{ℕ, _-_}
+use mathlib.Core.List.{List}
+use Prim.Native.Nat.{ℕ}
 use lib.ListN.{length, replicate}
-use Rattle.rules.specs.declared.System.{System}
 use Rattle.rules.specs.File as file
 use Rattle.rules.specs.Refusal.{mostBoards}
 use Rattle.rules.specs.File.{mostFans, mostSystems, versionIn, fansIn, countIn, boardCountIn, deckIn}
+use Rattle.arrays.specs.Padded.{padded, noSystem}
 use Rattle.deck.specs.declared.Deck.{Deck}
 
--- a list followed by so many fillers that it has k entries
-unfoldable pub padded : {A : Type 0} → (k : ℕ) (filler : A) → List A → List A
-padded k filler xs = xs ++ replicate (k - length xs) filler
-
--- the system of zeros alone, and the deck of zeros alone, which stands beside a refusal
-abbrev pub noSystem : System
-noSystem = record { rule = record { kind = 0; first = 0; second = 0 }; a = 0; b = 0 }
-
+-- the deck of zeros alone, which stands beside a refusal
 abbrev pub noDeck : Deck
 noDeck = record {
   version = 0;

@@ -1,9 +1,4 @@
 // The deck file of document 01: its refusals, and the reader that hands its deck on.
-pub mod ending; // ending.rt: where a file ends in a stream
-pub mod layout; // layout.rt: where each number of a file stands
-pub mod number; // number.rt: numbers that bytes spell
-mod parts; // parts.rt: the survival numbers, the weights and the systems, in arrays
-
 ghost use mathlib.Core.Path.{_≡_};
 ghost use mathlib.Core.Bool.{false};
 ghost use Prim.Native.Nat.{_^_, _≤_, _<_};
@@ -13,9 +8,10 @@ ghost use Rattle.rules.specs.File.{versionIn, fansIn, countIn, boardCountIn, sy
 ghost use Rattle.rules.specs.Doubles.{otherRefusal};
 ghost use Rattle.deck.specs.Read.{noDeck, keptDeck};
 ghost use Rattle.deck.specs.Outcome.{countsRefusal, Checked, Handed, Placed};
-use crate::layout::MOST_BOARDS;
-use crate::layout::MOST_FANS;
-use crate::layout::MOST_SYSTEMS;
+use layout::MOST_BOARDS;
+use layout::MOST_FANS;
+use layout::MOST_SYSTEMS;
+use layout::number;
 use rules::System;
 
 // A file's deck: its version, how many fans, systems and boards it has, n, m and g, and arrays whose first n, m or g entries the file fills; the others are
@@ -39,7 +35,7 @@ pub struct Read {
 }
 
 // 11: there is no such version, or the zero field is not 0.
-fn bad_start(bytes: &[u8]) -> bool
+pub fn bad_start(bytes: &[u8]) -> bool
     requires { ⌜ shortestHeader ≤ length (now bytes) ⌝ }
     ensures { λ r. ⌜ r ≡ badStart (now (bytes .entry)) ⌝ }
 {
@@ -203,7 +199,7 @@ fn no_deck() -> Deck
     let weights = [0u16; MOST_FANS];
     let boards = [0u8; MOST_FANS];
     let switchboards = [0u32; MOST_BOARDS];
-    let zeros = parts::no_system();
+    let zeros = arrays::no_system();
     let systems = [zeros; MOST_SYSTEMS];
     Deck {
         version: 0,
@@ -256,7 +252,7 @@ pub fn survival_in(bytes: &[u8]) -> [u32; MOST_FANS]
     ensures { λ r. ⌜ r ≡ keptDeck (now (bytes .entry)) .survival ⌝ }
 {
     let from = layout::header_length(version_in(bytes));
-    parts::survival_in(bytes, from, fans_in(bytes))
+    arrays::survival_in(bytes, from, fans_in(bytes))
 }
 
 // Its weights, and zeros.
@@ -266,7 +262,7 @@ pub fn weights_in(bytes: &[u8]) -> [u16; MOST_FANS]
 {
     let n = fans_in(bytes);
     let from = layout::weights_offset(version_in(bytes), n);
-    parts::weights_in(bytes, from, n)
+    arrays::weights_in(bytes, from, n)
 }
 
 // Its fans' board numbers, where they stand.
@@ -283,7 +279,7 @@ pub fn board_survival_in(bytes: &[u8]) -> [u32; MOST_BOARDS]
     ensures { λ r. ⌜ r ≡ keptDeck (now (bytes .entry)) .switchboards ⌝ }
 {
     let from = layout::board_survival_offset(version_in(bytes), fans_in(bytes));
-    parts::board_survival_in(bytes, from, board_count_in(bytes))
+    arrays::board_survival_in(bytes, from, board_count_in(bytes))
 }
 
 // Where its systems begin.
@@ -300,7 +296,7 @@ pub fn system_in(bytes: &[u8], s: usize) -> System
     ensures { λ r. ⌜ r ≡ systemIn (now (bytes .entry)) s ⌝ }
 {
     let from = systems_from(bytes);
-    parts::system_at(bytes, from + layout::SYSTEM_BYTES * s)
+    arrays::system_at(bytes, from + layout::SYSTEM_BYTES * s)
 }
 
 // The deck of a file that is not refused.
@@ -314,9 +310,9 @@ fn kept_deck(bytes: &[u8]) -> Deck
     let g = board_count_in(bytes);
     let survival = survival_in(bytes);
     let weights = weights_in(bytes);
-    let boards = parts::boards_kept(boards_in(bytes));
+    let boards = arrays::boards_kept(boards_in(bytes));
     let switchboards = board_survival_in(bytes);
-    let systems = parts::systems_in(bytes, systems_from(bytes), count);
+    let systems = arrays::systems_in(bytes, systems_from(bytes), count);
     Deck {
         version,
         fans: n as u64,

@@ -14,7 +14,7 @@ use Rattle.text.specs.Decimal.{text, decimal}
 use Rattle.text.specs.Lines.{named}
 use Rattle.text.proofs.Digits.{decimal-short}
 use Rattle.deck.proofs.File.{file-length}
-use Rattle.deck.proofs.Versions.{header-bounds}
+use Rattle.layout.proofs.Versions.{header-bounds}
 use Rattle.writer.proofs.Writable.{count-is}
 use Rattle.typing.specs.Text.{Listed, nothing, withLines, numbersOf, typedBy}
 use Rattle.typing.proofs.Listing.{Kept, kept-read}

@@ -10,7 +10,7 @@ use Rattle.rules.specs.declared.System.{System}
 use Rattle.text.specs.Decimal.{text}
 use Rattle.text.specs.Added.{Added}
 use Rattle.text.proofs.Adding.{none-added, added-more}
-use Rattle.deck.specs.Read.{noSystem}
+use Rattle.arrays.specs.Padded.{noSystem}
 use Rattle.wording.specs.Lines.{versionText, versionRoom, boardRoom, fanRoom, systemRoom}
 use Rattle.wording.proofs.Lengths.{one-short, fan-short, system-short}
 use Rattle.deckshow.specs.Lines.{linesText, boardLine, fanLine, systemLine}

@@ -10,7 +10,8 @@ use Rattle.rules.specs.File.{mostFans, mostSystems, versionIn, fansIn, countIn,
 use Rattle.rules.proofs.Lists.{below-length}
 use Rattle.deck.specs.declared.Deck.{Deck}
 use Rattle.deck.specs.declared.Read.{Read}
-use Rattle.deck.specs.Read.{padded, noSystem, keptDeck}
+use Rattle.arrays.specs.Padded.{padded, noSystem}
+use Rattle.deck.specs.Read.{keptDeck}
 use Rattle.deck.proofs.Kept.{read-none, read-deck}
 use Rattle.deck.proofs.Sound.{sound, sound-few}
 use Rattle.wording.specs.Lines.{versionText, boardText, fanText}

@@ -6,7 +6,7 @@ use Rattle.rules.specs.declared.System.{System}
 use Rattle.rules.specs.Refusal.{mostBoards}
 use Rattle.rules.specs.File.{Deck, mostFans, mostSystems, deckIn}
 use Rattle.deck.specs.declared.Deck as arrays
-use Rattle.deck.specs.Read.{noSystem}
+use Rattle.arrays.specs.Padded.{noSystem}
 use Rattle.wording.specs.Lines.{versionText, versionRoom, boardText, boardRoom, fanText, fanRoom, systemText, systemRoom}
 
 -- the lines of the first k things, counted from 0

@@ -9,7 +9,7 @@ use Rattle.rules.specs.File.{versionIn, fansIn, boardFans, boardBytes, boardsOf
 use Rattle.rules.proofs.Lists.{below-length}
 use Rattle.rules.proofs.Unless.{unless-none, unless-some}
 use Rattle.deck.proofs.Sound.{sound}
-use Rattle.deck.proofs.Versions.{fans-bound}
+use Rattle.layout.proofs.Versions.{fans-bound}
 use Rattle.deckstate.specs.declared.hearing.Said.{Said}
 use Rattle.deckstate.specs.Words.{nothing, heard, heardAll, ended, saidIn, HeardAll, SaidBy}
 

@@ -17,8 +17,8 @@ use Rattle.rules.proofs.Sums.{held-same}
 use Rattle.rules.proofs.Changes.{changes-same}
 use Rattle.rules.proofs.EachKind.{within-true}
 use Rattle.rules.proofs.Accepted.{first-same}
-use Rattle.deck.proofs.Numbers.{Same, number-same}
-use Rattle.deck.proofs.Versions.{header-bounds, fans-bound, without-boards, few-boards}
+use Rattle.layout.proofs.Numbers.{Same, number-same}
+use Rattle.layout.proofs.Versions.{header-bounds, fans-bound, without-boards, few-boards}
 use Rattle.mend.proofs.Mendable.{mendable, length-most}
 use Rattle.mend.proofs.Mended.{mended-length}
 

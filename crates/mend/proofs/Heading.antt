@@ -11,8 +11,8 @@ use Rattle.rules.specs.File.{headerLength, versionIn, fansIn, countIn, boardCou
 use Rattle.rules.specs.Mending.{headerFor, bodyIn, mended, differs, changesBelow, changesIn, changedIn, beyondMending}
 use Rattle.rules.proofs.Sums.{held-same}
 use Rattle.rules.proofs.Changes.{changes-same, changes-upto, count-upto, count-most}
-use Rattle.deck.proofs.Header.{header-length}
-use Rattle.deck.proofs.Versions.{header-bounds}
+use Rattle.layout.proofs.Header.{header-length}
+use Rattle.layout.proofs.Versions.{header-bounds}
 use Rattle.writer.specs.Laid.{laid}
 use Rattle.writer.proofs.Laying.{laid-length, laid-front}
 use Rattle.mend.specs.Outcome.{longestHeader}

@@ -6,7 +6,7 @@ use native.Mathlib.Nat.{mul-suc, mul-le-mul-left}
 use native.Mathlib.Omega.{arith}
 use Rattle.rules.specs.Below.{listBelow}
 use Rattle.rules.specs.File.{numbersFrom, systemAt, nthSystem, systemBytes}
-use Rattle.deck.proofs.Numbers.{Same, number-same}
+use Rattle.layout.proofs.Numbers.{Same, number-same}
 
 pub below-same : {A : Type 0} (n : ℕ) (f g : ℕ → A) → ((i : ℕ) → i < n → f i ≡ g i) → listBelow n f ≡ listBelow n g
 unfolding listBelow

@@ -11,8 +11,8 @@ use Rattle.rules.specs.File.{numberAt, boardCountField, shortestHeader, headerL
 use Rattle.rules.specs.Mending.{beyondMending}
 use Rattle.rules.proofs.EachKind.{within-true}
 use Rattle.rules.proofs.Accepted.{none-first}
-use Rattle.deck.proofs.Header.{Headed}
-use Rattle.deck.proofs.Versions.{header-bounds, fans-bound, without-boards, few-boards}
+use Rattle.layout.proofs.Header.{Headed}
+use Rattle.layout.proofs.Versions.{header-bounds, fans-bound, without-boards, few-boards}
 
 pub record Mendable (bytes : List ℕ) : Type 0 where
   pub long : headerLength (versionIn bytes) ≤ length bytes

@@ -15,12 +15,12 @@ use Rattle.rules.specs.File.{numberAt, nthNumber, offsetsOf, numbersFrom, nthSy
 use Rattle.rules.specs.File.{survivalBytes, weightBytes, boardBytes, survivalOffset, weightsOffset, boardsOffset, boardSurvivalOffset, systemsOffset, versionIn, fansIn, countIn, boardCountIn, deckIn, misplacedIn, fileRefusal}
 use Rattle.rules.specs.Mending.{headerFor, bodyIn, mended, changesBelow, beyondMending}
 use Rattle.rules.proofs.Changes.{changes-upto}
-use Rattle.deck.specs.Bounds.{Bytes}
-use Rattle.deck.proofs.Header as header
-use Rattle.deck.proofs.Header.{header-length}
-use Rattle.deck.proofs.Versions.{header-bounds}
+use Rattle.layout.specs.Fits.{Bytes}
+use Rattle.layout.proofs.Header as header
+use Rattle.layout.proofs.Header.{header-length}
+use Rattle.layout.proofs.Versions.{header-bounds}
 use Rattle.deck.proofs.Sound.{sound}
-use Rattle.deck.proofs.Numbers.{Same}
+use Rattle.layout.proofs.Numbers.{Same}
 use Rattle.deck.proofs.File.{header-back}
 use Rattle.mend.specs.Outcome.{Unchanged}
 use Rattle.mend.proofs.Mendable.{Mendable, mendable, not-beyond, headed}

@@ -14,9 +14,9 @@ use Rattle.rules.specs.Below.{held}
 use Rattle.rules.specs.File.{headerLength, allBytes, versionIn, fansIn, countIn, boardCountIn, lengthIn}
 use Rattle.rules.specs.Mending.{headerFor, bodyIn, mended, perChange, differs, changeAt, changesBelow, beyondMending}
 use Rattle.rules.proofs.Changes.{changes-length, count-rises}
-use Rattle.deck.specs.Bounds.{Bytes}
-use Rattle.deck.proofs.Header.{header-length}
-use Rattle.deck.proofs.Numbers.{bytes-back, bytes-are}
+use Rattle.layout.specs.Fits.{Bytes}
+use Rattle.layout.proofs.Header.{header-length}
+use Rattle.layout.proofs.Numbers.{bytes-back, bytes-are}
 use Rattle.writer.specs.Laid.{laid}
 use Rattle.writer.proofs.Laying.{laid-length, laid-none, laid-more, laid-next}
 use Rattle.mend.specs.Change.{Put}

@@ -9,8 +9,7 @@ ghost use Rattle.rules.specs.File.{headerLength, versionIn};
 ghost use Rattle.rules.specs.Mending.{headerFor, mended, perChange, changesIn, changedIn, beyondMending};
 ghost use Rattle.writer.specs.Laid.{laid};
 ghost use Rattle.mend.specs.Outcome.{longestHeader, Mended};
-use deck::layout;
-use deck::number;
+use layout::number;
 use rules::Mending;
 use writer::bytes as laying;
 

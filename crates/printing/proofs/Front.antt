@@ -17,10 +17,10 @@ use Rattle.rules.proofs.Accepted.{first-same}
 use Rattle.rules.proofs.Unless.{unless-some}
 use Rattle.deck.specs.declared.Read.{Read}
 use Rattle.deck.specs.Outcome.{Handed}
-use Rattle.deck.specs.Ending.{longest}
-use Rattle.deck.proofs.Versions.{header-bounds, fans-bound, without-boards, few-boards}
+use Rattle.ending.specs.Ending.{longest}
+use Rattle.layout.proofs.Versions.{header-bounds, fans-bound, without-boards, few-boards}
 use Rattle.deck.proofs.Sound.{sound, sound-few}
-use Rattle.deck.proofs.Asking.{same-number}
+use Rattle.ending.proofs.Asking.{same-number}
 use Rattle.printing.specs.Front.{Front, WholeRead}
 
 -- a length that differs is refused, whatever the offsets are

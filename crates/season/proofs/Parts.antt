@@ -6,8 +6,8 @@ use native.Mathlib.Omega.{arith}
 use lib.ListN.{length, take, length-append, length-take, length-drop}
 use lib.Seq.{take-at, length-take-le, take-take}
 use borrow.Rule.Slice.PartMut.{putMid}
-use Rattle.deck.specs.Ending.{asks}
-use Rattle.deck.proofs.Asking.{asked-more}
+use Rattle.ending.specs.Ending.{asks}
+use Rattle.ending.proofs.Asking.{asked-more}
 
 module _ (a k : ℕ) (xs ys : List ℕ) (within : a + k ≤ length xs) (many : length ys ≡ k) where
   pub put-length : length (putMid a k xs ys) ≡ length xs

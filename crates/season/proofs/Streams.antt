@@ -7,8 +7,8 @@ use native.Mathlib.Decide.{decLt}
 use native.Mathlib.Omega.{arith}
 use lib.ListN.{length, take}
 use lib.Seq.{take-all}
-use Rattle.deck.specs.Ending.{asks, fileAt}
-use Rattle.deck.proofs.Asking.{file-whole, file-short}
+use Rattle.ending.specs.Ending.{asks, fileAt}
+use Rattle.ending.proofs.Asking.{file-whole, file-short}
 use Rattle.totals.specs.Season.{totalsOf}
 use Rattle.totals.specs.Plus.{oneIf}
 use Rattle.totals.specs.Stream.{filesOf, isWaiting}

@@ -3,7 +3,7 @@ use mathlib.Core.Path.{_≡_}
 use mathlib.Core.List.{List}
 use Prim.Native.Nat.{ℕ, _≤_}
 use lib.ListN.{length, take}
-use Rattle.deck.specs.Ending.{asks, longest}
+use Rattle.ending.specs.Ending.{asks, longest}
 use Rattle.program.specs.declared.Input.{Input}
 use Rattle.program.specs.declared.Input.the-variants.{Filled, Failed}
 use Rattle.totals.specs.declared.Totals.{Totals}

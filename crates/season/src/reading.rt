@@ -1,11 +1,10 @@
 // Reading a stream of files, each by just the bytes that it asks for, and their totals.
 ghost use Prim.Native.Nat.{_≤_};
 ghost use lib.ListN.{length};
-ghost use Rattle.deck.specs.Ending.{longest};
+ghost use Rattle.ending.specs.Ending.{longest};
 ghost use Rattle.program.specs.Edges.{FitsIn};
 ghost use Rattle.season.specs.Reading.{FileRead, Totalled};
-use deck::ending;
-use deck::ending::LONGEST;
+use ending::LONGEST;
 use libc::STDERR_FILENO;
 use program::Input;
 use totals::Totals;

@@ -4,7 +4,8 @@ use mathlib.Core.List.{List}
 use Prim.Native.Nat.{ℕ, _<_}
 use lib.ListN.{length, getD}
 use Rattle.rules.specs.File.{countIn, deckIn}
-use Rattle.deck.specs.Read.{noSystem, keptDeck}
+use Rattle.arrays.specs.Padded.{noSystem}
+use Rattle.deck.specs.Read.{keptDeck}
 use Rattle.deck.proofs.Kept.{kept-survival, kept-weights, kept-system}
 use Rattle.states.specs.States.{partVerdict, systemVerdict, verdictIn, verdictAt}
 

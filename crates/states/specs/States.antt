@@ -16,7 +16,7 @@ use Rattle.rules.specs.File as file
 use Rattle.rules.specs.File.{deckIn, systemIn}
 use Rattle.asked.specs.Parts.{placeRefusal}
 use Rattle.deck.specs.declared.Deck.{Deck}
-use Rattle.deck.specs.Read.{noSystem}
+use Rattle.arrays.specs.Padded.{noSystem}
 use Rattle.systems.specs.Arrays.{deckOf}
 
 -- the state with a fan failed too

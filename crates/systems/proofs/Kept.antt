@@ -10,7 +10,8 @@ use Rattle.rules.specs.Answer.{figuresOf}
 use Rattle.rules.specs.Worth.{worthOf}
 use Rattle.rules.specs.File.{mostFans, versionIn, countIn, deckIn, fileRefusal, systemOf, systemWorth, answerIn, worthIn}
 use Rattle.rules.proofs.Lists.{below-length}
-use Rattle.deck.specs.Read.{padded, noSystem, keptDeck}
+use Rattle.arrays.specs.Padded.{padded, noSystem}
+use Rattle.deck.specs.Read.{keptDeck}
 use Rattle.deck.proofs.Kept.{kept-survival, kept-weights, kept-boards, kept-numbers, kept-system}
 use Rattle.deck.proofs.Sound.{sound}
 use Rattle.systems.specs.Arrays.{answerAt, worthAt, Held}

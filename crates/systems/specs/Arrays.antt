@@ -6,7 +6,7 @@ use Rattle.rules.specs.declared.Worth.{Worth}
 use Rattle.rules.specs.File as file
 use Rattle.rules.specs.File.{mostSystems, boardFans, systemOf, systemWorth}
 use Rattle.deck.specs.declared.Deck.{Deck}
-use Rattle.deck.specs.Read.{noSystem}
+use Rattle.arrays.specs.Padded.{noSystem}
 
 -- the first n, m or g entries of each array; board numbers where the version has them
 abbrev pub deckOf : Deck → file.Deck

@@ -12,7 +12,6 @@ ghost use Rattle.systems.specs.Arrays.{answerAt, worthAt, Held};
 ghost use Rattle.systems.specs.Opened.{openRefusal};
 use cells::CELLS;
 use deck::Deck;
-use deck::layout;
 use rules::NO_MORE;
 use rules::Rating;
 use rules::System;

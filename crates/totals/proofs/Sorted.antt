@@ -22,7 +22,7 @@ use Rattle.rules.proofs.Accepted.{first-of, first-after, stretch-get}
 use Rattle.rules.proofs.Tests.{neither, by-test}
 use Rattle.rules.proofs.Unless.{unless-some}
 use Rattle.rules.proofs.Conditions.{none-above, above-none}
-use Rattle.deck.proofs.Versions.{read-own}
+use Rattle.layout.proofs.Versions.{read-own}
 use Rattle.deck.proofs.Sound.{sound}
 use Rattle.totals.specs.Season.{lastKind}
 

@@ -5,7 +5,7 @@ use mathlib.Core.List.{List, [], _∷_}
 use Prim.Native.Nat.{ℕ, zero, suc}
 use lib.Dec.{eqb}
 use lib.ListN.{length}
-use Rattle.deck.specs.Ending.{fileAt, restAt}
+use Rattle.ending.specs.Ending.{fileAt, restAt}
 use Rattle.totals.specs.Season.{isRefused}
 use Rattle.totals.specs.Room.{mostFiles}
 

@@ -7,7 +7,7 @@ use Rattle.rules.specs.Below.{listBelow}
 use Rattle.rules.specs.File.{worthLoadingOf}
 use Rattle.rules.specs.declared.Worth.{Worth}
 use Rattle.rules.specs.declared.Worth.the-variants.{Ends, Refused}
-use Rattle.deck.specs.Read.{padded}
+use Rattle.arrays.specs.Padded.{padded}
 use Rattle.worths.specs.declared.Worths.{Worths}
 use Rattle.worths.specs.Drawn.{mostDrawn}
 

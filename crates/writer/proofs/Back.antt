@@ -16,12 +16,13 @@ use Rattle.rules.proofs.Unless.{unless-none}
 use Rattle.deck.specs.declared.Read.{Read}
 use Rattle.deck.specs.Read.{arraysOf}
 use Rattle.deck.specs.Outcome.{Handed}
-use Rattle.deck.specs.Bounds.{Under, Bytes, Bounds}
+use Rattle.layout.specs.Fits.{Under, Bytes}
+use Rattle.deck.specs.Bounds.{Bounds}
 use Rattle.deck.proofs.File.{deck-back, file-back, deck-bounds}
 use Rattle.deck.proofs.Kept.{read-file}
 use Rattle.deck.proofs.Systems.{numbers-length, listed-numbers, listed-systems}
 use Rattle.writer.specs.Outcome.{Wrote}
-use Rattle.deck.proofs.Versions.{under-read}
+use Rattle.layout.proofs.Versions.{under-read}
 use Rattle.writer.proofs.Writable.{count, count-is, counted-read, placed-read, read-twice, writable}
 use Rattle.writer.proofs.Outcome.{writing-is}
 

@@ -9,7 +9,7 @@ use native.Mathlib.Omega.{arith}
 use lib.ListN.{length, getD, take, drop, set, length-append, length-drop, take-append-drop}
 use lib.Seq.{length-take-le, take-suc, take-all, take-at, drop-append-add, drop-drop, sets-eq}
 use Rattle.rules.specs.File.{bytesOf, allBytes}
-use Rattle.deck.proofs.Numbers.{bytes-length, all-length, all-append}
+use Rattle.layout.proofs.Numbers.{bytes-length, all-length, all-append}
 use Rattle.writer.specs.Laid.{laid}
 
 module _ (at : ℕ) (room : List ℕ) where

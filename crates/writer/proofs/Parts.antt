@@ -8,11 +8,11 @@ use lib.ListN.{length, length-append}
 use Rattle.rules.specs.Boards.{boardsRead}
 use Rattle.rules.specs.File.{headerLength, survivalField, boardCountField, countsOf, allBytes, headerOf, systemNumbers, fileOf, survivalBytes, weightBytes, boardBytes, survivalOffset, weightsOffset, boardsOffset, boardSurvivalOffset, systemsOffset}
 use Rattle.rules.specs.Writing.{Typed, deckOf, bytesFor}
-use Rattle.deck.proofs.Header.{header-length}
+use Rattle.layout.proofs.Header.{header-length}
 use Rattle.deck.proofs.File.{toWeights, toBoards, toNumbers, toSystems, weights-from, boards-from, numbers-from, systems-from}
-use Rattle.deck.proofs.Numbers.{all-length, all-append}
+use Rattle.layout.proofs.Numbers.{all-length, all-append}
 use Rattle.deck.proofs.Systems.{listed-numbers}
-use Rattle.deck.proofs.Versions.{by-boards}
+use Rattle.layout.proofs.Versions.{by-boards}
 use Rattle.writer.specs.Laid.{laid}
 use Rattle.writer.proofs.Laying.{laid-next}
 use Rattle.writer.proofs.Writable.{count, count-is, boardsTyped, fans-typed, Writable}

@@ -18,7 +18,7 @@ use Rattle.rules.proofs.Tests.{both, neither}
 use Rattle.rules.proofs.EachKind.{within-true}
 use Rattle.rules.proofs.Accepted.{none-first}
 use Rattle.deck.proofs.File.{file-length}
-use Rattle.deck.proofs.Versions.{header-bounds, fans-bound}
+use Rattle.layout.proofs.Versions.{header-bounds, fans-bound}
 
 -- how many systems are typed
 abbrev pub count : Typed → ℕ

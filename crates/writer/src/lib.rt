@@ -9,7 +9,6 @@ ghost use Rattle.rules.specs.File.{perSystem, fileLength, headerOf};
 ghost use Rattle.rules.specs.Writing.{typedOf, bytesFor, badFives, writeRefusal};
 ghost use Rattle.writer.specs.Laid.{laid};
 ghost use Rattle.writer.specs.Outcome.{Sized, Heads, Wrote};
-use deck::layout;
 use rules::Writing;
 
 // A system is typed as five numbers: kind, first, second, a, b.

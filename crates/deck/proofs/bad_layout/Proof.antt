@@ -5,8 +5,8 @@ use Prim.Native.Nat.{ℕ}
 use native.Mathlib.Omega.{arith}
 use borrow.Author.Tests.{eq-eqb, ne-eqb}
 use Rattle.rules.specs.File.{headerLength, versionIn, weightsOffset, systemsOffset}
-use Rattle.deck.proofs.Numbers.{spelled-fits}
-use Rattle.deck.proofs.Versions.{header-bounds}
+use Rattle.layout.proofs.Numbers.{spelled-fits}
+use Rattle.layout.proofs.Versions.{header-bounds}
 use Rattle.deck.proofs.Checks.{layout-is}
 use borrow.Author.Needs.{needs}
 use Rattle.deck.proofs.bad_layout.Statement.{statement}

@@ -4,7 +4,7 @@ use Prim.Native.Nat.{_+_, _-_}
 use native.Mathlib.Omega.{arith}
 use lib.ListN.{take, drop}
 use Rattle.rules.specs.File.{boardsOffset, boardFans}
-use Rattle.deck.proofs.Numbers.{bytes-are}
+use Rattle.layout.proofs.Numbers.{bytes-are}
 use borrow.Author.Needs.{needs}
 use Rattle.deck.proofs.board_bytes.Statement.{statement}
 use Rattle.deck.proofs.board_bytes.Tie as tie

@@ -3,7 +3,8 @@ use mathlib.Core.Path.{ap₂, _∙_}
 use native.Mathlib.Omega.{arith}
 use Rattle.rules.specs.Refusal.{mostBoards}
 use Rattle.rules.specs.File.{survivalBytes, boardSurvivalOffset, numbersFrom, deckIn}
-use Rattle.deck.specs.Read.{padded, keptDeck}
+use Rattle.arrays.specs.Padded.{padded}
+use Rattle.deck.specs.Read.{keptDeck}
 use Rattle.deck.proofs.Sound.{sound, sound-few}
 use borrow.Author.Needs.{needs}
 use Rattle.deck.proofs.board_survival_in.Statement.{statement}

@@ -3,8 +3,8 @@ use mathlib.Core.Path.{sym, ap, ap₂, _∙_}
 use native.Mathlib.Omega.{arith}
 use Rattle.rules.specs.Boards.{hasBoards}
 use Rattle.rules.specs.File.{versionIn, boardsOffset}
-use Rattle.deck.proofs.Numbers.{spelled-fits}
-use Rattle.deck.proofs.Versions.{header-bounds, header-some}
+use Rattle.layout.proofs.Numbers.{spelled-fits}
+use Rattle.layout.proofs.Versions.{header-bounds, header-some}
 use Rattle.deck.proofs.Checks.{elsewhere-some, elsewhere-none}
 use borrow.Author.Needs.{needs}
 use Rattle.deck.proofs.boards_elsewhere.Statement.{statement}

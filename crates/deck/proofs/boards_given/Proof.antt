@@ -3,8 +3,8 @@ use mathlib.Core.Path.{sym, ap, _∙_}
 use native.Mathlib.Omega.{arith}
 use Rattle.rules.specs.Boards.{hasBoards}
 use Rattle.rules.specs.File.{numberAt, boardCountField, versionIn}
-use Rattle.deck.proofs.Numbers.{spelled-fits}
-use Rattle.deck.proofs.Versions.{header-bounds, header-some, with-boards, without-boards}
+use Rattle.layout.proofs.Numbers.{spelled-fits}
+use Rattle.layout.proofs.Versions.{header-bounds, header-some, with-boards, without-boards}
 use borrow.Author.Needs.{needs}
 use Rattle.deck.proofs.boards_given.Statement.{statement}
 use Rattle.deck.proofs.boards_given.Tie as tie

@@ -8,7 +8,7 @@ use Rattle.rules.specs.Refusal.{badSize, badBoards}
 use Rattle.rules.specs.File.{versionIn}
 use Rattle.rules.proofs.Accepted.{first-of, first-after}
 use Rattle.deck.specs.Outcome.{countsRefusal}
-use Rattle.deck.proofs.Versions.{header-bounds}
+use Rattle.layout.proofs.Versions.{header-bounds}
 use Rattle.deck.proofs.Checks.{none-left}
 use borrow.Author.Needs.{needs}
 use Rattle.deck.proofs.counts_refusal.Statement.{statement}

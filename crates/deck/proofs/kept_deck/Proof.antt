@@ -5,9 +5,10 @@ use lib.ListN.{length}
 use Rattle.rules.specs.Below.{listBelow}
 use Rattle.rules.specs.File.{mostFans, mostSystems, nthSystem, boardFans, versionIn, fansIn, deckIn}
 use Rattle.rules.proofs.Lists.{below-length}
-use Rattle.deck.specs.Read.{padded, noSystem, keptDeck}
+use Rattle.arrays.specs.Padded.{padded, noSystem}
+use Rattle.deck.specs.Read.{keptDeck}
 use Rattle.deck.proofs.Sound.{sound}
-use Rattle.deck.proofs.Versions.{fans-bound}
+use Rattle.layout.proofs.Versions.{fans-bound}
 use borrow.Author.Needs.{needs}
 use Rattle.deck.proofs.kept_deck.Statement.{statement}
 use Rattle.deck.proofs.kept_deck.Tie as tie

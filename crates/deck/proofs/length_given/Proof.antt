@@ -2,8 +2,8 @@
 use mathlib.Core.Path.{_∙_}
 use native.Mathlib.Omega.{arith}
 use Rattle.rules.specs.File.{versionIn, fileLength}
-use Rattle.deck.proofs.Numbers.{spelled-fits}
-use Rattle.deck.proofs.Versions.{header-bounds}
+use Rattle.layout.proofs.Numbers.{spelled-fits}
+use Rattle.layout.proofs.Versions.{header-bounds}
 use borrow.Author.Needs.{needs}
 use Rattle.deck.proofs.length_given.Statement.{statement}
 use Rattle.deck.proofs.length_given.Tie as tie

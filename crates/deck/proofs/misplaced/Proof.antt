@@ -6,8 +6,8 @@ use native.Mathlib.Omega.{arith}
 use lib.ListN.{take, drop}
 use Rattle.rules.specs.Refusal.{misplaced}
 use Rattle.rules.specs.File.{numbersFrom, boardBytes, boardFans, boardsOffset, boardSurvivalOffset, versionIn, fansIn}
-use Rattle.deck.proofs.Numbers.{spelled-fits}
-use Rattle.deck.proofs.Versions.{header-bounds}
+use Rattle.layout.proofs.Numbers.{spelled-fits}
+use Rattle.layout.proofs.Versions.{header-bounds}
 use Rattle.deck.proofs.Checks.{laid-whole, misplaced-is}
 use borrow.Author.Needs.{needs}
 use Rattle.deck.proofs.misplaced.Statement.{statement}

@@ -2,7 +2,8 @@
 use mathlib.Core.Path.{ap, ap₂, _∙_}
 use native.Mathlib.Omega.{arith}
 use Rattle.rules.specs.File.{headerLength, mostFans, survivalBytes, numbersFrom, deckIn}
-use Rattle.deck.specs.Read.{padded, keptDeck}
+use Rattle.arrays.specs.Padded.{padded}
+use Rattle.deck.specs.Read.{keptDeck}
 use Rattle.deck.proofs.Sound.{sound}
 use borrow.Author.Needs.{needs}
 use Rattle.deck.proofs.survival_in.Statement.{statement}

@@ -1,7 +1,7 @@
 -- `mend::header_for` meets its contract: the longest header's room takes every header. Assumes nothing.
 use native.Mathlib.Omega.{arith}
 use Rattle.rules.specs.File.{versionIn}
-use Rattle.deck.proofs.Versions.{header-bounds}
+use Rattle.layout.proofs.Versions.{header-bounds}
 use borrow.Author.Needs.{needs}
 use Rattle.mend.proofs.header_for.Statement.{statement}
 use Rattle.mend.proofs.header_for.Tie as tie

@@ -2,7 +2,7 @@
 use mathlib.Core.Path.{ap, _∙_}
 use native.Mathlib.Omega.{arith}
 use Rattle.rules.specs.File.{headerLength, versionIn}
-use Rattle.deck.proofs.Versions.{header-bounds}
+use Rattle.layout.proofs.Versions.{header-bounds}
 use Rattle.mend.proofs.Mendable.{mendable}
 use borrow.Author.Needs.{needs}
 use Rattle.mend.proofs.header_given.Statement.{statement}

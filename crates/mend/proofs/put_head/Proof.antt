@@ -2,7 +2,7 @@
 use mathlib.Core.Path.{_∙_}
 use native.Mathlib.Omega.{arith}
 use Rattle.rules.specs.File.{versionIn, headerOf}
-use Rattle.deck.proofs.Versions.{header-bounds}
+use Rattle.layout.proofs.Versions.{header-bounds}
 use Rattle.writer.specs.Laid.{laid}
 use Rattle.mend.proofs.Mendable.{mendable, few}
 use borrow.Author.Needs.{needs}

@@ -2,7 +2,7 @@
 use mathlib.Core.Path.{sym, ap, _∙_}
 use lib.ListN.{getD, take}
 use lib.Seq.{length-take-le}
-use Rattle.deck.specs.Read.{noSystem}
+use Rattle.arrays.specs.Padded.{noSystem}
 use Rattle.states.specs.States.{partVerdict, verdictAt}
 use borrow.Author.Needs.{needs}
 use Rattle.states.proofs.state_system.Statement.{statement}

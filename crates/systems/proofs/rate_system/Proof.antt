@@ -8,7 +8,7 @@ use Rattle.rules.specs.Asked.{askedOf}
 use Rattle.rules.specs.Refusal.{cells}
 use Rattle.rules.specs.Answer.{figuresOf}
 use Rattle.rules.specs.File.{systemOf}
-use Rattle.deck.specs.Read.{noSystem}
+use Rattle.arrays.specs.Padded.{noSystem}
 use Rattle.systems.specs.Arrays.{answerAt}
 use borrow.Author.Needs.{needs}
 use Rattle.systems.proofs.rate_system.Statement.{statement}

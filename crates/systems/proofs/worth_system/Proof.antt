@@ -8,7 +8,7 @@ use Rattle.rules.specs.Asked.{askedOf}
 use Rattle.rules.specs.Refusal.{cells}
 use Rattle.rules.specs.Worth.{worthOf}
 use Rattle.rules.specs.File.{systemWorth}
-use Rattle.deck.specs.Read.{noSystem}
+use Rattle.arrays.specs.Padded.{noSystem}
 use Rattle.systems.specs.Arrays.{worthAt}
 use borrow.Author.Needs.{needs}
 use Rattle.systems.proofs.worth_system.Statement.{statement}

@@ -7,7 +7,7 @@ use mir.Syntax.{w64}
 use mir.ValLaws.{toZ-ofZ}
 use borrow.Author.Needs.{needs, sfits-of}
 use Rattle.rules.specs.File.{worthLoadingOf}
-use Rattle.deck.proofs.Lists.{Filled, filled-none, filled-more, filled-all}
+use Rattle.arrays.proofs.Lists.{Filled, filled-none, filled-more, filled-all}
 use Rattle.worths.specs.Drawn.{mostDrawn}
 use Rattle.worths.specs.Worths.{lowerEnd, upperEnd}
 use Rattle.worths.proofs.worths_of.Statement.{statement}

@@ -8,7 +8,7 @@ use lib.Seq.{take-all}
 use Rattle.rules.specs.Boards.{boardsRead}
 use Rattle.rules.specs.File.{fileLength}
 use Rattle.rules.specs.Writing.{Typed, typedOf, writeRefusal}
-use Rattle.deck.proofs.Versions.{fans-bound}
+use Rattle.layout.proofs.Versions.{fans-bound}
 use Rattle.writer.proofs.Writable.{count, boardsTyped, bytes-long, few-typed, fans-typed, listed, Writable, writable, whole-read}
 use Rattle.writer.proofs.Parts.{file-laid}
 use borrow.Author.Needs.{needs}

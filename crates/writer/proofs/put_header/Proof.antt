@@ -5,8 +5,8 @@ use native.Mathlib.Omega.{arith}
 use lib.ListN.{length}
 use Rattle.rules.specs.Boards.{boardsRead}
 use Rattle.rules.specs.File.{allBytes, survivalField, boardCountField, countsOf}
-use Rattle.deck.proofs.Header.{version-fits}
-use Rattle.deck.proofs.Versions.{header-bounds, fans-bound}
+use Rattle.layout.proofs.Header.{version-fits}
+use Rattle.layout.proofs.Versions.{header-bounds, fans-bound}
 use Rattle.writer.specs.Laid.{laid}
 use Rattle.writer.proofs.Parts.{last-fits, header-laid}
 use borrow.Author.Needs.{needs}

@@ -5,7 +5,7 @@ use native.Mathlib.Omega.{arith}
 use lib.ListN.{length, take}
 use borrow.Author.Needs.{needs}
 use lib.Seq.{length-take-le}
-use Rattle.deck.specs.Ending.{asks, longest}
+use Rattle.ending.specs.Ending.{asks, longest}
 use Rattle.season.proofs.Parts.{put-length, put-front, put-asked}
 use Rattle.season.proofs.reading.read_file.Statement.{statement}
 use Rattle.season.proofs.reading.read_file.Tie as tie

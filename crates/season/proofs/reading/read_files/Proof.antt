@@ -4,7 +4,7 @@ use Prim.Native.Nat.{ℕ, _-_, _≤_}
 use native.Mathlib.Omega.{arith}
 use lib.ListN.{length, length-replicate}
 use lib.Seq.{length-take-le}
-use Rattle.deck.specs.Ending.{longest}
+use Rattle.ending.specs.Ending.{longest}
 use Rattle.totals.specs.Room.{mostFiles}
 use Rattle.season.proofs.Ongoing.{Ongoing, ongoing-none, ongoing-open, totalled-plus, ongoing-plus}
 use borrow.Author.Needs.{needs}

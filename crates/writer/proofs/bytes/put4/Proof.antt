@@ -4,7 +4,7 @@ use Prim.Native.Nat.{_%_}
 use native.Mathlib.Omega.{arith}
 use borrow.Author.Needs.{needs}
 use Rattle.writer.specs.Laid.{laid}
-use Rattle.deck.proofs.Numbers.{bytes-length}
+use Rattle.layout.proofs.Numbers.{bytes-length}
 use Rattle.writer.proofs.Laying.{laid-next, bytes-four}
 use Rattle.writer.proofs.bytes.put4.Statement.{statement}
 use Rattle.writer.proofs.bytes.put4.Tie as tie

@@ -1,0 +1,2 @@
+-- The theorems about lists in arrays.
+pub mod Lists

@@ -1,0 +1,2 @@
+-- A file's lists in arrays of fixed length.
+pub mod Padded

@@ -1,0 +1,2 @@
+-- The theorems about what a file asks for.
+pub mod Asking

@@ -1,0 +1,2 @@
+-- Where a file ends in a stream.
+pub mod Ending

@@ -1,0 +1,2 @@
+-- Which numbers fit the layout's fields.
+pub mod Fits
