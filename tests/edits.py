@@ -1,5 +1,5 @@
-"""Each must-fail edit was refused because a fact no longer holds, and not because the proof files no longer fit the code's shape; and all of them together
-are no more, and took no longer, than docs/PROOFS.md allows.
+"""Each must-fail edit was refused because a fact no longer holds, and not because the proof files no longer fit the code's shape; and all of them
+together are no more, and took no longer, than docs/PROOFS.md allows.
 
     edits.py [TARGET]
 

@@ -3,9 +3,9 @@
 
     others.py LOG [WORD..]    all of them, or those whose command has one of the words
 
-What they start is built before, so that no two of them build in one folder. A test has one line when it has passed; when it has failed all that it said stands
-before that line. While none ends, a line every half minute says what is being worked on. LOG gets all that each said, one test after the other. The last line is
-how long each part of the gate took. The exit status is how many failed.
+What they start is built before, so that no two of them build in one folder. A test has one line when it has passed; when it has failed all that it said
+stands before that line. While none ends, a line every half minute says what is being worked on. LOG gets all that each said, one test after the other. The
+last line is how long each part of the gate took. The exit status is how many failed.
 """
 
 import os
@@ -36,28 +36,28 @@ class Ended(NamedTuple):
     seconds: float
 
 
-BUILD = Test("what the other tests start is built", " ".join(("make --no-print-directory lib", *(f"target/programs/{program}" for program in EVERY_PROGRAM))))
+BUILD = Test("what the other tests start is built", f"make --no-print-directory lib {' '.join(f'target/programs/{program}' for program in EVERY_PROGRAM)}")
 TESTS = tuple(Test(*line) for line in (
     ("the library's calls and the programs against the second program", "python3 tests/run.py"),
+    ("deckpage against the second program, and in a browser", "python3 tests/page.py"),
     ("deckmend against the second program", "python3 tests/mend.py"),
     ("deckmake and deckshow against the second program", "python3 tests/typed.py"),
-    ("deckpage against the second program, and in a browser", "python3 tests/page.py"),
     ("the season report against the second program", "python3 tests/season.py"),
-    ("deckstate against the second program", "python3 tests/states.py"),
-    ("the programs' words, percents and failures", "python3 tests/program.py"),
-    ("the office's calls over doubles against the second program", "python3 tests/doubles.py"),
     ("the second program checks itself", "python3 second/selfcheck.py"),
-    ("the office's writer against the second program", "python3 tests/office.py"),
-    ("the libraries link every way, and export their calls alone", "python3 tests/library.py"),
+    ("deckstate against the second program", "python3 tests/states.py"),
+    ("the office's calls over doubles against the second program", "python3 tests/doubles.py"),
     ("what is installed runs, and goes again", "python3 tests/install.py"),
+    ("the libraries link every way, and export their calls alone", "python3 tests/library.py"),
     ("the stored cases are the second program's", "tests/cases.sh"),
+    ("the programs' words, percents and failures", "python3 tests/program.py"),
+    ("the office's writer against the second program", "python3 tests/office.py"),
     ("the walk through a deck is true as printed", "python3 tests/walk.py"),
     ("each must-fail edit is refused for a fact, within their time", "python3 tests/edits.py"),
     ("one version everywhere", "python3 tests/version.py"),
+    ("the list of proofs names what there is", "python3 tests/names.py"),
     ("the library's calls hold within the stack that the ship grants", "python3 tests/stack.py"),
     ("the published figures are what the proved programs print", "python3 tests/published.py"),
     ("the headers declare the C calls as they are defined", "python3 tests/signatures.py"),
-    ("the list of proofs names what there is", "python3 tests/names.py"),
 ))
 
 

@@ -128,7 +128,7 @@ def refusals_met(lines):
 def kinds_answered(asked, lines):
     """Systems of every kind were answered in files of every version."""
     met = set()
-    for (data, system), line in zip(asked, lines, strict=True):
+    for (data, system, _), line in zip(asked, lines, strict=True):
         if not line.split()[2].startswith("ffffffff"):
             deck = read_deck(data)
             met.add((deck.version, deck.systems[system - 1].rule.kind))
@@ -142,8 +142,9 @@ def compare_calls(files):
     pairs = [(data, list(asked(rng, data))) for data in files]
     said = run(static(root / "tests/loading_test.c", "loading_test"), b"".join(to_ask(*pair) for pair in pairs)).decode().splitlines()
     lines, stacks = said[:-CALLS], said[-CALLS:]
-    good = compare_stacks(stacks) & units_seen(lines) & refusals_met(lines) & kinds_answered([(data, one[0]) for data, asks in pairs for one in asks], lines)
-    return good & compare(f"calls on {len(files)} files", lines, [answered(data, *one) for data, asks in pairs for one in asks])
+    every = [(data, *one) for data, asks in pairs for one in asks]
+    good = compare_stacks(stacks) & units_seen(lines) & refusals_met(lines) & kinds_answered(every, lines)
+    return good & compare(f"calls on {len(files)} files", lines, [answered(*one) for one in every])
 
 
 def compare_stored():

@@ -18,9 +18,9 @@ from typed_samples import (
     SOUND, across, layouts, long_lines, long_words, many_lines, named, no_text, numbers, other_words, random_lines, several, slips,
 )
 
-DECKS = 40  # of each version
-FILES = 100
-RANDOM = 25  # texts of each version
+DECKS = 25  # of each version
+FILES = 60
+RANDOM = 15  # texts of each version
 PIECES = 1, 7, 4096, 131071  # bytes
 
 
