@@ -1,8 +1,8 @@
 """deckmend against the second program, what it writes and what it says of it.
 
-Every byte of a header set to 0, to 255, to one more, to one less and with each bit changed, in each version; headers with several bytes damaged, the files
-whole, cut or run on; files cut at every length; from 1 to 100,000 bytes behind a file; sound and damaged files at random; input that comes in pieces; and a
-file with far more behind it. A process each, so there are not more of them; second/selfcheck.py has every byte at every value.
+Every byte of a header set to 0, to 255, to one more, to one less and with each bit changed, in each version; headers with several bytes damaged, the
+files whole, cut or run on; files cut at every length; from 1 to 100,000 bytes behind a file; sound and damaged files at random; input that comes in
+pieces; and a file with far more behind it. A process each, so there are not more; of the second program second/selfcheck.py tries every byte and value.
 """
 
 import random

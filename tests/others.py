@@ -3,9 +3,9 @@
 
     others.py LOG [WORD..]    all of them, or those whose command has one of the words
 
-What they start is built before, so that no two of them build in one folder. A test has one line when it has passed; when it has failed all that it said
-stands before that line. While none ends, a line every half minute says what is being worked on. LOG gets all that each said, one test after the other. The
-last line is how long each part of the gate took. The exit status is how many failed.
+What they start is built before, so that no two of them build in one folder. A test has one line when it has passed; when it has failed all that it
+said stands before that line. While none ends, a line every half minute says what is being worked on. LOG gets all that each said, one test after the
+other. The last line is how long each part of the gate took. The exit status is how many failed.
 """
 
 import os
@@ -36,7 +36,8 @@ class Ended(NamedTuple):
     seconds: float
 
 
-BUILD = Test("what the other tests start is built", f"make --no-print-directory lib {' '.join(f'target/programs/{program}' for program in EVERY_PROGRAM)}")
+LINKED = " ".join(f"target/programs/{program}" for program in EVERY_PROGRAM)
+BUILD = Test("what the other tests start is built", f"make --no-print-directory lib {LINKED}")
 TESTS = tuple(Test(*line) for line in (
     ("the library's calls and the programs against the second program", "python3 tests/run.py"),
     ("deckpage against the second program, and in a browser", "python3 tests/page.py"),

@@ -137,7 +137,7 @@ def looking(words, *more):
 
 
 def looked_at(words, pages):
-    """What is wrong with each page at each width, by its name and the width; all of them in frames of one page, since the browser takes long to start."""
+    """What is wrong with each page at each width, by its name and the width; all in frames of one page, since the browser takes long to start."""
     outer, frames = room / "frames.html", [(name, width) for name in pages for width in WIDTHS]
     outer.write_text("<!DOCTYPE html><body>" + "".join(
         f"<iframe width='{width}' height='20000' style='border:0' srcdoc='{html.escape(pages[name])}'></iframe>" for name, width in frames

@@ -3,8 +3,8 @@
 
     progress.py LOG rt WORDS..
 
-A line for each crate proved, must-fail edit refused and program run, of how many; while nothing ends, one every half minute says what is being worked on.
-The log's last line says how long each of these took. tests/others.py shows the other tests in the same way.
+A line for each crate proved, must-fail edit refused and program run, of how many; while nothing ends, one every half minute says what is being worked
+on. The log's last line says how long each of these took. tests/others.py shows the other tests in the same way.
 """
 
 import queue

@@ -1,7 +1,8 @@
-"""Each C call is declared as it is defined: the header's prototype has the parameters of the Rattle function, by name, type and order, and its answer's type.
+"""Each C call is declared as it is defined: the header's prototype has the parameters of the Rattle function, by name, type and order, and the type of
+its answer.
 
-A list that is lent stands in C as a pointer of the same name and, after it, a length of any name; a pair of ends as a pointer alone. The proofs say what a
-call answers of its parameters by their names, and nothing of the order in which C passes them. Crate ratings is the benchmark's and has no header.
+A list that is lent stands in C as a pointer of the same name and, after it, a length of any name; a pair of ends as a pointer alone. The proofs say what
+a call answers of its parameters by their names, and nothing of the order in which C passes them. Crate ratings is the benchmark's and has no header.
 """
 
 import re
