@@ -3,7 +3,7 @@
 import random
 
 from files import DAMAGES, random_deck
-from foambeetle import WORKS, Fails, Refusal, Rule, deck_bytes, decklist_output, read_deck
+from foambeetle import WORKS, Fails, Refusal, deck_bytes, decklist_output, read_deck
 from states import BOARD, Wrong, deckstate_output, failed_fans, number_of, system_verdict
 from states_samples import NO_NUMBERS, every_kind, every_kind_file, right_words, wrong_words
 

@@ -4,6 +4,7 @@ pub mod Mendable
 pub mod Putting
 pub mod Kept
 pub mod Mended
+pub mod Fields
 pub mod Heading
 pub mod Front
 pub mod Outcome

@@ -21,7 +21,7 @@ fn pack(writing: Writing) -> u64
 }
 
 // What the C program calls: `uint64_t foambeetle_write(uint64_t version, const uint32_t *survival, size_t n, const uint16_t *weights, size_t w,
-// const uint8_t *boards, size_t b, const uint32_t *board_survival, size_t g, const uint16_t *systems, size_t s, uint8_t *room, size_t length)`.
+// const uint8_t *boards, size_t b, const uint32_t *switchboards, size_t g, const uint16_t *systems, size_t s, uint8_t *room, size_t length)`.
 #[no_mangle]
 pub extern "C" fn foambeetle_write(
     version: u64,
