@@ -1,8 +1,4 @@
 // Draws the deck file on standard input as one page of HTML that needs nothing else.
-
-mod card; // card.rt: one system
-mod page; // page.rt: the page around the systems
-
 ghost use Rattle.forms.specs.Within.{Within};
 use deck::Deck;
 use libc::STDERR_FILENO;

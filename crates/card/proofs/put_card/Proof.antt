@@ -1,9 +1,9 @@
--- `card::put_card` meets its contract: what is rated is within the unit. Assumes nothing.
+-- `put_card` meets its contract: what is rated is within the unit. Assumes nothing.
 use Rattle.rules.proofs.Within.{loading-within}
 use native.Mathlib.Omega.{arith}
 use borrow.Author.Needs.{needs}
-use Rattle.deckpage.proofs.card.put_card.Statement.{statement}
-use Rattle.deckpage.proofs.card.put_card.Tie as tie
+use Rattle.card.proofs.put_card.Statement.{statement}
+use Rattle.card.proofs.put_card.Tie as tie
 
 put-title-requires : tie.Need-put-title-requires
 put-title-requires c κs = search needs

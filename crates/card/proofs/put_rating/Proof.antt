@@ -1,7 +1,7 @@
--- `card::put_rating` meets its contract, case by case: a range is within the unit. Assumes nothing.
+-- `put_rating` meets its contract, case by case: a range is within the unit. Assumes nothing.
 use borrow.Author.Needs.{needs}
-use Rattle.deckpage.proofs.card.put_rating.Statement.{statement}
-use Rattle.deckpage.proofs.card.put_rating.Tie as tie
+use Rattle.card.proofs.put_rating.Statement.{statement}
+use Rattle.card.proofs.put_rating.Tie as tie
 
 enum-known-rating : tie.Need-enum-known-rating
 enum-known-rating c = search needs
