@@ -4,16 +4,15 @@ ghost use lib.ListN.{length};
 ghost use Rattle.rules.specs.State.{S};
 ghost use Rattle.rules.specs.Within.{WithinUnit};
 ghost use Rattle.forms.specs.Within.{Within};
-ghost use Rattle.worths.specs.Drawn.{Drawable};
+ghost use Rattle.drawn.specs.Drawn.{Drawable};
 use drawing::bars;
 use drawing::brackets;
+use drawn::Shape;
 use rules::Rating;
 use rules::System;
 use telling::best;
 use telling::chance;
 use telling::fitted;
-use worths::shape;
-use worths::shape::Shape;
 
 // A deck has no more systems.
 pub const MOST_SYSTEMS: usize = 32;
@@ -62,7 +61,7 @@ fn put_worth(file: &[u8], number: u64, shape: Shape, out: &mut [u8], at: usize) 
 fn most_gap(shape: Shape, g: u64) -> u64
     requires { ⌜ Drawable shape ⌝ }
 {
-    shape.upto - shape.from + shape::bounded(0, g, 64)
+    shape.upto - shape.from + drawn::bounded(0, g, 64)
 }
 
 // A system that is answered.
@@ -132,7 +131,7 @@ pub fn put_card(
     ensures { λ r. ⌜ Within r (now (out .exit)) ⌝ }
 {
     let title = put_title(fans, number, system, out);
-    let shape = shape::shape_of(fans, system);
+    let shape = drawn::shape_of(fans, system);
     let rating = systems::rate_file(file, number);
     let body = put_rating(file, version, g, number, shape, rating, out, title);
     text::put(out, body, b"</section>\n")

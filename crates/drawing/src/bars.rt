@@ -2,15 +2,14 @@
 ghost use Prim.Native.Nat.{_+_, _*_, _≤_};
 ghost use lib.ListN.{length};
 ghost use Rattle.rules.specs.State.{S};
-ghost use Rattle.worths.specs.Drawn.{Drawable, mostDrawn};
+ghost use Rattle.drawn.specs.Drawn.{Drawable, mostDrawn};
 ghost use Rattle.forms.specs.Within.{Within};
 ghost use Rattle.drawing.specs.Drawing.{mostLine, mostLetters};
 use crate::brackets;
+use drawn::FANS;
+use drawn::Shape;
+use drawn::Worths;
 use text::lines;
-use worths::Worths;
-use worths::shape;
-use worths::shape::FANS;
-use worths::shape::Shape;
 
 // Such a part of the largest end is too little to be seen.
 const UNSEEN: u64 = 100;
@@ -46,7 +45,7 @@ fn height_of(end: i64, largest: u64, line: u64) -> u64
     if largest == 0 {
         return 0;
     }
-    let height = shape::bounded(0, lines::absolute(end), largest) * TALLEST / largest;
+    let height = drawn::bounded(0, lines::absolute(end), largest) * TALLEST / largest;
     if line == TALL { height } else { height / 2 }
 }
 
@@ -110,7 +109,7 @@ fn put_bars(worths: Worths, line: u64, out: &mut [u8], at: usize) -> usize
     requires { ⌜ at ≤ length (now out) ⌝ }
     ensures { λ r. ⌜ Within r (now (out .exit)) ⌝ }
 {
-    let largest = worths::largest_of(worths);
+    let largest = drawn::largest_of(worths);
     let lower = worths.lower;
     let upper = worths.upper;
     let first = text::put(out, at, b"<path class='lower' d='");
@@ -125,7 +124,7 @@ fn width_of(fans: u64) -> u64
     requires { ⌜ fans ≤ mostDrawn ⌝ }
     ensures { λ r. ⌜ r ≤ 640 ⌝ }
 {
-    shape::bounded(FEW, fans, 64) * FAN
+    drawn::bounded(FEW, fans, 64) * FAN
 }
 
 // How large letters are, by the drawing's width.
@@ -237,7 +236,7 @@ fn is_below(end: i64, far: u64) -> bool {
 // Does any bar go down from the line, so far that it can be seen? The lower end does where the upper one does.
 fn goes_down(worths: Worths) -> bool {
     let lower = worths.lower;
-    any_below(lower, worths::largest_of(worths) / UNSEEN)
+    any_below(lower, drawn::largest_of(worths) / UNSEEN)
 }
 
 // How far down the dots are: below all bars.

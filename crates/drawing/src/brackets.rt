@@ -1,10 +1,10 @@
 // The rule's windows: brackets under the row, an arc on the ring, and which fans they hold.
 ghost use Prim.Native.Nat.{_≤_};
 ghost use lib.ListN.{length};
-ghost use Rattle.worths.specs.Drawn.{Drawable, mostDrawn};
+ghost use Rattle.drawn.specs.Drawn.{Drawable, mostDrawn};
 ghost use Rattle.forms.specs.Within.{Within};
 use crate::bars::FAN;
-use worths::shape::Shape;
+use drawn::Shape;
 
 // A bracket under the fans from one to another.
 fn put_bracket(bracket: &[u8], from: u64, upto: u64, y: u64, out: &mut [u8], at: usize) -> usize

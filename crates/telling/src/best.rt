@@ -2,11 +2,11 @@
 ghost use Prim.Native.Nat.{_≤_, _<_};
 ghost use lib.ListN.{length};
 ghost use Rattle.forms.specs.Within.{Within};
-ghost use Rattle.worths.specs.Drawn.{mostDrawn};
+ghost use Rattle.drawn.specs.Drawn.{mostDrawn};
 use crate::fitted;
-use worths::Worths;
-use worths::shape::FANS;
-use worths::shape::Shape;
+use drawn::FANS;
+use drawn::Shape;
+use drawn::Worths;
 
 // So many are named.
 const NAMED: u64 = 5;

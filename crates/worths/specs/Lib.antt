@@ -1,3 +1,2 @@
--- What is drawn of a system: the fans and windows, and the worths.
-pub mod Drawn
+-- The worths that are drawn.
 pub mod Worths

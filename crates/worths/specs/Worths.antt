@@ -8,8 +8,8 @@ use Rattle.rules.specs.File.{worthLoadingOf}
 use Rattle.rules.specs.declared.Worth.{Worth}
 use Rattle.rules.specs.declared.Worth.the-variants.{Ends, Refused}
 use Rattle.arrays.specs.Padded.{padded}
-use Rattle.worths.specs.declared.Worths.{Worths}
-use Rattle.worths.specs.Drawn.{mostDrawn}
+use Rattle.drawn.specs.declared.Worths.{Worths}
+use Rattle.drawn.specs.Drawn.{mostDrawn}
 
 -- an end of a worth; 0 where there is none
 abbrev pub lowerEnd : Worth → ℤ

@@ -1,23 +1,11 @@
 // What each fan of a deck is worth to a system.
-pub mod shape; // shape.rt: the fans and windows that are drawn
-
 ghost use mathlib.Core.Path.{_≡_};
 ghost use Prim.Native.Nat.{_≤_};
-ghost use Rattle.rules.specs.State.{S};
-ghost use Rattle.worths.specs.Drawn.{mostDrawn};
+ghost use Rattle.drawn.specs.Drawn.{mostDrawn};
 ghost use Rattle.worths.specs.Worths.{Weighed, lowerEnd, upperEnd};
-use crate::shape::FANS;
+use drawn::FANS;
+use drawn::Worths;
 use rules::Worth;
-use text::lines;
-
-// The larger unit, which no worth is above.
-const UNIT: u64 = 1073741824;
-
-// The two ends of each fan's worth, the first fan's at 0; a fan outside the stretch has none, and 0 stands there.
-pub struct Worths {
-    pub lower: [i64; FANS],
-    pub upper: [i64; FANS],
-}
 
 // The lower end of a worth, 0 where there is none.
 fn lower_of(worth: Worth) -> i64
@@ -54,29 +42,4 @@ pub fn worths_of(file: &[u8], system: u64, fans: u64) -> Worths
         i += 1;
     }
     Worths { lower, upper }
-}
-
-// The larger of two numbers.
-fn larger(x: u64, y: u64) -> u64 {
-    if x < y { y } else { x }
-}
-
-// The largest of so many ends, without their signs.
-fn largest_in(ends: [i64; FANS]) -> u64 {
-    let mut largest: u64 = 0;
-    let mut i: usize = 0;
-    while i < FANS {
-        largest = larger(largest, lines::absolute(ends[i]));
-        i += 1;
-    }
-    largest
-}
-
-// The largest of all ends: what the tallest bar stands for.
-pub fn largest_of(worths: Worths) -> u64
-    ensures { λ r. ⌜ r ≤ S ⌝ }
-{
-    let lower = worths.lower;
-    let upper = worths.upper;
-    shape::bounded(0, larger(largest_in(lower), largest_in(upper)), UNIT)
 }

@@ -8,7 +8,7 @@ use mir.ValLaws.{toZ-ofZ}
 use borrow.Author.Needs.{needs, sfits-of}
 use Rattle.rules.specs.File.{worthLoadingOf}
 use Rattle.arrays.proofs.Lists.{Filled, filled-none, filled-more, filled-all}
-use Rattle.worths.specs.Drawn.{mostDrawn}
+use Rattle.drawn.specs.Drawn.{mostDrawn}
 use Rattle.worths.specs.Worths.{lowerEnd, upperEnd}
 use Rattle.worths.proofs.worths_of.Statement.{statement}
 use Rattle.worths.proofs.worths_of.Tie as tie

@@ -2,7 +2,7 @@
 use Prim.Native.Nat.{_-_, _≤_}
 use native.Mathlib.Omega.{arith}
 use borrow.Author.Needs.{needs}
-use Rattle.worths.specs.Drawn.{mostDrawn}
+use Rattle.drawn.specs.Drawn.{mostDrawn}
 use Rattle.drawing.proofs.bars.any_below.Statement.{statement}
 use Rattle.drawing.proofs.bars.any_below.Tie as tie
 

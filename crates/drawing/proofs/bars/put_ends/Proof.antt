@@ -4,7 +4,7 @@ use Prim.Native.Nat.{_-_, _≤_}
 use native.Mathlib.Omega.{arith}
 use lib.ListN.{length}
 use borrow.Author.Needs.{needs}
-use Rattle.worths.specs.Drawn.{mostDrawn}
+use Rattle.drawn.specs.Drawn.{mostDrawn}
 use Rattle.drawing.proofs.bars.put_ends.Statement.{statement}
 use Rattle.drawing.proofs.bars.put_ends.Tie as tie
 

@@ -2,7 +2,7 @@
 use Prim.Native.Nat.{_-_, _≤_}
 use native.Mathlib.Omega.{arith}
 use borrow.Author.Needs.{needs}
-use Rattle.worths.specs.Drawn.{mostDrawn}
+use Rattle.drawn.specs.Drawn.{mostDrawn}
 use Rattle.telling.proofs.best.outside.Statement.{statement}
 use Rattle.telling.proofs.best.outside.Tie as tie
 

@@ -2,9 +2,9 @@
 use Prim.Native.Nat.{_-_, _≤_}
 use native.Mathlib.Omega.{arith}
 use borrow.Author.Needs.{needs}
-use Rattle.worths.specs.Drawn.{mostDrawn}
-use Rattle.worths.proofs.largest_in.Statement.{statement}
-use Rattle.worths.proofs.largest_in.Tie as tie
+use Rattle.drawn.specs.Drawn.{mostDrawn}
+use Rattle.drawn.proofs.largest_in.Statement.{statement}
+use Rattle.drawn.proofs.largest_in.Tie as tie
 
 abbrev Inv-loop : tie.InvT-loop
 Inv-loop ends largest₀ i₀ largest i = i ≤ mostDrawn

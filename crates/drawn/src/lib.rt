@@ -1,12 +1,17 @@
-// The fans and windows of a system that are drawn.
+// What is drawn of a system: its fans and windows, and what each fan is worth.
 ghost use Prim.Native.Nat.{_≤_};
-ghost use Rattle.worths.specs.Drawn.{mostDrawn, Drawable};
+ghost use Rattle.rules.specs.State.{S};
+ghost use Rattle.drawn.specs.Drawn.{mostDrawn, Drawable};
 use rules::System;
+use text::lines;
 
 // A deck has no more fans.
 pub const FANS: usize = 64;
 
 const MOST: u64 = 64;
+
+// The larger unit, which no worth is above.
+const UNIT: u64 = 1073741824;
 
 // The deck's fans, the stretch, how long the rule's windows are (0 where it has none), and whether the stretch is a ring.
 pub struct Shape {
@@ -15,6 +20,12 @@ pub struct Shape {
     pub upto: u64,
     pub window: u64,
     pub ring: bool,
+}
+
+// The two ends of each fan's worth, the first fan's at 0; a fan outside the stretch has none, and 0 stands there.
+pub struct Worths {
+    pub lower: [i64; FANS],
+    pub upper: [i64; FANS],
 }
 
 // A number within bounds; those of a system that is answered are.
@@ -62,4 +73,29 @@ pub fn shape_of(fans: u64, system: System) -> Shape
         window: bounded(0, window, size),
         ring,
     }
+}
+
+// The larger of two numbers.
+fn larger(x: u64, y: u64) -> u64 {
+    if x < y { y } else { x }
+}
+
+// The largest of so many ends, without their signs.
+fn largest_in(ends: [i64; FANS]) -> u64 {
+    let mut largest: u64 = 0;
+    let mut i: usize = 0;
+    while i < FANS {
+        largest = larger(largest, lines::absolute(ends[i]));
+        i += 1;
+    }
+    largest
+}
+
+// The largest of all ends: what the tallest bar stands for.
+pub fn largest_of(worths: Worths) -> u64
+    ensures { λ r. ⌜ r ≤ S ⌝ }
+{
+    let lower = worths.lower;
+    let upper = worths.upper;
+    bounded(0, larger(largest_in(lower), largest_in(upper)), UNIT)
 }

@@ -1,6 +1,6 @@
 -- What is drawn of a system is within a deck.
 use Prim.Native.Nat.{ℕ, suc, _+_, _≤_}
-use Rattle.worths.specs.declared.shape.Shape.{Shape}
+use Rattle.drawn.specs.declared.Shape.{Shape}
 
 -- as many fans as a deck has at most
 abbrev pub mostDrawn : ℕ
