@@ -70,17 +70,17 @@ module _ (bytes : List ℕ) (none : beyondMending bytes ≡ 0) where
       elim (decLt place zeroField) [
         | yes l ↦ field-bytes (mended bytes) bytes 2 versionField place (version-kept bytes none) version-small (omega arith) l
         | no past ↦
-          let four = apart .zero-field (omega arith) in
-          elim (decLt place countField) [
-            | yes l ↦ field-bytes (mended bytes) bytes 2 fansField place (fans-kept bytes none) fans-small (omega (arith, four)) l
-            | no more ↦
-              elim (decLt place survivalField) [
-                | yes l ↦ field-bytes (mended bytes) bytes 2 countField place (systems-kept bytes none) systems-small (omega arith) l
-                | no rest ↦
-                  let twelve = apart .survival-offset (omega arith) in
-                  let sixteen = apart .weights-offset (omega (arith, twelve)) in
-                  let twenty = apart .systems-offset (omega (arith, sixteen)) in
-                  behind place (omega (arith, twenty)) upto (hasBoards v) refl apart
-              ]
-          ]
+            let four = apart .zero-field (omega arith) in
+            elim (decLt place countField) [
+              | yes l ↦ field-bytes (mended bytes) bytes 2 fansField place (fans-kept bytes none) fans-small (omega (arith, four)) l
+              | no more ↦
+                  elim (decLt place survivalField) [
+                    | yes l ↦ field-bytes (mended bytes) bytes 2 countField place (systems-kept bytes none) systems-small (omega arith) l
+                    | no rest ↦
+                        let twelve = apart .survival-offset (omega arith) in
+                        let sixteen = apart .weights-offset (omega (arith, twelve)) in
+                        let twenty = apart .systems-offset (omega (arith, sixteen)) in
+                        behind place (omega (arith, twenty)) upto (hasBoards v) refl apart
+                  ]
+            ]
       ]
