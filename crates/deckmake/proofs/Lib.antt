@@ -1,5 +1,2 @@
--- The laws of what deckmake reads and writes.
-mod Lengths
-mod Filing
+-- The laws of what deckmake reads.
 mod Pieces
-mod Saying

@@ -9,7 +9,7 @@ use Rattle.listing.specs.declared.Listing.{Listing}
 use Rattle.listing.specs.Told.{toldRoom}
 use Rattle.listing.specs.Holds.{Starts, Held, Steps, ended}
 use Rattle.listing.proofs.Reading.{lines-more}
-use Rattle.deckmake.specs.Made.{Heard, HeardAll}
+use Rattle.making.specs.Made.{Heard, HeardAll}
 
 pub heard-none : {l : Listing} → Starts l → (out : List ℕ) → toldRoom ≤ length out → Heard l out
 unfolding withLines

@@ -1,4 +1,2 @@
--- What deckmake writes, and what it has read.
-pub mod Lines
-pub mod Made
+-- What deckmake has read.
 pub mod Pieces

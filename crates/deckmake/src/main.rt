@@ -1,6 +1,5 @@
 // Makes the deck file that the text on standard input lists, or says what cannot be read of it.
 
-mod making; // making.rt: what is written, put into buffers
 mod reading; // reading.rt: a text of any length
 
 use libc::STDERR_FILENO;

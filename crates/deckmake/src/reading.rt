@@ -8,7 +8,7 @@ ghost use Rattle.typing.specs.Stands.{part};
 ghost use Rattle.typing.specs.Text.{withLines};
 ghost use Rattle.listing.specs.Told.{toldRoom};
 ghost use Rattle.listing.specs.Holds.{Held, Steps, mostLines};
-ghost use Rattle.deckmake.specs.Made.{Heard};
+ghost use Rattle.making.specs.Made.{Heard};
 ghost use Rattle.deckmake.specs.Pieces.{Within, pieceRoom};
 use listing::Listing;
 use program::Input;

@@ -1,5 +1,5 @@
 -- Document 02, request 02: "Every earlier answer stays equal to what it was". There was a call for a whole list; its list of refusals and its outcome stand
--- here as they were. What the one call leaves of the stretch 1 to n is what that call left, for every input it took but kind 8's: answers, refusals, every
+-- here, with today's range of kind 6. What the one call, handed version 1, leaves of the stretch 1 to n is what such a call leaves, for every kind but 8: answers, refusals, every
 -- cell. The stretch 1 to n of a list is the list; weights of another length are refused under kind 2 and unread else. Assumes nothing.
 use mathlib.Core.Path.{_≡_, refl, sym, ap, _∙_}
 use mathlib.Core.Logic.{_⊎_, inl, inr, ⊎-elim}

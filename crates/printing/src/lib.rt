@@ -7,7 +7,7 @@ ghost use Rattle.printing.specs.Front.{WholeRead};
 use deck::Read;
 use text::lines;
 
-// The buffer for the input. No sound file has more than 724 bytes: what is cut from a longer input changes nothing.
+// The buffer for the input. No sound file has more than 812 bytes: what is cut from a longer input changes nothing.
 pub const INPUT: usize = 1024;
 
 // The reader's answer for an input, of which the buffer holds the front: all of it, or as much as the buffer takes.

@@ -7,7 +7,7 @@ use borrow.Author.Needs.{needs}
 use Rattle.typing.specs.Stands.{part}
 use Rattle.listing.proofs.Pieces.{lines-within}
 use Rattle.deckmake.specs.Pieces.{pieceRoom}
-use Rattle.deckmake.specs.Made.{Heard}
+use Rattle.making.specs.Made.{Heard}
 use Rattle.deckmake.proofs.Pieces.{heard-none, heard-held, heard-more}
 use Rattle.deckmake.proofs.reading.read_text.Statement.{statement}
 use Rattle.deckmake.proofs.reading.read_text.Tie as tie

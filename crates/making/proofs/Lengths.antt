@@ -19,8 +19,8 @@ use Rattle.writer.proofs.Writable.{count-is}
 use Rattle.typing.specs.Text.{Listed, nothing, withLines, numbersOf, typedBy}
 use Rattle.typing.proofs.Listing.{Kept, kept-read}
 use Rattle.typing.proofs.Accepted.{fives}
-use Rattle.deckmake.specs.Lines.{warningText, warningRoom, warningsText}
-use Rattle.deckmake.specs.Made.{fileRoom}
+use Rattle.making.specs.Lines.{warningText, warningRoom, warningsText}
+use Rattle.making.specs.Made.{fileRoom}
 
 read-few : (version : ℕ) (l : List ℕ) → length (boardsRead version l) ≤ length l
 read-few version l = go (hasBoards version)

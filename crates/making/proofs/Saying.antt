@@ -14,10 +14,10 @@ use Rattle.typing.specs.Text.{Fault, typedBy}
 use Rattle.listing.specs.declared.Listing.{Listing}
 use Rattle.listing.specs.Holds.{Holds}
 use Rattle.listing.proofs.Handed.{none-told, some-told}
-use Rattle.deckmake.specs.declared.making.Made.{Made}
-use Rattle.deckmake.specs.Lines.{warningsText}
-use Rattle.deckmake.specs.Made.{fileOut, saidOut, listedBy, HeardAll, FileOf, fileRoom, MadeOf}
-use Rattle.deckmake.proofs.Filing.{written-lines}
+use Rattle.making.specs.declared.Made.{Made}
+use Rattle.making.specs.Lines.{warningsText}
+use Rattle.making.specs.Made.{fileOut, saidOut, listedBy, HeardAll, FileOf, fileRoom, MadeOf}
+use Rattle.making.proofs.Filing.{written-lines}
 
 no-faults : (x : List Fault) → length x ≡ 0 → x ≡ []
 no-faults [] e = refl

@@ -1,10 +1,10 @@
 -- `making::make` meets its contract: where something is told, that is what is said; else nothing is, the writer does not refuse, and the warnings are said. Assumes nothing.
 use native.Mathlib.Omega.{arith}
 use borrow.Author.Needs.{needs}
-use Rattle.deckmake.specs.Made.{listedBy}
-use Rattle.deckmake.proofs.Saying.{told-made, file-made, none-made}
-use Rattle.deckmake.proofs.making.make.Statement.{statement}
-use Rattle.deckmake.proofs.making.make.Tie as tie
+use Rattle.making.specs.Made.{listedBy}
+use Rattle.making.proofs.Saying.{told-made, file-made, none-made}
+use Rattle.making.proofs.make.Statement.{statement}
+use Rattle.making.proofs.make.Tie as tie
 
 returns : tie.Need-returns
 returns c = told-made (c .before .before .before .before .before .pre .0) (c .if1 .taken) (c .before .before .before .before .before .args .file .now)

@@ -4,10 +4,10 @@ use native.Mathlib.Omega.{arith}
 use lib.Seq.{length-take-le}
 use Rattle.typing.specs.Text.{typedBy}
 use Rattle.listing.proofs.Handed.{held-typed}
-use Rattle.deckmake.proofs.Filing.{file-written, never-other}
+use Rattle.making.proofs.Filing.{file-written, never-other}
 use borrow.Author.Needs.{needs}
-use Rattle.deckmake.proofs.making.put_file.Statement.{statement}
-use Rattle.deckmake.proofs.making.put_file.Tie as tie
+use Rattle.making.proofs.put_file.Statement.{statement}
+use Rattle.making.proofs.put_file.Tie as tie
 
 cast-numbers : tie.Need-cast-numbers
 cast-numbers c = omega (arith, c .before .before .before .before .before .before .before .pre .holds .fans .parts .few)

@@ -8,10 +8,10 @@ use lib.ListN.{length}
 use Rattle.text.specs.Added.{Added}
 use Rattle.text.proofs.Adding.{none-added, added-more}
 use borrow.Author.Needs.{needs}
-use Rattle.deckmake.specs.Lines.{warningsText}
-use Rattle.deckmake.proofs.Lengths.{warnings-short}
-use Rattle.deckmake.proofs.making.put_warnings.Statement.{statement}
-use Rattle.deckmake.proofs.making.put_warnings.Tie as tie
+use Rattle.making.specs.Lines.{warningsText}
+use Rattle.making.proofs.Lengths.{warnings-short}
+use Rattle.making.proofs.put_warnings.Statement.{statement}
+use Rattle.making.proofs.put_warnings.Tie as tie
 
 abbrev Inv-loop : tie.InvT-loop
 Inv-loop file count out₀ end₀ s₀ out end s = (s ≤ count) × (length out ≡ length out₀) × Added (warningsText file s) out₀ 0 out end

@@ -13,8 +13,8 @@ use Rattle.typing.specs.Text.{Listed, nothing, withLines, listed, typedBy}
 use Rattle.faults.specs.Told.{faultsText, mostTold}
 use Rattle.listing.specs.declared.Listing.{Listing}
 use Rattle.listing.specs.Holds.{Holds, ended}
-use Rattle.deckmake.specs.Lines.{warningsText}
-use Rattle.deckmake.specs.declared.making.Made.{Made}
+use Rattle.making.specs.Lines.{warningsText}
+use Rattle.making.specs.declared.Made.{Made}
 
 -- "nothing goes to standard output then": where a line is faulty
 abbrev pub faultless : Listed → Bool

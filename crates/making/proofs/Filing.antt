@@ -16,8 +16,8 @@ use Rattle.rules.proofs.Unless.{unless-none}
 use Rattle.writer.specs.Outcome.{Wrote}
 use Rattle.typing.specs.Text.{Listed, Fault, nothing, withLines, lastFaults, typedBy}
 use Rattle.typing.proofs.Accepted.{lines-written}
-use Rattle.deckmake.specs.Made.{fileRoom}
-use Rattle.deckmake.proofs.Lengths.{listed-short}
+use Rattle.making.specs.Made.{fileRoom}
+use Rattle.making.proofs.Lengths.{listed-short}
 
 module _ (t : Typed) (room after : List ℕ) (none : writeRefusal t room ≡ 0) where
   whole : after ≡ roomWritten t room → after ≡ bytesFor t ++ drop (length (bytesFor t)) room

@@ -1,10 +1,10 @@
-// What deckmake writes, put into buffers: the deck file, and the warnings of its systems or the faults that were told.
+// What is made of a text, put into buffers: the deck file, and the warnings of its systems or the faults that were told.
 ghost use Prim.Native.Nat.{_+_, _≤_};
 ghost use lib.ListN.{length};
 ghost use Rattle.rules.specs.File.{mostSystems};
 ghost use Rattle.text.specs.Added.{Added};
-ghost use Rattle.deckmake.specs.Lines.{warningText, warningRoom, warningsText, warningsRoom};
-ghost use Rattle.deckmake.specs.Made.{fileRoom, HoldsSome, FileOf, HeardAll, MadeOf};
+ghost use Rattle.making.specs.Lines.{warningText, warningRoom, warningsText, warningsRoom};
+ghost use Rattle.making.specs.Made.{fileRoom, HoldsSome, FileOf, HeardAll, MadeOf};
 use listing::Listing;
 use rules::Rating;
 use rules::Writing;

@@ -3,8 +3,8 @@ use native.Mathlib.Omega.{arith}
 use Rattle.text.specs.Decimal.{text}
 use Rattle.text.proofs.Adding.{none-added, put-added, added-more, pair-reach}
 use borrow.Author.Needs.{needs}
-use Rattle.deckmake.proofs.making.put_warning.Statement.{statement}
-use Rattle.deckmake.proofs.making.put_warning.Tie as tie
+use Rattle.making.proofs.put_warning.Statement.{statement}
+use Rattle.making.proofs.put_warning.Tie as tie
 
 enum-known-rating : tie.Need-enum-known-rating
 enum-known-rating c = search needs
