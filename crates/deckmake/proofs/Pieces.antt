@@ -6,7 +6,7 @@ use lib.ListN.{length}
 use Rattle.typing.specs.Words.{linesOf}
 use Rattle.typing.specs.Text.{nothing, withLines}
 use Rattle.listing.specs.declared.Listing.{Listing}
-use Rattle.listing.specs.Told.{toldRoom}
+use Rattle.typed_lists.specs.Told.{toldRoom}
 use Rattle.listing.specs.Holds.{Starts, Held, Steps, ended}
 use Rattle.listing.proofs.Reading.{lines-more}
 use Rattle.making.specs.Made.{Heard, HeardAll}

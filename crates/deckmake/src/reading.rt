@@ -6,7 +6,7 @@ ghost use Rattle.program.specs.Edges.{FitsIn};
 ghost use Rattle.typing.specs.Words.{linesOf};
 ghost use Rattle.typing.specs.Stands.{part};
 ghost use Rattle.typing.specs.Text.{withLines};
-ghost use Rattle.listing.specs.Told.{toldRoom};
+ghost use Rattle.typed_lists.specs.Told.{toldRoom};
 ghost use Rattle.listing.specs.Holds.{Held, Steps, mostLines};
 ghost use Rattle.making.specs.Made.{Heard};
 ghost use Rattle.deckmake.specs.Pieces.{Within, pieceRoom};

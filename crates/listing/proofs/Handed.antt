@@ -9,9 +9,9 @@ use Rattle.rules.specs.Writing.{Typed, typedOf}
 use Rattle.typing.specs.Text.{Listed, Fault, faultsOf, typedBy, typedText}
 use Rattle.faults.specs.Told.{mostTold}
 use Rattle.listing.specs.declared.Listing.{Listing}
-use Rattle.listing.specs.declared.told.Told.{Told}
-use Rattle.listing.specs.Lists.{TypedNumbers}
-use Rattle.listing.specs.Told.{Telling}
+use Rattle.typed_lists.specs.declared.told.Told.{Told}
+use Rattle.typed_lists.specs.Lists.{TypedNumbers}
+use Rattle.typed_lists.specs.Told.{Telling}
 use Rattle.listing.specs.Holds.{Holds, HoldsText}
 
 -- the lists that the writer is lent

@@ -1,8 +1,4 @@
 -- What is known of listings.
-pub mod Storing
-pub mod MoreFans
-pub mod MoreSystems
-pub mod Telling
 pub mod Ends
 pub mod Holding
 pub mod Passing

@@ -9,11 +9,11 @@ use lib.Seq.{drop-cons}
 use borrow.Author.Tests.{eq-eqb, ne-eqb, lt-ltb, le-ltb}
 use Rattle.text.specs.Decimal.{decimal}
 use Rattle.typing.specs.Text.{Fault, faultAt, noSuchBoard, unplaced}
-use Rattle.listing.specs.declared.told.Told.{Told}
+use Rattle.typed_lists.specs.declared.told.Told.{Told}
 use Rattle.listing.specs.declared.ending.ToldLast.{ToldLast}
-use Rattle.listing.specs.Told.{MoreTold}
+use Rattle.typed_lists.specs.Told.{MoreTold}
 use Rattle.listing.specs.Ending.{isUnplaced, PassedFan}
-use Rattle.listing.proofs.Telling.{told-none, told-then}
+use Rattle.typed_lists.proofs.Telling.{told-none, told-then}
 use Rattle.listing.proofs.Ends.{beyond}
 
 pub record Passing (g : ℕ) (boards lines : List ℕ) (before : Told) (out : List ℕ) (after : ToldLast) (then : List ℕ) (i : ℕ) : Type 0 where

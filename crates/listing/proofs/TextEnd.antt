@@ -8,9 +8,9 @@ use lib.ListN.{length, take}
 use borrow.Author.Tests.{eq-eqb, ne-eqb}
 use Rattle.typing.specs.Text.{Listed, Fault, noFan, noSystem, noBoard, missing, unplaced, lastFaults}
 use Rattle.listing.specs.declared.Listing.{Listing}
-use Rattle.listing.specs.declared.told.Told.{Told}
-use Rattle.listing.specs.Told.{Telling}
-use Rattle.listing.specs.Lists.{Lined}
+use Rattle.typed_lists.specs.declared.told.Told.{Told}
+use Rattle.typed_lists.specs.Told.{Telling}
+use Rattle.typed_lists.specs.Lists.{Lined}
 use Rattle.listing.specs.Holds.{Holds, ended}
 
 module _ {l : Listing} {s : Listed} {out : List ℕ} (h : Holds l s out) where

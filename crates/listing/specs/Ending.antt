@@ -7,7 +7,7 @@ use lib.Dec.{eqb, ltb}
 use Rattle.text.specs.Decimal.{decimal}
 use Rattle.typing.specs.Text.{faultAt, noSuchBoard}
 use Rattle.listing.specs.declared.ending.ToldLast.{ToldLast}
-use Rattle.listing.specs.Told.{MoreTold}
+use Rattle.typed_lists.specs.Told.{MoreTold}
 
 -- a fan told: its board is not there, and its line was not told last
 abbrev pub isUnplaced : (g told line board : ℕ) → Bool

@@ -7,8 +7,8 @@ use lib.ListN.{length}
 use Rattle.rules.specs.Refusal.{mostBoards}
 use Rattle.typing.specs.Text.{Listed, nothing, counted, lastFaults, listed}
 use Rattle.listing.specs.declared.Listing.{Listing}
-use Rattle.listing.specs.Lists.{Stored, Fanned, Ruled}
-use Rattle.listing.specs.Told.{toldRoom, Telling}
+use Rattle.typed_lists.specs.Lists.{Stored, Fanned, Ruled}
+use Rattle.typed_lists.specs.Told.{toldRoom, Telling}
 
 pub record Holds (l : Listing) (s : Listed) (out : List ℕ) : Type 0 where
   pub lines : l .lines ≡ s .lines

@@ -1,6 +1,4 @@
 -- What a text's lines list, held in arrays.
-pub mod Lists
-pub mod Told
 pub mod Ending
 pub mod Holds
 pub mod Lines

@@ -4,11 +4,11 @@ ghost use Rattle.typing.specs.Text.{faultAt, told, addedFans, addedBoard, added
 ghost use Rattle.listing.specs.Holds.{Held, Steps};
 use crate::Listing;
 use crate::MOST_BOARDS;
-use crate::fans;
-use crate::fans::MOST_FANS;
-use crate::listed;
-use crate::listed::MOST_SYSTEMS;
-use crate::told;
+use typed_lists::fans;
+use typed_lists::fans::MOST_FANS;
+use typed_lists::listed;
+use typed_lists::listed::MOST_SYSTEMS;
+use typed_lists::told;
 use typing::line::SETS;
 
 // What is where among the numbers that a line sets.

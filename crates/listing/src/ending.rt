@@ -4,13 +4,13 @@ ghost use Prim.Native.Nat.{_<_};
 ghost use lib.ListN.{take};
 ghost use Rattle.text.specs.Decimal.{decimal};
 ghost use Rattle.typing.specs.Text.{faultAt, noSuchBoard, missing, unplaced};
-ghost use Rattle.listing.specs.Lists.{Lined};
+ghost use Rattle.typed_lists.specs.Lists.{Lined};
 ghost use Rattle.listing.specs.Holds.{mostLines};
-ghost use Rattle.listing.specs.Told.{Roomy, MoreTold, Tells};
+ghost use Rattle.typed_lists.specs.Told.{Roomy, MoreTold, Tells};
 ghost use Rattle.listing.specs.Ending.{PassedFan};
-use crate::fans::Fans;
-use crate::told;
-use crate::told::Told;
+use typed_lists::fans::Fans;
+use typed_lists::told;
+use typed_lists::told::Told;
 
 const NO_SUCH_BOARD: u64 = 136;
 

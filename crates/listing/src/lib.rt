@@ -1,10 +1,7 @@
 // What a typed text lists, line by line, its faults told into a lent buffer.
 mod adding; // adding.rt: what a line adds
 mod ending; // ending.rt: what is told at its end
-pub mod fans; // fans.rt: its fans
 mod lines; // lines.rt: where its lines end
-pub mod listed; // listed.rt: its systems
-pub mod told; // told.rt: its faults
 
 ghost use mathlib.Core.Path.{_≡_};
 ghost use mathlib.Core.Bool.{true, _&&_};
@@ -16,11 +13,11 @@ ghost use Rattle.typing.specs.Grammar.{grammar};
 ghost use Rattle.typing.specs.Stands.{part};
 ghost use Rattle.typing.specs.Text.{counted, thing, withLine, withLines};
 ghost use Rattle.typing.specs.Line.{readLine};
-ghost use Rattle.listing.specs.Told.{toldRoom};
+ghost use Rattle.typed_lists.specs.Told.{toldRoom};
 ghost use Rattle.listing.specs.Holds.{Starts, Held, Steps, Counts, mostLines, ended, HoldsText};
-use fans::Fans;
-use listed::Systems;
-use told::Told;
+use typed_lists::fans::Fans;
+use typed_lists::listed::Systems;
+use typed_lists::told::Told;
 use typing::grammar;
 use typing::grammar::ENTRIES;
 use typing::line;
@@ -65,9 +62,9 @@ const OF_BELOW: usize = 10;
 pub fn none() -> Listing
     ensures { λ r. ⌜ Starts r ⌝ }
 {
-    let fans = fans::no_fans();
+    let fans = typed_lists::fans::no_fans();
     let switchboards = [0u32; MOST_BOARDS];
-    let systems = listed::no_systems();
+    let systems = typed_lists::listed::no_systems();
     let told = Told { count: 0, end: 0 };
     Listing {
         lines: 0,

@@ -70,7 +70,7 @@ fn put_file(listing: Listing, file: &mut [u8]) -> usize
     let g = listing.boards;
     let switchboards = listing.switchboards;
     let typed = listing.systems;
-    let numbers = listing::listed::numbers(typed, n as u16);
+    let numbers = typed_lists::listed::numbers(typed, n as u16);
     let end = typed.count * PER_SYSTEM;
     let written = writer::write_deck(
         listing.version,

@@ -1,5 +1,5 @@
 -- `last` meets its contract: three things that may be lacking are told, and then the fans on boards that are not there. Assumes nothing.
-use Rattle.listing.proofs.Telling.{told-then}
+use Rattle.typed_lists.proofs.Telling.{told-then}
 use Rattle.listing.proofs.TextEnd.{lined, ended-boardless, ended-boarded}
 use borrow.Author.Needs.{needs}
 use Rattle.listing.proofs.last.Statement.{statement}

@@ -5,7 +5,7 @@ use native.Mathlib.Omega.{arith}
 use Rattle.rules.specs.Refusal.{mostBoards}
 use Rattle.typing.specs.Text.{manyBoards}
 use Rattle.typing.specs.Grammar.{ofParts}
-use Rattle.listing.proofs.Storing.{stored-more}
+use Rattle.typed_lists.proofs.Storing.{stored-more}
 use Rattle.listing.proofs.Holding.{none-left, some-left}
 use borrow.Author.Needs.{needs}
 use Rattle.listing.proofs.adding.added_board.Statement.{statement}

@@ -1,6 +1,6 @@
 -- `ending::missing` meets its contract, by its one test. Assumes nothing.
 use borrow.Author.Tests.{not-true, not-false}
-use Rattle.listing.proofs.Telling.{told-none}
+use Rattle.typed_lists.proofs.Telling.{told-none}
 use borrow.Author.Needs.{needs}
 use Rattle.listing.proofs.ending.missing.Statement.{statement}
 use Rattle.listing.proofs.ending.missing.Tie as tie

@@ -1,5 +1,5 @@
 -- `ending::pass` meets its contract, test by test. Assumes nothing.
-use Rattle.listing.proofs.Telling.{told-none}
+use Rattle.typed_lists.proofs.Telling.{told-none}
 use Rattle.listing.proofs.Passing.{placed, told-already, not-yet}
 use borrow.Author.Needs.{needs}
 use Rattle.listing.proofs.ending.pass.Statement.{statement}

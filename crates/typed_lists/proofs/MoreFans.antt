@@ -1,0 +1,26 @@
+-- Fans added one after another are so many fans more. Assumes nothing.
+use mathlib.Core.Path.{_≡_, ap, _∙_}
+use mathlib.Core.List.{List, _++_, append-assoc, append-nil}
+use Prim.Native.Nat.{ℕ, _+_}
+use native.Mathlib.Omega.{arith}
+use lib.ListN.{replicate, replicate-append-replicate}
+use Rattle.typed_lists.specs.declared.fans.Fans.{Fans}
+use Rattle.typed_lists.specs.Lists.{MoreFans}
+
+pub none-more : (f : Fans) (parts weight board line : ℕ) → MoreFans f f 0 parts weight board line
+none-more f parts weight board line = record {
+  count = omega arith;
+  lists = λ ps ws bs ls h. rw (append-nil ps, append-nil ws, append-nil bs, append-nil ls) h;
+}
+
+longer : (xs : List ℕ) (i x : ℕ) → (xs ++ replicate i x) ++ replicate 1 x ≡ xs ++ replicate (i + 1) x
+longer xs i x = append-assoc xs (replicate i x) (replicate 1 x) ∙ ap (λ l. xs ++ l) (replicate-append-replicate i 1 x)
+
+pub one-more : {f g h : Fans} {i parts weight board line : ℕ} → MoreFans f g i parts weight board line → MoreFans g h 1 parts weight board line
+    → MoreFans f h (i + 1) parts weight board line
+one-more {f} {g} {h} {i} {parts} {weight} {board} {line} a b = record {
+  count = omega (arith, a .count, b .count);
+  lists = λ ps ws bs ls k.
+      rw (← longer ps i parts, ← longer ws i weight, ← longer bs i board, ← longer ls i line)
+      (b .lists (ps ++ replicate i parts) (ws ++ replicate i weight) (bs ++ replicate i board) (ls ++ replicate i line) (a .lists ps ws bs ls k));
+}

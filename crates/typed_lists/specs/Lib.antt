@@ -1,0 +1,3 @@
+-- What arrays hold of a text.
+pub mod Lists
+pub mod Told
