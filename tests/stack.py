@@ -1,17 +1,22 @@
-"""The stack that each of the library's calls can need: the frames of the compiled code, added up along the deepest chain of calls.
+"""The stack that each of the libraries' calls can need: the frames of the compiled code, added up along the deepest chain of calls.
 
-tests/run.py runs the calls on a stack of just the bytes that are granted; here the paths that no case takes are counted too. What moves the stack in
-a way that is not known here, is called where the code does not say whom, or calls itself without a bound that is known here, is a failure.
+tests/run.py runs the ship's calls on a stack of just the bytes that are granted; here the paths that no case takes are counted too, and the office's calls, which
+are held to what their header and man page say. What moves the stack in a way that is not known here, is called where the code does not say whom, or calls itself
+without a bound that is known here, is a failure.
 """
 
 import re
 import sys
 from functools import lru_cache
 
-from common import ready, reported, root, run, tools
+from common import OFFICE, SHIP, ready, reported, root, run, tools
 
 MOST_STACK = 70000  # document 02, request 07
-CALLS = ("foambeetle_rate", "foambeetle_worth", "foambeetle_unit")
+CALLS = {
+    SHIP: ("foambeetle_rate", "foambeetle_worth", "foambeetle_unit"),
+    OFFICE: ("foambeetle_write", "foambeetle_chance", "foambeetle_rate_doubles"),
+}
+SAID = re.compile(r"up to\s+(?:\*\s+)?([\d,]+)\s+(?:\*\s+)?bytes\s+(?:\*\s+)?of\s+(?:\*\s+)?stack")
 OUTSIDE = {"memcpy": 256, "memset": 256}  # of a C library, whose own code is not ours to read
 AGAIN = {"combine": 5}  # of crate boards, which calls itself for each of at most four boards, and stands once more past them
 RED_ZONE = 128  # what a function that calls nothing may use below its frame
@@ -25,10 +30,10 @@ BELOW = re.compile(r"^\$(0x[0-9a-f]+|\d+),%(rsp|r11)$")
 PAGE = 0x1000
 
 
-def disassembled():
+def disassembled(library):
     """The archive's code, a list of lines for each function."""
     compiler = tools()[0]
-    text = run([compiler.replace("gcc", "objdump"), "-dr", "--no-show-raw-insn", root / "target/lib/libfoambeetle.a"]).decode()
+    text = run([compiler.replace("gcc", "objdump"), "-dr", "--no-show-raw-insn", root / f"target/lib/lib{library}.a"]).decode()
     functions, lines = {}, []
     for line in text.splitlines():
         if found := FUNCTION.match(line):
@@ -70,11 +75,9 @@ def read(lines, wrong):
     return WORD + moved(code, wrong, name), called
 
 
-def main():
-    ready("lib")
-    wrong = []
-    functions = {name: read(lines, wrong) for name, lines in disassembled().items()}
-
+def depths_of(library, wrong):
+    """How deep each call of a library can go."""
+    functions = {name: read(lines, wrong) for name, lines in disassembled(library).items()}
     standing = set()
 
     @lru_cache(maxsize=None)
@@ -91,9 +94,25 @@ def main():
         standing.remove(name)
         return frame * times + below
 
-    depths = {call: deepest(call) for call in CALLS}
-    wrong += [f"{call} can need {depth} bytes" for call, depth in depths.items() if depth > MOST_STACK]
-    return reported(wrong, f"stacks by the frames: {depths}, at most {MOST_STACK} bytes")
+    return {call: deepest(call) for call in CALLS[library]}
+
+
+def said_by(library):
+    """What a library's header and man page say that its calls use at most."""
+    for file in (root / f"include/{library}.h", root / f"man/{library}.3"):
+        yield file, [int(found.replace(",", "")) for found in SAID.findall(file.read_text())]
+
+
+def main():
+    ready("lib")
+    wrong, told = [], []
+    for library in CALLS:
+        depths = depths_of(library, wrong)
+        most = max(depths.values())
+        told.append(f"{library}: {depths}")
+        wrong += [f"{file.relative_to(root)} says {said}, and {most} bytes can be needed" for file, said in said_by(library) if not said or min(said) < most]
+        wrong += [f"{call} can need {depth} bytes" for call, depth in depths.items() if library == SHIP and depth > MOST_STACK]
+    return reported(wrong, f"stacks by the frames, {'; '.join(told)}; at most {MOST_STACK} bytes aboard")
 
 
 if __name__ == "__main__":
