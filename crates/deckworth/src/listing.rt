@@ -49,7 +49,7 @@ fn put_fans(deck: Deck, s: u64, out: &mut [u8], at: usize) -> usize
     let mut end = at;
     let mut fan: u64 = 1;
     while fan <= deck.fans {
-        let worth = systems::worth_system(deck, s as usize, fan);
+        let worth = fan_worths::worth_system(deck, s as usize, fan);
         end = put_fan(s + 1, fan, worth, out, end);
         fan += 1;
     }

@@ -43,5 +43,5 @@ pub fn tell(worth: Worth, ends: &mut [i64; 2]) -> u64
 pub extern "C" fn foambeetle_worth(file: &[u8], system: u64, fan: u64, ends: &mut [i64; 2]) -> u64
     ensures { λ r. ⌜ Told (now (file .entry)) system fan (now (ends .entry)) (now (ends .exit)) r ⌝ }
 {
-    tell(systems::weigh_file(file, system, fan), ends)
+    tell(fan_worths::weigh_file(file, system, fan), ends)
 }

@@ -36,7 +36,7 @@ pub fn worths_of(file: &[u8], system: u64, fans: u64) -> Worths
     let mut upper = [0i64; FANS];
     let mut i: usize = 0;
     while (i as u64) < fans {
-        let worth = systems::weigh_file(file, system, i as u64 + 1);
+        let worth = fan_worths::weigh_file(file, system, i as u64 + 1);
         lower[i] = lower_of(worth);
         upper[i] = upper_of(worth);
         i += 1;

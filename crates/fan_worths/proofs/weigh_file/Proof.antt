@@ -1,13 +1,13 @@
--- `systems::weigh_file` meets its contract: past the refusals the number is that of one of the file's systems. Assumes nothing.
+-- `fan_worths::weigh_file` meets its contract: past the refusals the number is that of one of the file's systems. Assumes nothing.
 use mathlib.Core.Path.{sym, ap, _∙_}
 use native.Mathlib.Omega.{arith}
 use borrow.Author.Needs.{needs}
 use Rattle.rules.specs.declared.Worth.the-variants.{Refused}
 use Rattle.rules.specs.File.{worthLoadingOf}
 use Rattle.rules.proofs.Unless.{unless-none, unless-some}
 use Rattle.systems.proofs.Answers.{opened-answer, numbered}
-use Rattle.systems.proofs.weigh_file.Statement.{statement}
-use Rattle.systems.proofs.weigh_file.Tie as tie
+use Rattle.fan_worths.proofs.weigh_file.Statement.{statement}
+use Rattle.fan_worths.proofs.weigh_file.Tie as tie
 
 refusal-requires : tie.Need-refusal-requires
 refusal-requires c κs = search needs

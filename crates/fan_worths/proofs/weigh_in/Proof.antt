@@ -1,4 +1,4 @@
--- `systems::weigh_in` meets its contract: the first entries of the arrays are the deck's lists. Assumes nothing.
+-- `fan_worths::weigh_in` meets its contract: the first entries of the arrays are the deck's lists. Assumes nothing.
 use mathlib.Core.Path.{sym, ap₂, _∙_}
 use mathlib.Core.List.{[]}
 use native.Mathlib.Omega.{arith}
@@ -11,8 +11,8 @@ use Rattle.rules.specs.File.{deckIn, systemWorth}
 use Rattle.deck.proofs.Sound.{sound, sound-few}
 use Rattle.deck.proofs.Kept.{kept-survival, kept-weights, kept-numbers}
 use borrow.Author.Needs.{needs}
-use Rattle.systems.proofs.weigh_in.Statement.{statement}
-use Rattle.systems.proofs.weigh_in.Tie as tie
+use Rattle.fan_worths.proofs.weigh_in.Statement.{statement}
+use Rattle.fan_worths.proofs.weigh_in.Tie as tie
 
 version-in-requires : tie.Need-version-in-requires
 version-in-requires c κs = c .before .pre .accepted

@@ -1,4 +1,4 @@
--- `systems::worth_system` meets its contract: the first entries of the arrays are lent as the deck's lists. Assumes nothing.
+-- `fan_worths::worth_system` meets its contract: the first entries of the arrays are lent as the deck's lists. Assumes nothing.
 use mathlib.Core.Path.{sym, ap, _∙_}
 use mathlib.Core.List.{[]}
 use native.Mathlib.Omega.{arith}
@@ -9,10 +9,10 @@ use Rattle.rules.specs.Refusal.{cells}
 use Rattle.rules.specs.Worth.{worthOf}
 use Rattle.rules.specs.File.{systemWorth}
 use Rattle.arrays.specs.Padded.{noSystem}
 use Rattle.systems.specs.Arrays.{worthAt}
 use borrow.Author.Needs.{needs}
-use Rattle.systems.proofs.worth_system.Statement.{statement}
-use Rattle.systems.proofs.worth_system.Tie as tie
+use Rattle.fan_worths.proofs.worth_system.Statement.{statement}
+use Rattle.fan_worths.proofs.worth_system.Tie as tie
 
 board-fans-requires : tie.Need-board-fans-requires
 board-fans-requires c κs = search needs

@@ -1,11 +1,11 @@
--- `systems::weigh_lists` meets its contract: refused, or weighed, over a table of zeros. Assumes nothing.
+-- `fan_worths::weigh_lists` meets its contract: refused, or weighed, over a table of zeros. Assumes nothing.
 use mathlib.Core.Path.{sym, ap, _∙_}
 use borrow.Author.Needs.{needs}
 use Rattle.rules.specs.declared.Worth.the-variants.{Refused}
 use Rattle.rules.specs.Worth.{worthOf}
 use Rattle.rules.proofs.Unless.{unless-none, unless-some}
-use Rattle.systems.proofs.weigh_lists.Statement.{statement}
-use Rattle.systems.proofs.weigh_lists.Tie as tie
+use Rattle.fan_worths.proofs.weigh_lists.Statement.{statement}
+use Rattle.fan_worths.proofs.weigh_lists.Tie as tie
 
 slice-aggregate-refusal : tie.Need-slice-aggregate-refusal
 slice-aggregate-refusal c = search needs
