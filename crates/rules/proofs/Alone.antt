@@ -7,7 +7,7 @@ use Prim.Native.Nat.{ℕ, zero, suc, _+_, _-_, _≤_, _<_}
 use native.Mathlib.Decide.{ℕ-discrete, decLt}
 use native.Mathlib.Omega.{arith}
 use lib.ListN.{length, getD, set, take, drop, length-set, length-take, length-drop}
-use borrow.Author.Tests.{eq-eqb, eqb-true, le-leb, not-false}
+use borrow.Author.Tests.{eq-eqb, eqb-true, le-leb, ltb-true, not-false}
 use lib.Seq.{take-all, ext-getD, getD-set-same, getD-set-other, set-out}
 use lib.Dec.{eqb, ltb}
 use lib.IntN.{subℕ}
@@ -22,6 +22,7 @@ use Rattle.rules.specs.Alike.{Alike, alone, Paired}
 use Rattle.rules.specs.Refusal.{most, heaviest, firstOf, after, badVersion, badKind, badSize, badStretch, badBoards, misplaced, aboveUnit, someAbove, badWeights, weightsOut, inRange, shortTable, figuresRefusal}
 use Rattle.rules.specs.Answer.{unless, figuresOf}
 use Rattle.rules.specs.Worth.{sure, worthOf}
+use Rattle.rules.proofs.Tests.{by-both}
 use Rattle.rules.proofs.EachKind.{within-true}
 use Rattle.rules.proofs.Accepted.{in-stretch, whole-stretch, stretch-length, stretch-get}
 
@@ -83,6 +84,15 @@ part-length : (a b : ℕ) (xs ys : List ℕ) → length xs ≡ length ys → len
 unfolding stretch
 part-length a b xs ys e = simp (length-take, length-drop, e)
 
+-- lists of one length that have the same at each place of a stretch
+pub part-same : (a b : ℕ) (xs ys : List ℕ) → 1 ≤ a → length xs ≡ length ys → ((k : ℕ) → a - 1 ≤ k → k < b → getD xs k 0 ≡ getD ys k 0) → stretch a b xs ≡ stretch a b ys
+part-same a b xs ys some long same =
+    ext-getD 0 _ _ (part-length a b xs ys long) (λ i l. stretch-get a b xs i ∙ one i ∙ sym (stretch-get a b ys i))
+  where
+    one : (i : ℕ) → cond (ltb i (suc b - a)) (getD xs (a - 1 + i) 0) 0 ≡ cond (ltb i (suc b - a)) (getD ys (a - 1 + i) 0) 0
+    one i =
+        by-both (λ x y. x ≡ y) (ltb i (suc b - a)) _ _ _ _ (λ e. same (a - 1 + i) (omega arith) (omega (arith, ltb-true i (suc b - a) e))) (λ e. refl)
+
 -- so it is on a stretch that two lists share, wherever the number stands
 part-set : (a b : ℕ) (xs ys : List ℕ) (j p : ℕ) → length xs ≡ length ys → stretch a b xs ≡ stretch a b ys → stretch a b (set xs j p) ≡ stretch a b (set ys j p)
 part-set a b xs ys j p long e =
@@ -97,7 +107,7 @@ part-set a b xs ys j p long e =
         go false same = refl
 
 module _ (q r : Asked) (e : Alike q r) (fan : ℕ) where
-  alike-sure : (p : ℕ) → Alike (sure fan p q) (sure fan p r)
+  pub alike-sure : (p : ℕ) → Alike (sure fan p q) (sure fan p r)
   alike-sure p = record {
     version = e .version;
     rule = e .rule;

@@ -1,4 +1,4 @@
--- A fan's number replaced at the front of a longer copy, and the second rating on the table that the first has worked in: as long as it was, so
+-- A fan's number replaced in a copy of the stretch alone, which asks as the list does; and the second rating on the table that the first has worked in: as long as it was, so
 -- refused as little. Assumes nothing.
 use Prim.Native.Nat.{ℕ, _-_, _≤_, _<_, zero-le}
 use mathlib.Core.Path.{_≡_, refl, sym, ap, _∙_}
@@ -8,13 +8,14 @@ use native.Mathlib.Omega.{arith}
 use native.Mathlib.Nat.{le-refl, le-trans}
 use lib.Dec.{ltb}
 use lib.IntN.{subℕ}
-use lib.ListN.{length, take, set}
-use lib.Seq.{take-set-lt}
+use lib.ListN.{length, take}
+use lib.Seq.{length-take-le, getD-take}
 use mir.Syntax.{w64}
 use mir.Val.{SFits}
 use borrow.Author.Tests.{not-false}
 use Rattle.rules.specs.State.{S, unitOf}
-use Rattle.rules.specs.Asked.{Asked, unitIn, lengthOf, roundedOf}
+use Rattle.rules.specs.Asked.{Asked, askedOf, unitIn, lengthOf, roundedOf}
+use Rattle.rules.specs.Alike.{Alike}
 use Rattle.rules.specs.Refusal.{most, cells, figuresRefusal}
 use Rattle.places.specs.Cells.{Kept}
 use Rattle.rules.specs.Worth.{working, failing, badFan, worthRefusal}
@@ -24,10 +25,12 @@ use Rattle.rules.proofs.Accepted.{first-same, none-first, in-stretch, figures-r
 use Rattle.rules.proofs.Unless.{after-none}
 use Rattle.rules.proofs.Differences.{by-sign}
 use Rattle.rules.proofs.Sure.{after-first, sure-within}
+use Rattle.rules.proofs.Alone.{part-same}
+use Rattle.worth.specs.Copied.{Copied}
 
--- the number that stands at the fan's place of the copy's front
-pub front-replaced : (copy xs : List ℕ) (fan p : ℕ) → take (length xs) copy ≡ xs → fan - 1 < length xs → take (length xs) (set copy (fan - 1) p) ≡ set xs (fan - 1) p
-front-replaced copy xs fan p e h = take-set-lt (length xs) copy (fan - 1) p h ∙ ap (λ ys. set ys (fan - 1) p) e
+-- what is asked of a copy: the same, with the copy's front for the list
+abbrev pub among : Asked → List ℕ → Asked
+among q copy = askedOf (q .version) (q .rule) (q .a) (q .b) (take (lengthOf q) copy) (q .weights) (q .more) (q .boards) (q .boardSurvival)
 
 module _ (q : Asked) (table : List ℕ) (fan : ℕ) (none : figuresRefusal q table ≡ 0) where
   -- a fan of the stretch is one of the list
@@ -40,6 +43,29 @@ module _ (q : Asked) (table : List ℕ) (fan : ℕ) (none : figuresRefusal q tab
   pub listed : lengthOf q ≤ most
   unfolding figuresRefusal
   listed = within-true 1 (lengthOf q) most (not-false _ (none-first 1 _ _ (none-first 0 _ _ (none-first 10 _ _ none .1) .1) .0)) .1
+
+  -- a copy of the stretch alone asks as the list does, since nothing beside it is read
+  pub copy-alike : (copy : List ℕ) → Copied (q .a - 1) (q .b) (q .survival) copy → Alike (among q copy) q
+  copy-alike copy c =
+      let n = lengthOf q in
+      let inside = in-stretch (q .a) (q .b) n (figures-ratable q table none .0) in
+      let long : length (take n copy) ≡ n = length-take-le n copy (omega (arith, listed, c .long)) in
+      record {
+        version = refl;
+        rule = refl;
+        a = refl;
+        b = refl;
+        more = refl;
+        boardSurvival = refl;
+        as-many-fans = long;
+        as-many-weights = refl;
+        as-many-boards = refl;
+        same-fans =
+            part-same (q .a) (q .b) (take n copy) (q .survival) (inside .0) long
+            (λ k from upto. getD-take n copy k 0 (omega (arith, inside, upto)) ∙ c .same k from upto);
+        same-weights = refl;
+        same-boards = refl;
+      }
 
   pub kept-accepted : (later : List ℕ) → Kept table later → figuresRefusal q later ≡ 0
   unfolding figuresRefusal

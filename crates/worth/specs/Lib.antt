@@ -1,2 +1,3 @@
 -- What the call answers and leaves.
 pub mod Outcome
+pub mod Copied

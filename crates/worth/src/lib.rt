@@ -2,12 +2,13 @@
 ghost use mathlib.Core.Path.{_≡_};
 ghost use Prim.Native.Nat.{_≤_};
 ghost use lib.IntN.{subℕ};
-ghost use lib.ListN.{length, take};
+ghost use lib.ListN.{length};
 ghost use Rattle.rules.specs.State.{S};
 ghost use Rattle.rules.specs.Asked.{askedOf};
 ghost use Rattle.rules.specs.Refusal.{most};
 ghost use Rattle.rules.specs.Worth.{sure, worthRefusal};
 ghost use Rattle.figures.specs.Outcome.{Worked};
+ghost use Rattle.worth.specs.Copied.{Copied};
 ghost use Rattle.worth.specs.Outcome.{Replaceable, Found, Weighed};
 use cells::CELLS;
 use places::Ends;
@@ -56,14 +57,14 @@ pub fn refusal(
     0
 }
 
-// A copy of the survival numbers, and zeros behind them: the lent list is never written.
-fn copied(survival: &[u32]) -> [u32; MOST]
-    requires { ⌜ length (now survival) ≤ most ⌝ }
-    ensures { λ r. ⌜ take (length (now (survival .entry))) r ≡ now (survival .entry) ⌝ }
+// A copy of the survival numbers from one place up to another, each in its own place: the lent list is never written, and nothing beside the stretch is read.
+fn copied(from: usize, upto: usize, survival: &[u32]) -> [u32; MOST]
+    requires { ⌜ (from ≤ upto) × (upto ≤ length (now survival)) × (length (now survival) ≤ most) ⌝ }
+    ensures { λ r. ⌜ Copied from upto (now (survival .entry)) r ⌝ }
 {
     let mut numbers = [0u32; MOST];
-    let mut i = 0;
-    while i < survival.len() {
+    let mut i = from;
+    while i < upto {
         numbers[i] = survival[i];
         i += 1;
     }
@@ -89,7 +90,9 @@ fn rate_sure(
     ensures { λ r. ⌜ Worked (sure fan p (askedOf version rule a b (now (survival .entry)) (now (weights .entry)) (now (more .entry)) (now (boards .entry)) (now (switchboards .entry)))) (now (table .entry)) (now (table .exit)) r ⌝ }
 {
     let n = survival.len();
-    let mut numbers = copied(survival);
+    let from = a as usize - 1;
+    let upto = b as usize;
+    let mut numbers = copied(from, upto, survival);
     numbers[fan as usize - 1] = p;
     // the boards' lists lent anew, as in `figures::work`
     figures::work(

@@ -1,24 +1,23 @@
--- `copied` has the numbers passed at the copy's front. Assumes nothing.
+-- `copied` has the numbers passed in their places. Assumes nothing.
 use borrow.Author.Needs.{needs}
-use mathlib.Core.Path.{_≡_, refl, sym, ap, _∙_}
-use mathlib.Core.List.{[], _∷_, _++_}
+use mathlib.Core.Path.{_≡_, refl, _∙_}
 use Prim.Native.Nat.{_-_, _≤_}
+use native.Mathlib.Decide.{ℕ-discrete}
 use native.Mathlib.Omega.{arith}
-use native.Mathlib.Numerals.{add-one}
-use lib.ListN.{length, getD, take, length-set}
-use lib.Seq.{take-suc, take-suc-set, take-all}
-use Rattle.rules.specs.Refusal.{most}
+use lib.ListN.{length, getD, length-set}
+use lib.Seq.{getD-set-same, getD-set-other}
+use Rattle.worth.specs.Copied.{Copied}
 use Rattle.worth.proofs.copied.Statement.{statement}
 use Rattle.worth.proofs.copied.Tie as tie
 
 abbrev Inv-loop : tie.InvT-loop
-Inv-loop survival numbers₀ i₀ numbers i = (i ≤ length survival) × (length numbers ≡ most) × (take i numbers ≡ take i survival)
+Inv-loop from upto survival numbers₀ i₀ numbers i = (from ≤ i) × (i ≤ upto) × Copied from i survival numbers
 
 abbrev μ-loop : tie.MeasureT-loop
-μ-loop survival numbers₀ i₀ numbers i = length survival - i
+μ-loop from upto survival numbers₀ i₀ numbers i = upto - i
 
 loop-holds : tie.Need-loop-holds Inv-loop μ-loop
-loop-holds c = (omega arith, refl, refl)
+loop-holds c = (omega arith, c .pre .0, record { long = refl; same = λ k h l. absurd (omega arith) })
 
 mul-numbers : tie.Need-mul-numbers Inv-loop μ-loop
 mul-numbers c = search needs
@@ -41,21 +40,24 @@ loop-less c = search needs
 loop-again : tie.Need-loop-again Inv-loop μ-loop
 loop-again c =
     let xs = c .before .before .before .args .survival .now in
-    let l = c .before .before .loop in (
+    let l = c .before .before .loop in
+    let x = getD xs (l .i) 0 in (
       omega arith,
-      length-set (l .numbers) (l .i) (getD xs (l .i) 0) ∙ l .inv .1,
-      rw add-one
-          (take-suc-set (l .numbers) (l .i) (getD xs (l .i) 0) (omega arith)
-          ∙ ap (λ ns. ns ++ (getD xs (l .i) 0 ∷ [])) (l .inv .2)
-          ∙ sym (take-suc xs (l .i) 0 (c .before .loop-test .taken))),
+      omega arith,
+      record {
+        long = length-set (l .numbers) (l .i) x ∙ l .inv .2 .long;
+        same = λ k h m.
+            elim (ℕ-discrete k (l .i)) [
+              | yes e ↦ rw e (getD-set-same (l .numbers) (l .i) x 0 (omega (arith, l .inv .2 .long)))
+              | no other ↦ getD-set-other (l .numbers) (l .i) k x 0 other ∙ l .inv .2 .same k h (omega arith)
+            ];
+      },
     )
 
 returns : tie.Need-returns Inv-loop μ-loop
 returns c =
-    let xs = c .before .before .args .survival .now in
     let l = c .before .loop in
-    let e : l .i ≡ length xs = omega arith in
-    rw e at (l .inv .2) ∙ take-all (length xs) xs (omega arith)
+    record { long = l .inv .2 .long; same = λ k h m. l .inv .2 .same k h (omega arith) }
 
 pub copied-spec : {M : Type 1} → statement M
 copied-spec =

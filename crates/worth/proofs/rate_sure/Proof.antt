@@ -1,16 +1,28 @@
--- `rate_sure` rates a copy of the list that differs in the fan's number; what is not refused is not refused so either. Assumes nothing.
+-- `rate_sure` rates a copy of the stretch that differs in the fan's number; what is not refused is not refused so either, and nothing beside the stretch is read. Assumes
+-- nothing.
 use borrow.Author.Needs.{needs}
-use mathlib.Core.Path.{sym}
+use mathlib.Core.Path.{sym, _∙_}
+use mathlib.Core.Bool.{true, false}
+use Prim.Native.Nat.{_-_}
 use native.Mathlib.Omega.{arith}
-use lib.ListN.{length-set}
-use lib.Seq.{length-take-le}
+use lib.ListN.{length, length-set}
+use lib.Seq.{length-take-le, take-set-lt}
 use Rattle.rules.proofs.Sure.{sure-accepted}
-use Rattle.worth.proofs.Replaced.{front-replaced, placed, listed}
+use Rattle.rules.proofs.Alone.{alike-sure, alike-refusal, alike-rounded}
+use Rattle.worth.proofs.Replaced.{placed, listed, copy-alike}
 use Rattle.worth.proofs.rate_sure.Statement.{statement}
 use Rattle.worth.proofs.rate_sure.Tie as tie
 
+sub-from : tie.Need-sub-from
+sub-from c =
+    let start = c .before .before .before .before .before .before in
+    omega (arith, placed _ _ (start .args .fan) (start .pre .accepted) (start .pre .inside))
+
 copied-requires : tie.Need-copied-requires
-copied-requires c κs = listed _ _ 0 (c .before .before .before .before .before .before .pre .accepted)
+copied-requires c κs =
+    let start = c .before .before .before .before .before .before in
+    let place = placed _ _ (start .args .fan) (start .pre .accepted) (start .pre .inside) in
+    (omega (arith, place), omega (arith, place), listed _ _ 0 (start .pre .accepted))
 
 sub-numbers : tie.Need-sub-numbers
 sub-numbers c =
@@ -41,8 +53,9 @@ work-requires c κs =
     let start = c .before .before .before .before .before .before .before .before .before in
     let x = start .args in
     let place = placed _ _ (x .fan) (start .pre .accepted) (start .pre .inside) in
-    rw (front-replaced _ (x .survival .now) (x .fan) (x .p) (c .before .before .copied .ensures) (omega (arith, place)))
-    (sure-accepted _ _ (x .fan) (x .p) (start .pre .accepted) (start .pre .small))
+    let same = copy-alike _ _ (x .fan) (start .pre .accepted) _ (c .before .before .copied .ensures) in
+    rw (take-set-lt (length (x .survival .now)) _ (x .fan - 1) (x .p) (omega (arith, place)))
+    (alike-refusal _ _ (alike-sure _ _ same (x .fan) (x .p)) _ ∙ sure-accepted _ _ (x .fan) (x .p) (start .pre .accepted) (start .pre .small))
 
 same-length : tie.Need-same-length
 same-length c = search needs
@@ -52,12 +65,16 @@ returns c =
     let start = c .before .before .before .before .before .before .before .before .before .before .before .before in
     let x = start .args in
     let place = placed _ _ (x .fan) (start .pre .accepted) (start .pre .inside) in
-    rw (front-replaced _ (x .survival .now) (x .fan) (x .p) (c .before .before .before .before .before .copied .ensures) (omega (arith, place))) at (c .before .before .work .ensures)
+    let same = copy-alike _ _ (x .fan) (start .pre .accepted) _ (c .before .before .before .before .before .copied .ensures) in
+    let sure = alike-sure _ _ same (x .fan) (x .p) in
+    let w = rw (take-set-lt (length (x .survival .now)) _ (x .fan - 1) (x .p) (omega (arith, place))) at (c .before .before .work .ensures) in
+    record { low = w .low ∙ alike-rounded _ _ sure false; high = w .high ∙ alike-rounded _ _ sure true; kept = w .kept }
 
 pub rate-sure-spec : {M : Type 1} → statement M
 rate-sure-spec =
     tie.close
     (tie.spec
+    sub-from
     copied-requires
     sub-numbers
     mul-numbers
