@@ -3,22 +3,20 @@
 use mathlib.Core.Path.{_≡_, refl, sym, ap, _∙_}
 use mathlib.Core.Bool.{Bool, true, false, cond}
 use mathlib.Core.List.{List}
-use Prim.Native.Nat.{ℕ, zero, suc, _+_, _-_, _*_, _/_, _≤_, _<_}
+use Prim.Native.Nat.{ℕ, zero, suc, _+_, _-_, _≤_, _<_}
 use native.Mathlib.Numerals.{add-one}
 use native.Mathlib.Omega.{arith}
 use lib.Dec.{leb}
 use lib.ListN.{length, getD}
 use borrow.Author.Tests.{le-leb, ne-eqb}
-use Rattle.rules.specs.State.{decimal}
 use Rattle.rules.specs.Figure.{rounded, mixed, value}
 use Rattle.rules.proofs.Rounding.{nothing}
 use Rattle.memory.specs.declared.owed.Owed.{Owed}
 use Rattle.memory.specs.Owed.{owed, owedWorked, owedWorks, owing}
 use Rattle.memory.proofs.Owing.{owed-works, owed-fails, owed-ends, owed-dead}
 use Rattle.places.specs.declared.Ends.{Ends}
-use Rattle.units.specs.Share.{Share, shareParts}
-use Rattle.units.proofs.Shares.{must-down, must-least, must-up}
-use Rattle.places.specs.Cells.{Both, Place, Steady, Within, Workable, cellAt, one, valueOf}
+use Rattle.units.specs.declared.debt.Shares.{Shares}
+use Rattle.places.specs.Cells.{Both, MustWork, Place, Workable, cellAt, one, sharesAt, valueOf}
 use Rattle.places.proofs.Cells.{both-at, both-as}
 use Rattle.places.proofs.Values.{Chance, valued-dead, valued-suc, valued-within}
 use Rattle.gaps.specs.Gaps.{Due, Shared, shares}
@@ -77,52 +75,23 @@ end-valued u r survival m alive end = both-as (λ up. rw (end, owed-ends r 0 m a
 
 -- a component that must work
 module _ {u r : ℕ} {m : Owed} {i : ℕ} {survival : List ℕ} {after : Ends} {t : List ℕ} (y : Due u r m i survival after t) where
-  within : Within u after
-  within = valued-within (y .list .whole) (owing r) survival (y .list .units) i (owedWorked m) (y .value)
-
-  due-is : {e : Ends} → Both (λ up. rounded up u (mixed u (getD survival i 0) (one up after) 0)) e → Both (λ up. valueOf u (owing r) survival m up (i + 1)) e
-  due-is = both-as (λ up. rw (both-at (y .value) up) (sym (due-before (y .list .whole) r survival up m i (y .some) (y .alive))))
-
-  -- by the plain step
-  module _ (p q : ℕ) (is : Chance u survival i p q) {none : Ends} (z : Both (λ up. 0) none) where
-    pub due-steady : Steady u p q after none
-    due-steady = record {
-      survival = rw (is .read) (y .list .units i);
-      rest = is .rest;
-      left = within;
-      right = record { low = omega (arith, z .low); high = omega (arith, z .high) };
-    }
-
-    pub due-more : {e : Ends} → Both (λ up. rounded up u (mixed u p (one up after) (one up none))) e → Both (λ up. valueOf u (owing r) survival m up (i + 1)) e
-    due-more b = due-is (both-as (λ up. rw (is .read, both-at z up)) b)
-
-  -- by the shares
   pub due-place : Place (shares + i) t
   due-place = record { low = omega (arith, y .size, y .list .size); room = y .list .room }
 
-  module _ (is : u ≡ decimal) where
-    pub due-low : after .low ≤ decimal
-    due-low = omega (arith, within .low, is)
+  module _ (p q : ℕ) (is : Chance u survival i p q) where
+    pub due-must : {s : Shares} → Both (λ up. cellAt t up (shares + i)) (sharesAt s) → MustWork u p q s after
+    due-must b = record {
+      survival = rw (is .read) (y .list .units i);
+      rest = is .rest;
+      shared = record {
+        of-p = rw (is .read, b .low) (y .shared .row false i (y .size));
+        of-q = rw (is .read, b .high) (y .shared .row true i (y .size));
+      };
+      left = valued-within (y .list .whole) (owing r) survival (y .list .units) i (owedWorked m) (y .value);
+    }
 
-    pub due-high : after .high ≤ decimal
-    due-high = omega (arith, within .high, is)
-
-    module _ {s : Ends} (b : Both (λ up. cellAt t up (shares + i)) s) where
-      survival-le : getD survival i 0 ≤ decimal
-      survival-le = omega (arith, y .list .units i, is)
-
-      of-p : Share (getD survival i 0) (s .low)
-      of-p = rw (b .low) (y .shared .row is false i (y .size))
-
-      of-q : Share (decimal - getD survival i 0) (s .high)
-      of-q = rw (b .high, ← is) (y .shared .row is true i (y .size))
-
-      pub due-least : s .high * after .high / shareParts ≤ after .high
-      due-least = must-least due-high survival-le of-q
-
-      pub due-shared : {e : Ends} → e .low ≡ s .low * after .low / shareParts → e .high ≡ after .high - s .high * after .high / shareParts
-          → Both (λ up. valueOf u (owing r) survival m up (i + 1)) e
-      due-shared low high = due-is (record { low = low ∙ rw is (must-down due-low of-p); high = high ∙ rw is (must-up due-high survival-le of-q) })
+    pub due-more : {e : Ends} → Both (λ up. rounded up u (mixed u p (one up after) 0)) e → Both (λ up. valueOf u (owing r) survival m up (i + 1)) e
+    due-more = both-as (λ up. rw (is .read, both-at (y .value) up) (sym (due-before (y .list .whole) r survival up m i (y .some) (y .alive))))
 
 -- a debt taken back to i components left
 pub record Back (u r x g from : ℕ) (survival : List ℕ) (i : ℕ) (m : Owed) (ends : Ends) : Type 0 where

@@ -4,9 +4,9 @@ use mathlib.Core.Bool.{Bool, cond}
 use mathlib.Core.List.{List}
 use Prim.Native.Nat.{ℕ, suc, _+_, _-_, _≤_, _<_, min}
 use lib.ListN.{length, getD}
-use Rattle.rules.specs.State.{decimal, failure}
+use Rattle.rules.specs.State.{failure}
 use Rattle.rules.specs.Figure.{rounded, mixed}
-use Rattle.units.specs.Share.{Share}
+use Rattle.units.specs.Share.{Dealt}
 use Rattle.memory.specs.declared.owed.Owed.{Owed}
 use Rattle.memory.specs.Owed.{owed, owedWorked, owing}
 use Rattle.places.specs.declared.Ends.{Ends}
@@ -22,10 +22,10 @@ pub record Asked (u r : ℕ) (survival t : List ℕ) : Type 0 where
 abbrev pub shares : ℕ
 shares = 900
 
--- over the decimal unit P's share of each component stands where the low end of a value does, and Q's where the high end does
+-- P's share of each component stands where the low end of a value does, and Q's where the high end does
 pub record Shared (u : ℕ) (survival t : List ℕ) : Type 0 where
-  pub row : u ≡ decimal → (up : Bool) (i : ℕ) → i < length survival
-      → Share (cond up (failure u (getD survival i 0)) (getD survival i 0)) (cellAt t up (shares + i))
+  pub row : (up : Bool) (i : ℕ) → i < length survival
+      → Dealt u (cond up (failure u (getD survival i 0)) (getD survival i 0)) (cellAt t up (shares + i))
 
 -- a memory that owes, and its value after the next component works
 pub record Due (u r : ℕ) (m : Owed) (i : ℕ) (survival : List ℕ) (after : Ends) (t : List ℕ) : Type 0 where

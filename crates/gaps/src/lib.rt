@@ -84,7 +84,8 @@ pub fn ring(decimal: bool, r: usize, survival: &[u32], table: &mut [u64]) -> End
     let mut ends = places::end_value(decimal, Clean::after(n, r).works());
     let mut i: usize = 0;
     while i < n {
-        let m = Clean::after(n - i - 1, r).failed(r);
+        let clean = Clean::after(n - i - 1, r);
+        let m = clean.failed(r);
         known = free::bring(decimal, r, known, m, i, survival, table);
         ends = close(decimal, r, m, i, survival, ends, table);
         i += 1;

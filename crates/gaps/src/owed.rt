@@ -8,13 +8,12 @@ ghost use Rattle.gaps.specs.Gaps.{Asked, Due, Owing, Passable, Settled, 
 use memory::owed::Owed;
 use places::Ends;
 use places::HALF;
-use units::share;
+use units::debt;
 
 // Where the shares of the components stand, past the two sides' places.
 const SHARES: usize = 900;
 
-// The value of a memory that owes with one component more, out of its value after the component works: where it fails, it is dead. Over the decimal unit
-// P's share of it is rounded down, and what Q's leaves of it is rounded up.
+// The value of a memory that owes with one component more, out of its value after the component works: where it fails, it is dead.
 fn must_work(
     decimal: bool,
     r: usize,
@@ -27,21 +26,9 @@ fn must_work(
     requires { ⌜ Due (whole decimal) r m i (now survival) after (now table) ⌝ }
     ensures { λ e. ⌜ Both (λ up. valueOf (whole decimal) (owing r) (now (survival .entry)) m up (i + 1)) e ⌝ }
 {
-    if decimal {
-        let shares = places::read(table, SHARES + i);
-        return Ends {
-            low: share::times(shares.low, after.low),
-            high: after.high - share::times(shares.high, after.high),
-        };
-    }
     let p = places::chance(survival, i);
-    places::step(
-        decimal,
-        p,
-        p.failure(decimal),
-        after,
-        places::end_value(decimal, false),
-    )
+    let shares = places::read_shares(table, SHARES + i);
+    places::step_owed(decimal, p, p.failure(decimal), shares, after)
 }
 
 // Back over components that must all work, from the memory m with `from` left.
@@ -69,24 +56,21 @@ fn back(
     ends
 }
 
-// The shares of every component's P and Q, from place SHARES on, where the two ends of a value stand: over the decimal unit, since no others are asked for.
+// The shares of every component's P and Q, from place SHARES on, where they are asked for.
 fn prepare(decimal: bool, survival: &[u32], table: &mut [u64])
     requires { ⌜ Workable (whole decimal) (now survival) (now table) ⌝ }
     ensures shared { λ e. ⌜ Shared (whole decimal) (now (survival .entry)) (now (table .exit)) ⌝ }
     ensures kept { λ e. ⌜ Kept (now (table .entry)) (now (table .exit)) ⌝ }
 {
-    if !decimal {
+    let unit = units::whole(decimal);
+    if !units::by_shares(unit) {
         return;
     }
     let mut i: usize = 0;
     while i < survival.len() {
         let p = places::chance(survival, i);
-        let q = p.failure(decimal);
-        let shares = Ends {
-            low: share::share(p.0),
-            high: share::share(q.0),
-        };
-        places::write(table, SHARES + i, shares);
+        let shares = debt::deal(unit, p, p.failure(decimal));
+        places::write_shares(table, SHARES + i, shares);
         i += 1;
     }
 }

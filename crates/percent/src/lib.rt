@@ -22,10 +22,11 @@ fn percent_of(decimal: bool, up: bool, figure: u64) -> u64
     requires { ⌜ figure ≤ S ⌝ }
     ensures { λ r. ⌜ r ≡ percentOf (whole decimal) up figure ⌝ }
 {
+    let unit = units::whole(decimal);
     if up {
-        return units::over(decimal, figure * WHOLE + (units::whole(decimal) - 1));
+        return units::over(unit, figure * WHOLE + (unit - 1));
     }
-    units::over(decimal, figure * WHOLE)
+    units::over(unit, figure * WHOLE)
 }
 
 // A number's last six digits, zeros in front where it has fewer.

@@ -9,6 +9,8 @@ use Rattle.rules.specs.State.{S, numberOf, failure}
 use Rattle.rules.specs.Memory.{Machine}
 use Rattle.rules.specs.Figure.{value}
 use Rattle.rules.specs.Refusal.{most, cells}
+use Rattle.units.specs.declared.debt.Shares.{Shares}
+use Rattle.units.specs.Debt.{Shared}
 use Rattle.places.specs.declared.Ends.{Ends}
 
 -- one end of a value
@@ -89,3 +91,14 @@ pub record Steady (u p q : ℕ) (works fails : Ends) : Type 0 where
   pub rest : q ≡ failure u p
   pub left : Within u works
   pub right : Within u fails
+
+-- a component's shares, as a place holds them
+abbrev pub sharesAt : Shares → Ends
+sharesAt s = record { low = s .p .0; high = s .q .0 }
+
+-- what a rounded step of both ends is handed where the component must work
+pub record MustWork (u p q : ℕ) (s : Shares) (works : Ends) : Type 0 where
+  pub survival : p ≤ u
+  pub rest : q ≡ failure u p
+  pub shared : Shared u p s
+  pub left : Within u works

@@ -7,9 +7,12 @@ ghost use Rattle.rules.specs.State.{S};
 ghost use Rattle.rules.specs.Figure.{rounded, mixed};
 ghost use Rattle.units.specs.Step.{whole};
 ghost use Rattle.units.specs.Odds.{Prepared};
-ghost use Rattle.places.specs.Cells.{Both, Place, Put, Steady, Within, cellAt, one};
+ghost use Rattle.places.specs.Cells.{Both, MustWork, Place, Put, Steady, Within, cellAt, one, sharesAt};
 use units::Failure;
+use units::FailureShare;
 use units::Survival;
+use units::SurvivalShare;
+use units::debt::Shares;
 use units::odds::Odds;
 
 // How far the high end of a value stands from its low end, and so how many places there are.
@@ -56,25 +59,62 @@ pub fn write(table: &mut [u64], at: usize, ends: Ends)
     table[FAR + at] = ends.high;
 }
 
+// The shares that stand at a place: P's where the low end of a value does, Q's where its high end does.
+pub fn read_shares(table: &[u64], at: usize) -> Shares
+    requires { ⌜ Place at (now table) ⌝ }
+    ensures { λ r. ⌜ Both (λ up. cellAt (now (table .entry)) up at) (sharesAt r) ⌝ }
+{
+    let cells = read(table, at);
+    let p = SurvivalShare(cells.low);
+    let q = FailureShare(cells.high);
+    Shares { p, q }
+}
+
+// Shares written at a place.
+pub fn write_shares(table: &mut [u64], at: usize, shares: Shares)
+    requires { ⌜ Place at (now table) ⌝ }
+    ensures { λ r. ⌜ Put at (sharesAt shares) (now (table .entry)) (now (table .exit)) ⌝ }
+{
+    let cells = Ends {
+        low: shares.p.0,
+        high: shares.q.0,
+    };
+    write(table, at, cells);
+}
+
 // One rounded step of both ends.
 pub fn step(decimal: bool, p: Survival, q: Failure, works: Ends, fails: Ends) -> Ends
     requires { ⌜ Steady (whole decimal) (p .0) (q .0) works fails ⌝ }
     ensures { λ r. ⌜ Both (λ up. rounded up (whole decimal) (mixed (whole decimal) (p .0) (one up works) (one up fails))) r ⌝ }
 {
+    let unit = units::whole(decimal);
     Ends {
-        low: units::round_down(decimal, p, q, works.low, fails.low),
-        high: units::round_up(decimal, p, q, works.high, fails.high),
+        low: units::round_down(unit, p, q, works.low, fails.low),
+        high: units::round_up(unit, p, q, works.high, fails.high),
     }
 }
 
 // The same over a row of values, with one component's numbers for all of it.
 pub fn step_row(decimal: bool, odds: Odds, works: Ends, fails: Ends) -> Ends
-    requires { ⌜ Prepared decimal odds × Within (whole decimal) works × Within (whole decimal) fails ⌝ }
+    requires { ⌜ Prepared (whole decimal) odds × Within (whole decimal) works × Within (whole decimal) fails ⌝ }
     ensures { λ r. ⌜ Both (λ up. rounded up (whole decimal) (mixed (whole decimal) (odds .p .0) (one up works) (one up fails))) r ⌝ }
 {
+    let unit = units::whole(decimal);
     Ends {
-        low: odds.down(decimal, works.low, fails.low),
-        high: odds.up(decimal, works.high, fails.high),
+        low: odds.down(unit, works.low, fails.low),
+        high: odds.up(unit, works.high, fails.high),
+    }
+}
+
+// The same of a component that must work, by its shares: nothing is left where it fails.
+pub fn step_owed(decimal: bool, p: Survival, q: Failure, shares: Shares, works: Ends) -> Ends
+    requires { ⌜ MustWork (whole decimal) (p .0) (q .0) shares works ⌝ }
+    ensures { λ r. ⌜ Both (λ up. rounded up (whole decimal) (mixed (whole decimal) (p .0) (one up works) 0)) r ⌝ }
+{
+    let unit = units::whole(decimal);
+    Ends {
+        low: shares.down(unit, p, q, works.low),
+        high: shares.up(unit, p, q, works.high),
     }
 }
 

@@ -27,7 +27,14 @@ fn put_low(decimal: bool, low: u64, out: &mut [u8], at: usize) -> usize
     requires room { ⌜ at ≤ length (now out) ⌝ }
     ensures { λ r. ⌜ Within r (now (out .exit)) ⌝ }
 {
-    let numbers = [units::over(decimal, low * STEPS), 0, 0, 0, 0, 0];
+    let numbers = [
+        units::over(units::whole(decimal), low * STEPS),
+        0,
+        0,
+        0,
+        0,
+        0,
+    ];
     forms::put_form(
         b"<svg class='chance' viewBox='0 0 1000 1' preserveAspectRatio='none' role='img' aria-label='chance'><rect height='1' width='#'/></svg>\n",
         numbers,

@@ -2,3 +2,4 @@
 pub mod Step
 pub mod Share
 pub mod Odds
+pub mod Debt

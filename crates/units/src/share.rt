@@ -1,27 +1,38 @@
-// A number's share of the decimal unit: what it is of 10^9, in parts of 2^61 and rounded up. A value times a share is the product over the unit, with no
+// A number's share of a unit: what it is of the unit, in parts of 2^62 and rounded up. A value times a share is the product over the unit, with no
 // division.
 ghost use mathlib.Core.Path.{_≡_};
 ghost use Prim.Native.Nat.{_*_, _/_, _≤_};
-ghost use Rattle.rules.specs.State.{decimal};
-ghost use Rattle.units.specs.Share.{Share, shareParts, wordParts};
-use crate::DECIMAL;
+ghost use Rattle.rules.specs.State.{S};
+ghost use Rattle.units.specs.Share.{Dealt, Share, shareParts, wordParts};
+ghost use Rattle.units.specs.Step.{AnyUnit};
 
-// A share has two digits of 32 bits, the upper one in parts of 2^29.
+// A share has two digits of 32 bits, the upper one in parts of 2^30.
 pub const DIGIT: u64 = 4294967296;
 
-pub const UPPER_PARTS: u64 = 536870912;
+pub const UPPER_PARTS: u64 = 1073741824;
 
-// What brings parts of 2^61 to parts of 2^64.
-const EIGHT: u64 = 8;
+// What brings parts of 2^62 to parts of 2^64.
+const FOUR: u64 = 4;
 
 // A number's share.
-pub fn share(x: u64) -> u64
-    requires { ⌜ x ≤ decimal ⌝ }
-    ensures { λ r. ⌜ Share x r ⌝ }
+fn share(unit: u64, x: u64) -> u64
+    requires { ⌜ AnyUnit unit × (x ≤ unit) ⌝ }
+    ensures { λ r. ⌜ Share unit x r ⌝ }
 {
-    let upper = x * DIGIT / DECIMAL;
-    let left = x * DIGIT % DECIMAL;
-    upper * UPPER_PARTS + left * UPPER_PARTS / DECIMAL + 1
+    let upper = crate::over(unit, x * DIGIT);
+    let left = x * DIGIT - upper * unit;
+    upper * UPPER_PARTS + crate::over(unit, left * UPPER_PARTS) + 1
+}
+
+// The same, where a step over the unit is worked by shares.
+pub fn dealt(unit: u64, x: u64) -> u64
+    requires { ⌜ AnyUnit unit × (x ≤ unit) ⌝ }
+    ensures { λ r. ⌜ Dealt unit x r ⌝ }
+{
+    if crate::by_shares(unit) {
+        return share(unit, x);
+    }
+    0
 }
 
 // The upper half of a product of 128 bits, by digits: the compiler sees that it is one multiplication.
@@ -39,8 +50,8 @@ fn upper_half(x: u64, y: u64) -> u64
 
 // A value times a share, rounded down.
 pub fn times(share: u64, x: u64) -> u64
-    requires { ⌜ x ≤ decimal ⌝ }
+    requires { ⌜ x ≤ S ⌝ }
     ensures { λ r. ⌜ r ≡ share * x / shareParts ⌝ }
 {
-    upper_half(share, x * EIGHT)
+    upper_half(share, x * FOUR)
 }

@@ -8,7 +8,7 @@ mix-requires : tie.Need-mix-requires
 mix-requires c κs = search needs
 
 over-requires : tie.Need-over-requires
-over-requires c κs = search needs
+over-requires c κs = c .before .pre .unit .some
 
 returns : tie.Need-returns
 unfolding rounded

@@ -1,29 +1,35 @@
--- `prepare` writes the shares of one component more a turn; over the other unit none are asked for. Assumes nothing.
+-- `prepare` writes the shares of one component more a turn, or none where none are asked for. Assumes nothing.
 use borrow.Author.Needs.{needs}
-use borrow.Author.Tests.{not-true, not-false}
+use borrow.Author.Tests.{not-true}
 use mathlib.Core.Path.{_≡_, sym, _∙_}
-use mathlib.Core.Bool.{false≢true}
 use Prim.Native.Nat.{_-_, _≤_}
 use native.Mathlib.Omega.{arith}
 use lib.ListN.{length}
 use Rattle.units.specs.Step.{whole}
-use Rattle.units.proofs.Laws.{decimal-whole}
-use Rattle.units.proofs.Shares.{decimal-le}
+use Rattle.units.proofs.Laws.{whole-any}
+use Rattle.units.proofs.Shares.{unasked}
 use Rattle.places.proofs.Cells.{kept-none, room-kept}
 use Rattle.gaps.proofs.Sharing.{SharedTo, shared-none, shared-more}
 use Rattle.gaps.proofs.owed.prepare.Statement.{statement}
 use Rattle.gaps.proofs.owed.prepare.Tie as tie
 
 abbrev Inv-loop : tie.InvT-loop
-Inv-loop decimal survival table₀ i₀ table i = (i ≤ length survival) × SharedTo (whole decimal) i survival table₀ table
+Inv-loop decimal survival table₀ unit i₀ table i = (i ≤ length survival) × SharedTo unit i survival table₀ table
 
 abbrev μ-loop : tie.MeasureT-loop
-μ-loop decimal survival table₀ i₀ table i = length survival - i
+μ-loop decimal survival table₀ unit i₀ table i = length survival - i
+
+whole-requires : tie.Need-whole-requires Inv-loop μ-loop
+whole-requires c κs = search needs
+
+by-shares-requires : tie.Need-by-shares-requires Inv-loop μ-loop
+by-shares-requires c κs = search needs
 
 returns : tie.Need-returns Inv-loop μ-loop
 returns c =
-    let unasked = not-true (c .before .before .before .args .decimal) (c .if1 .taken) in
-    (record { row = λ is. absurd (false≢true (sym unasked ∙ decimal-whole is)) }, kept-none)
+    let asked = c .before .by-shares in
+    let none = sym (asked .ensures) ∙ not-true (asked .result) (c .if1 .taken) in
+    (record { row = λ up i l. unasked (rw (c .before .before .whole .ensures) at none) }, kept-none)
 
 loop-holds : tie.Need-loop-holds Inv-loop μ-loop
 loop-holds c = (omega arith, shared-none)
@@ -32,24 +38,26 @@ chance-requires : tie.Need-chance-requires Inv-loop μ-loop
 chance-requires c κs = search needs
 
 failure-requires : tie.Need-failure-requires Inv-loop μ-loop
-failure-requires c κs = rw (c .chance .ensures) (c .before .before .before .before .before .before .pre .units _)
+failure-requires c κs = rw (c .chance .ensures) (c .before .before .before .before .before .before .before .before .pre .units _)
 
-share-requires : tie.Need-share-requires Inv-loop μ-loop
-share-requires c κs =
-    let pre = c .before .before .before .before .before .before .before .pre in
-    decimal-le (not-false (c .before .before .before .before .before .before .before .args .decimal) (c .before .before .before .before .if1 .left)) (rw (c .before .chance .ensures) (pre .units _))
+deal-requires : tie.Need-deal-requires Inv-loop μ-loop
+deal-requires c κs =
+    let pre = c .before .before .before .before .before .before .before .before .before .pre in
+    let whole = c .before .before .before .before .before .before .whole in
+    rw (whole .ensures) (record {
+      unit = whole-any _;
+      survival = rw (c .before .chance .ensures) (pre .units _);
+      rest = c .failure .ensures;
+    })
 
-share-requires-2 : tie.Need-share-requires-2 Inv-loop μ-loop
-share-requires-2 c κs = decimal-le (not-false (c .before .before .before .before .before .before .before .before .args .decimal) (c .before .before .before .before .before .if1 .left)) (omega (arith, c .before .failure .ensures))
+add-write-shares : tie.Need-add-write-shares Inv-loop μ-loop
+add-write-shares c = search needs
 
-add-write : tie.Need-add-write Inv-loop μ-loop
-add-write c = search needs
-
-write-requires : tie.Need-write-requires Inv-loop μ-loop
-write-requires c κs =
+write-shares-requires : tie.Need-write-shares-requires Inv-loop μ-loop
+write-shares-requires c κs =
     let pre = c .before .before .before .before .before .before .before .before .before .before .pre in
-    let loop = c .before .before .before .before .before .before .loop in
-    let test = c .before .before .before .before .before .loop-test in
+    let loop = c .before .before .before .before .before .loop in
+    let test = c .before .before .before .before .loop-test in
     record { low = omega (arith, test .taken, pre .size); room = room-kept (loop .inv .1 .kept) (pre .room) }
 
 add-i : tie.Need-add-i Inv-loop μ-loop
@@ -61,15 +69,13 @@ loop-less c = search needs
 loop-again : tie.Need-loop-again Inv-loop μ-loop
 loop-again c =
     let pre = c .before .before .before .before .before .before .before .before .before .before .before .before .before .pre in
-    let loop = c .before .before .before .before .before .before .before .before .before .loop in
-    let test = c .before .before .before .before .before .before .before .before .loop-test in
-    let chance = c .before .before .before .before .before .before .before .chance in
-    let failure = c .before .before .before .before .before .before .failure in
-    let share = c .before .before .before .before .before .share in
-    let share2 = c .before .before .before .before .share2 in (
+    let loop = c .before .before .before .before .before .before .before .before .loop in
+    let test = c .before .before .before .before .before .before .before .loop-test in
+    let chance = c .before .before .before .before .before .before .chance in
+    let deal = c .before .before .before .before .deal in (
       omega (arith, test .taken),
-      shared-more (loop .inv .1) (omega (arith, test .taken, pre .size)) (rw (chance .ensures) at (share .ensures))
-          (rw (failure .ensures, chance .ensures) at (share2 .ensures)) (c .before .before .write .ensures),
+      shared-more (loop .inv .1) (omega (arith, test .taken, pre .size)) (rw (chance .ensures) at (deal .ensures .of-p)) (rw (chance .ensures) at (deal .ensures .of-q))
+          (c .before .before .write-shares .ensures),
     )
 
 same-length : tie.Need-same-length Inv-loop μ-loop
@@ -78,7 +84,8 @@ same-length c = c .before .loop .inv .1 .kept .long
 returns-2 : tie.Need-returns-2 Inv-loop μ-loop
 returns-2 c =
     let v = c .before .loop .inv in
-    (record { row = λ is up k l. v .1 .is up k (omega (arith, v .0, c .loop-test .left)) }, v .1 .kept)
+    let whole = c .before .before .before .before .before .whole in
+    rw (← whole .ensures) (record { row = λ up k l. v .1 .is up k (omega (arith, v .0, c .loop-test .left)) }, v .1 .kept)
 
 pub prepare-spec : {M : Type 1} → statement M
 prepare-spec =
@@ -86,14 +93,15 @@ prepare-spec =
     (tie.spec
     Inv-loop
     μ-loop
+    whole-requires
+    by-shares-requires
     returns
     loop-holds
     chance-requires
     failure-requires
-    share-requires
-    share-requires-2
-    add-write
-    write-requires
+    deal-requires
+    add-write-shares
+    write-shares-requires
     add-i
     loop-less
     loop-again

@@ -17,7 +17,7 @@ upper-half-requires c κs = search needs
 returns : tie.Need-returns
 returns c =
     let a = c .before .args in
-    let e : a .share * (a .x * 8) ≡ a .share * a .x * 8 = omega arith in
+    let e : a .share * (a .x * 4) ≡ a .share * a .x * 4 = omega arith in
     c .upper-half .ensures ∙ ap (λ y. y / wordParts) e ∙ mul-div-mul-right (a .share * a .x) shareParts (omega arith)
 
 pub times-spec : {M : Type 1} → statement M

@@ -1,31 +1,43 @@
--- `up` meets its contract: by shares over the decimal unit, by the plain step over the other. Assumes nothing.
-use mathlib.Core.Path.{_∙_}
+-- `up` meets its contract: by P's share, or by the plain step where no share is asked for. Assumes nothing.
+use mathlib.Core.Path.{sym, _∙_}
 use native.Mathlib.Omega.{arith}
 use borrow.Author.Needs.{needs}
-use Rattle.units.proofs.Laws.{whole-most}
-use Rattle.units.proofs.Shares.{mixable, row-up}
+use Rattle.units.proofs.Rows.{mixable, row-up}
 use Rattle.units.proofs.odds.Odds.up.Statement.{statement}
 use Rattle.units.proofs.odds.Odds.up.Tie as tie
 
+by-shares-requires : tie.Need-by-shares-requires
+by-shares-requires c κs = search needs
+
 shared-requires : tie.Need-shared-requires
-shared-requires c κs = let pre = c .before .pre in mixable (c .if1 .taken) (omega arith) (pre .0) (pre .1)
+shared-requires c κs =
+    let pre = c .before .before .pre in
+    mixable (omega arith) (pre .0) (pre .1) (sym (c .before .by-shares .ensures) ∙ c .if1 .taken)
 
 returns : tie.Need-returns
-returns c = let pre = c .before .before .pre in c .shared .ensures ∙ row-up (c .before .if1 .taken) (pre .0) (pre .1)
+returns c =
+    let pre = c .before .before .before .pre in
+    c .shared .ensures ∙ row-up (mixable (omega arith) (pre .0) (pre .1) (sym (c .before .before .by-shares .ensures) ∙ c .before .if1 .taken))
 
 narrow-requires : tie.Need-narrow-requires
-narrow-requires c κs = omega (arith, c .before .pre .1 .left, whole-most (c .before .args .decimal))
+narrow-requires c κs = let pre = c .before .before .pre in omega (arith, pre .1 .left, pre .0 .unit .most)
 
 narrow-requires-2 : tie.Need-narrow-requires-2
-narrow-requires-2 c κs = omega (arith, c .before .before .pre .1 .right, whole-most (c .before .before .args .decimal))
+narrow-requires-2 c κs = let pre = c .before .before .before .pre in omega (arith, pre .1 .right, pre .0 .unit .most)
 
 round-up-requires : tie.Need-round-up-requires
 round-up-requires c κs =
-    let pre = c .before .before .before .pre in
-    record { survival = pre .0 .survival; rest = pre .0 .rest; left = rw (c .before .narrow .ensures) (pre .1 .left); right = rw (c .narrow2 .ensures) (pre .1 .right) }
+    let pre = c .before .before .before .before .pre in
+    record {
+      unit = pre .0 .unit;
+      survival = pre .0 .survival;
+      rest = pre .0 .rest;
+      left = rw (c .before .narrow .ensures) (pre .1 .left);
+      right = rw (c .narrow2 .ensures) (pre .1 .right);
+    }
 
 returns-2 : tie.Need-returns-2
 returns-2 c = rw (c .before .before .narrow .ensures, c .before .narrow2 .ensures) at (c .round-up .ensures)
 
 pub up-spec : {M : Type 1} → statement M
-up-spec = tie.close (tie.spec shared-requires returns narrow-requires narrow-requires-2 round-up-requires returns-2)
+up-spec = tie.close (tie.spec by-shares-requires shared-requires returns narrow-requires narrow-requires-2 round-up-requires returns-2)
