@@ -12,7 +12,7 @@ use Rattle.units.proofs.Laws.{whole-any}
 use Rattle.places.specs.declared.Ends.{Ends}
 use Rattle.places.specs.Cells.{MustWork, Steady, Within, one}
 
-module _ {isDecimal : Bool} {u : ℕ} (is : u ≡ whole isDecimal) {works : Ends} where
+module _ (isDecimal : Bool) {u : ℕ} (is : u ≡ whole isDecimal) {works : Ends} where
   pub steady-parts : {p q : ℕ} {fails : Ends} → Steady (whole isDecimal) p q works fails → (up : Bool) → Parts u p q (one up works) (one up fails)
   steady-parts y false =
       rw is (record { unit = whole-any isDecimal; survival = y .survival; rest = y .rest; left = y .left .low; right = y .right .low })

@@ -9,10 +9,10 @@ whole-requires : tie.Need-whole-requires
 whole-requires c κs = search needs
 
 round-down-requires : tie.Need-round-down-requires
-round-down-requires c κs = steady-parts (c .whole .ensures) (c .before .pre) false
+round-down-requires c κs = steady-parts (c .before .args .decimal) (c .whole .ensures) (c .before .pre) false
 
 round-up-requires : tie.Need-round-up-requires
-round-up-requires c κs = steady-parts (c .before .whole .ensures) (c .before .before .pre) true
+round-up-requires c κs = steady-parts (c .before .before .args .decimal) (c .before .whole .ensures) (c .before .before .pre) true
 
 returns : tie.Need-returns
 returns c =

@@ -9,10 +9,10 @@ whole-requires : tie.Need-whole-requires
 whole-requires c κs = search needs
 
 down-requires : tie.Need-down-requires
-down-requires c κs = must-parts (c .whole .ensures) (c .before .pre) false
+down-requires c κs = must-parts (c .before .args .decimal) (c .whole .ensures) (c .before .pre) false
 
 up-requires : tie.Need-up-requires
-up-requires c κs = must-parts (c .before .whole .ensures) (c .before .before .pre) true
+up-requires c κs = must-parts (c .before .before .args .decimal) (c .before .whole .ensures) (c .before .before .pre) true
 
 returns : tie.Need-returns
 returns c =

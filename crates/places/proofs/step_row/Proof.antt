@@ -9,10 +9,10 @@ whole-requires : tie.Need-whole-requires
 whole-requires c κs = search needs
 
 down-requires : tie.Need-down-requires
-down-requires c κs = row-values (c .whole .ensures) (c .before .pre .0) (c .before .pre .1) (c .before .pre .2) false
+down-requires c κs = row-values (c .before .args .decimal) (c .whole .ensures) (c .before .pre .0) (c .before .pre .1) (c .before .pre .2) false
 
 up-requires : tie.Need-up-requires
-up-requires c κs = row-values (c .before .whole .ensures) (c .before .before .pre .0) (c .before .before .pre .1) (c .before .before .pre .2) true
+up-requires c κs = row-values (c .before .before .args .decimal) (c .before .whole .ensures) (c .before .before .pre .0) (c .before .before .pre .1) (c .before .before .pre .2) true
 
 returns : tie.Need-returns
 returns c =

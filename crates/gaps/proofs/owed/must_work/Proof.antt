@@ -11,19 +11,19 @@ add-read-shares : tie.Need-add-read-shares
 add-read-shares c = search needs
 
 read-shares-requires : tie.Need-read-shares-requires
-read-shares-requires c κs = due-place (c .before .before .pre)
+read-shares-requires c κs = due-place (c .before .before .before .pre)
 
 failure-requires : tie.Need-failure-requires
-failure-requires c κs = rw (c .before .chance .ensures) (c .before .before .before .pre .list .units _)
+failure-requires c κs = rw (c .before .chance .ensures) (c .before .before .before .before .pre .list .units _)
 
 step-owed-requires : tie.Need-step-owed-requires
 step-owed-requires c κs =
-    let pre = c .before .before .before .before .pre in
+    let pre = c .before .before .before .before .before .pre in
     due-must pre _ _ (record { read = c .before .before .chance .ensures; rest = c .failure .ensures }) (c .before .read-shares .ensures)
 
 returns : tie.Need-returns
 returns c =
-    let pre = c .before .before .before .before .before .pre in
+    let pre = c .before .before .before .before .before .before .pre in
     due-more pre _ _ (record { read = c .before .before .before .chance .ensures; rest = c .before .failure .ensures }) (c .step-owed .ensures)
 
 pub must-work-spec : {M : Type 1} → statement M

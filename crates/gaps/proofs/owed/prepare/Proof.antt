@@ -55,7 +55,7 @@ add-write-shares c = search needs
 
 write-shares-requires : tie.Need-write-shares-requires Inv-loop μ-loop
 write-shares-requires c κs =
-    let pre = c .before .before .before .before .before .before .before .before .before .before .pre in
+    let pre = c .before .before .before .before .before .before .before .before .before .before .before .pre in
     let loop = c .before .before .before .before .before .loop in
     let test = c .before .before .before .before .loop-test in
     record { low = omega (arith, test .taken, pre .size); room = room-kept (loop .inv .1 .kept) (pre .room) }
@@ -68,7 +68,7 @@ loop-less c = search needs
 
 loop-again : tie.Need-loop-again Inv-loop μ-loop
 loop-again c =
-    let pre = c .before .before .before .before .before .before .before .before .before .before .before .before .before .pre in
+    let pre = c .before .before .before .before .before .before .before .before .before .before .before .before .before .before .pre in
     let loop = c .before .before .before .before .before .before .before .before .loop in
     let test = c .before .before .before .before .before .before .before .loop-test in
     let chance = c .before .before .before .before .before .before .chance in
@@ -84,7 +84,7 @@ same-length c = c .before .loop .inv .1 .kept .long
 returns-2 : tie.Need-returns-2 Inv-loop μ-loop
 returns-2 c =
     let v = c .before .loop .inv in
-    let whole = c .before .before .before .before .before .whole in
+    let whole = c .before .before .before .before .whole in
     rw (← whole .ensures) (record { row = λ up k l. v .1 .is up k (omega (arith, v .0, c .loop-test .left)) }, v .1 .kept)
 
 pub prepare-spec : {M : Type 1} → statement M
