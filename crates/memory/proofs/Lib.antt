@@ -4,4 +4,5 @@ pub mod Sums
 pub mod Runs
 pub mod Owing
 pub mod Opening
+pub mod Moves
 pub mod Patterns

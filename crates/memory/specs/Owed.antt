@@ -22,14 +22,15 @@ owedFailed r m = owed (m .clean) (cond (eqb (m .owed) 0) (r - 1) r)
 abbrev pub owedWorks : Owed → Bool
 owedWorks m = leb (m .owed) (m .clean)
 
-abbrev pub cleanAfter : (r read : ℕ) → Clean
-cleanAfter r read = clean (min read (r - 1))
-
 abbrev pub cleanWorked : (r : ℕ) → Clean → Clean
-cleanWorked r m = cleanAfter r (m .clean + 1)
+cleanWorked r m = clean (min (m .clean + 1) (r - 1))
 
 abbrev pub cleanFailed : (r : ℕ) → Clean → Owed
 cleanFailed r m = owed (m .clean) (r - 1)
+
+-- so many components read, all working
+abbrev pub cleanAfter : (r read : ℕ) → Clean
+cleanAfter r read = clean (min read (r - 1))
 
 -- as a machine
 abbrev pub owedMoves : (r : ℕ) → Machine Owed

@@ -1,5 +1,6 @@
 // Row 8: the states of the last components as bits, the last one read lowest; a one has failed.
 ghost use mathlib.Core.Path.{_≡_};
+ghost use mathlib.Core.Bool.{true};
 ghost use Prim.Native.Nat.{_+_, _*_, _≤_, _<_};
 ghost use Rattle.rules.specs.Memory.{lackingLast};
 ghost use Rattle.rules.specs.Pairs.{longestWindow};
@@ -53,5 +54,12 @@ impl Pattern {
     {
         let last = (self.bits as u64) & (WINDOW >> (LONGEST - p.r));
         p.r - (u64::count_ones(last) as u64) < p.k
+    }
+
+    // "the end works"
+    pub fn works(self) -> bool
+        ensures { λ b. ⌜ b ≡ true ⌝ }
+    {
+        true
     }
 }

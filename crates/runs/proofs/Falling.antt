@@ -3,7 +3,7 @@
 use mathlib.Core.Path.{_≡_, refl, sym, ap, _∙_}
 use mathlib.Core.Bool.{Bool}
 use mathlib.Core.List.{List}
-use Prim.Native.Nat.{ℕ, zero, suc, _+_, _-_, _≤_, _<_, min}
+use Prim.Native.Nat.{ℕ, zero, suc, _+_, _-_, _^_, _≤_, _<_, min}
 use native.Mathlib.Decide.{decLt}
 use native.Mathlib.Nat.{zero-add}
 use native.Mathlib.Numerals.{add-one}
@@ -13,8 +13,9 @@ use borrow.Author.Tests.{lt-ltb, le-ltb, le-leb}
 use Rattle.rules.specs.Figure.{rounded, mixed, value}
 use Rattle.rules.proofs.Rounding.{unchanged}
 use Rattle.memory.specs.declared.run.Run.{Run}
-use Rattle.memory.specs.Run.{run, running}
+use Rattle.memory.specs.Run.{run, runFailed, running}
 use Rattle.memory.proofs.Runs.{run-works, run-fails, run-ends, run-dead}
+use Rattle.memory.proofs.Moves.{run-failed-before}
 use Rattle.places.specs.declared.Ends.{Ends}
 use Rattle.places.specs.Cells.{Both, Place, Put, Kept, Written, cellAt, one, valueOf, Steady}
 use Rattle.places.proofs.Cells.{both-as, row-as, row-more, room-kept, workable-kept, kept-none, kept-trans}
@@ -84,6 +85,14 @@ module _ {u k : ℕ} {free : Run} {upto : ℕ} {survival t : List ℕ} (y : Fall
 
     pub back-some : 0 < m .run
     back-some = rw (v .is) (omega arith)
+
+    -- the memory before it, which a failed component takes to it
+    module _ {m' : Run} (before : m' ≡ run (m .lead) (m .run - 1)) where
+      pub back-small : m' .run + 1 < 2 ^ 64
+      back-small = rw (before, v .is) (omega (arith, y .size, y .list .size))
+
+      pub back-failed : runFailed m' ≡ m
+      back-failed = rw before (run-failed-before m back-some)
 
     at-hand : Both (λ up. valueOf u (running k) survival (run (free .lead) (upto - (i + 1) + 1)) up i) ends
     at-hand = let e : upto - i ≡ upto - (i + 1) + 1 = omega arith in rw (v .is, e) at (v .value)

@@ -3,7 +3,7 @@
 use mathlib.Core.Path.{_≡_, refl, sym, ap, _∙_}
 use mathlib.Core.Bool.{Bool}
 use mathlib.Core.List.{List}
-use Prim.Native.Nat.{ℕ, suc, _+_, _-_, _≤_, _<_}
+use Prim.Native.Nat.{ℕ, suc, _+_, _-_, _^_, _≤_, _<_}
 use native.Mathlib.Nat.{zero-add}
 use native.Mathlib.Numerals.{add-one}
 use native.Mathlib.Omega.{arith}
@@ -13,9 +13,10 @@ use Rattle.rules.specs.Memory.{machineOf, row4, row5}
 use Rattle.rules.specs.Figure.{rounded, mixed, figureOf}
 use Rattle.rules.proofs.Dead.{row-value}
 use Rattle.memory.specs.declared.run.Lead.{Lead}
-use Rattle.memory.specs.Run.{run, lead, running}
+use Rattle.memory.specs.Run.{run, lead, leadFailed, running}
 use Rattle.memory.specs.Open.{leadOpen}
 use Rattle.memory.proofs.Runs.{run-row4, run-row5}
+use Rattle.memory.proofs.Moves.{lead-failed-before}
 use Rattle.memory.proofs.Opening.{lead-first, lead-start, lead-works, lead-fails}
 use Rattle.places.specs.declared.Ends.{Ends}
 use Rattle.places.specs.Cells.{Both, Place, Kept, Steady, cellAt, one, valueOf}
@@ -77,6 +78,13 @@ module _ {u k : ℕ} {survival t₀ : List ℕ} (y : Asked u k survival t₀) wh
     module _ {m' : Lead} (before : m' ≡ lead (m .lead - 1)) where
       pub earlier : m' ≡ lead (n - suc i)
       earlier = before ∙ rw (v .is) (ap lead (omega arith))
+
+      -- a failed component takes it to the lead at hand
+      pub leading-small : m' .lead + 1 < 2 ^ 64
+      leading-small = rw (before, v .is) (omega (arith, y .list .size))
+
+      pub leading-failed : leadFailed m' ≡ m
+      leading-failed = rw before (lead-failed-before m leading-some)
 
       pub leading-fillable : Fillable u k (run (m' .lead) 0) i survival t
       leading-fillable = record {

@@ -22,16 +22,34 @@ fn place(m: Run, left: usize) -> usize
     left + m.run
 }
 
-// As far as even the failure of all that is left cannot bring the lead to k, a memory with no run works. The answer is how far.
+// The value at hand, which is that of the memory asked for.
+fn value(m: Run, hand: Run, ends: Ends) -> Ends
+    requires { ⌜ m ≡ hand ⌝ }
+    ensures { λ r. ⌜ r ≡ ends ⌝ }
+{
+    ends
+}
+
+// The same of the open lead.
+fn open_value(m: Lead, hand: Lead, ends: Ends) -> Ends
+    requires { ⌜ m ≡ hand ⌝ }
+    ensures { λ r. ⌜ r ≡ ends ⌝ }
+{
+    ends
+}
+
+// A memory with no run works at the end, and its value stays the same as far as even the failure of all that is left cannot bring the lead to k. The
+// answer is how far.
 fn decide(decimal: bool, k: usize, free: Run, upto: usize, table: &mut [u64]) -> usize
     requires { ⌜ Decidable k free upto (now table) ⌝ }
     ensures far { λ r. ⌜ r ≡ min upto (k - 1 - free .lead) ⌝ }
     ensures written { λ r. ⌜ Written (λ up i. whole decimal) (suc (min upto (k - 1 - free .lead))) 0 (now (table .entry)) (now (table .exit)) ⌝ }
 {
     let last = places::lesser(upto, k - 1 - free.lead);
+    let ends = places::end_value(decimal, free.works(k));
     let mut left: usize = 0;
     while left <= last {
-        places::write(table, left, places::end_value(decimal, true));
+        places::write(table, left, ends);
         left += 1;
     }
     last
@@ -44,21 +62,22 @@ fn back(decimal: bool, k: usize, free: Run, upto: usize, survival: &[u32], table
     ensures { λ r. ⌜ Both (λ up. valueOf (whole decimal) (running k) (now (survival .entry)) free up upto) r ⌝ }
 {
     let mut i = places::rest(upto, k);
-    let mut m = Run {
+    let mut hand = Run {
         lead: free.lead,
         run: upto - i,
     };
     let mut ends = places::end_value(decimal, false);
     while i < upto {
-        m = m.before();
+        let m = hand.before();
         let p = places::chance(survival, i);
         ends = places::step(
             decimal,
             p,
             p.failure(decimal),
             places::read(table, place(m.worked(), i)),
-            ends,
+            value(m.failed(), hand, ends),
         );
+        hand = m;
         i += 1;
     }
     ends
@@ -96,12 +115,12 @@ pub fn ring(decimal: bool, k: usize, survival: &[u32], table: &mut [u64]) -> End
     ensures kept { λ r. ⌜ Kept (now (table .entry)) (now (table .exit)) ⌝ }
 {
     let n = survival.len();
-    let mut lead = Lead { lead: k };
-    let mut opened = places::end_value(decimal, false);
+    let mut hand = Lead { lead: k };
+    let mut opened = places::end_value(decimal, hand.works(k));
     let mut i = n - k;
     while i < n {
-        lead = lead.before();
-        let free = lead.worked();
+        let m = hand.before();
+        let free = m.worked();
         fill(decimal, k, free, i, survival, table);
         let p = places::chance(survival, i);
         opened = places::step(
@@ -109,8 +128,9 @@ pub fn ring(decimal: bool, k: usize, survival: &[u32], table: &mut [u64]) -> End
             p,
             p.failure(decimal),
             places::read(table, place(free, i)),
-            opened,
+            open_value(m.failed(), hand, opened),
         );
+        hand = m;
         i += 1;
     }
     opened

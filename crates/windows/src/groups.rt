@@ -53,13 +53,15 @@ fn flag(test: bool) -> u64
     if test { 1 } else { 0 }
 }
 
-// The marks of the two patterns that follow x.
-fn mark(x: usize, works: bool, fails: bool, table: &mut [u64])
-    requires { ⌜ Markable x (now table) ⌝ }
-    ensures { λ _. ⌜ MarkedTwo x works fails (now (table .entry)) (now (table .exit)) ⌝ }
+// The marks of the two patterns that follow m.
+fn mark(m: Pattern, works: bool, fails: bool, table: &mut [u64])
+    requires { ⌜ Markable (m .bits) (now table) ⌝ }
+    ensures { λ _. ⌜ MarkedTwo (m .bits) works fails (now (table .entry)) (now (table .exit)) ⌝ }
 {
-    table[MARKS + 2 * x] = flag(works);
-    table[MARKS + (2 * x + 1)] = flag(fails);
+    let working = MARKS + m.worked().bits;
+    let failing = MARKS + m.failed().bits;
+    table[working] = flag(works);
+    table[failing] = flag(fails);
 }
 
 // One pattern more: put into its list where it lives, and what follows it marked.
@@ -67,13 +69,13 @@ fn place(first: u64, second: u64, more: &[u64], oldest: usize, x: usize, table: 
     requires { ⌜ Sorting first second (now more) oldest x (now table) ⌝ }
     ensures { λ _. ⌜ Placed first second (now (more .entry)) (x + 1) (now (table .entry)) (now (table .exit)) ⌝ }
 {
+    let young = Pattern { bits: x };
     if table[MARKS + x] == 0 {
-        mark(x, false, false, table);
+        mark(young, false, false, table);
         return;
     }
-    let young = Pattern { bits: x };
     let must = pairs::dies(first, second, more, young);
-    mark(x, true, !must, table);
+    mark(young, true, !must, table);
     append(
         list_of(first, second, more, must, young.older(oldest)),
         x,

@@ -27,7 +27,9 @@ pub fn start(decimal: bool, count: usize, table: &mut [u64])
 {
     let mut m: usize = 0;
     while m < count {
-        places::write(table, m, places::end_value(decimal, true));
+        let pattern = Pattern { bits: m };
+        let works = pattern.works();
+        places::write(table, m, places::end_value(decimal, works));
         m += 1;
     }
 }

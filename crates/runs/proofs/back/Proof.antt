@@ -1,23 +1,24 @@
 -- `back` takes a run back a component at a time. Assumes nothing.
 use borrow.Author.Needs.{needs}
+use mathlib.Core.Path.{_∙_}
 use Prim.Native.Nat.{_-_}
 use native.Mathlib.Omega.{arith}
 use Rattle.units.specs.Step.{whole}
-use Rattle.runs.proofs.Falling.{Back, back-first, back-last, back-place, back-some, back-steady, back-more}
+use Rattle.runs.proofs.Falling.{Back, back-first, back-last, back-place, back-some, back-small, back-failed, back-steady, back-more}
 use Rattle.runs.proofs.back.Statement.{statement}
 use Rattle.runs.proofs.back.Tie as tie
 
 abbrev Inv-loop : tie.InvT-loop
-Inv-loop decimal k upto survival table i₀ m₀ ends₀ i m ends = Back (whole decimal) k (m₀ .lead) upto survival i m ends
+Inv-loop decimal k upto survival table i₀ hand₀ ends₀ i hand ends = Back (whole decimal) k (hand₀ .lead) upto survival i hand ends
 
 abbrev μ-loop : tie.MeasureT-loop
-μ-loop decimal k upto survival table i₀ m₀ ends₀ i m ends = upto - i
+μ-loop decimal k upto survival table i₀ hand₀ ends₀ i hand ends = upto - i
 
 rest-requires : tie.Need-rest-requires Inv-loop μ-loop
 rest-requires c κs = search needs
 
-sub-t11 : tie.Need-sub-t11 Inv-loop μ-loop
-sub-t11 c = search needs
+sub-t12 : tie.Need-sub-t12 Inv-loop μ-loop
+sub-t12 c = search needs
 
 end-value-requires : tie.Need-end-value-requires Inv-loop μ-loop
 end-value-requires c κs = search needs
@@ -47,19 +48,31 @@ read-requires c κs =
     let test = c .before .before .before .before .before .loop-test in
     rw (c .place .ensures) (back-place pre _ (test .taken) (loop .inv))
 
+failed-requires : tie.Need-failed-requires Inv-loop μ-loop
+failed-requires c κs =
+    let pre = c .before .before .before .before .before .before .before .before .before .before .before .before .pre in
+    back-small pre _ (c .before .before .before .before .before .before .loop-test .taken) (c .before .before .before .before .before .before .before .loop .inv) (c .before .before .before .before .before .before2 .ensures)
+
+value-requires : tie.Need-value-requires Inv-loop μ-loop
+value-requires c κs =
+    let pre = c .before .before .before .before .before .before .before .before .before .before .before .before .before .pre in
+    let before2 = c .before .before .before .before .before .before .before2 in
+    c .failed .ensures ∙ back-failed pre _ (c .before .before .before .before .before .before .before .loop-test .taken) (c .before .before .before .before .before .before .before .before .loop .inv) (before2 .ensures)
+
 step-requires : tie.Need-step-requires Inv-loop μ-loop
 step-requires c κs =
-    let pre = c .before .before .before .before .before .before .before .before .before .before .before .before .pre in
-    let loop = c .before .before .before .before .before .before .before .loop in
-    let test = c .before .before .before .before .before .before .loop-test in
-    let chance = c .before .before .before .before .chance in
-    let failure = c .before .before .before .failure in
-    back-steady pre _ (test .taken) (loop .inv) _ _ (record { read = chance .ensures; rest = failure .ensures }) (rw (c .before .place .ensures) at (c .read .ensures))
+    let pre = c .before .before .before .before .before .before .before .before .before .before .before .before .before .before .pre in
+    let loop = c .before .before .before .before .before .before .before .before .before .loop in
+    let test = c .before .before .before .before .before .before .before .before .loop-test in
+    let chance = c .before .before .before .before .before .before .chance in
+    let failure = c .before .before .before .before .before .failure in
+    let known = rw (c .before .before .before .place .ensures) at (c .before .before .read .ensures) in
+    rw (c .value .ensures) (back-steady pre _ (test .taken) (loop .inv) _ _ (record { read = chance .ensures; rest = failure .ensures }) known)
 
 add-i : tie.Need-add-i Inv-loop μ-loop
 add-i c =
-    let pre = c .before .before .before .before .before .before .before .before .before .before .before .before .before .pre in
-    let test = c .before .before .before .before .before .before .before .loop-test in
+    let pre = c .before .before .before .before .before .before .before .before .before .before .before .before .before .before .before .pre in
+    let test = c .before .before .before .before .before .before .before .before .before .loop-test in
     omega (arith, test .taken, pre .size, pre .list .size)
 
 loop-less : tie.Need-loop-less Inv-loop μ-loop
@@ -67,15 +80,15 @@ loop-less c = search needs
 
 loop-again : tie.Need-loop-again Inv-loop μ-loop
 loop-again c =
-    let pre = c .before .before .before .before .before .before .before .before .before .before .before .before .before .pre in
-    let loop = c .before .before .before .before .before .before .before .before .loop in
-    let test = c .before .before .before .before .before .before .before .loop-test in
-    let before2 = c .before .before .before .before .before .before .before2 in
-    let chance = c .before .before .before .before .before .chance in
-    let failure = c .before .before .before .before .failure in
-    let place = c .before .before .place in
-    back-more pre _ (test .taken) (loop .inv) _ _ (record { read = chance .ensures; rest = failure .ensures }) (rw (place .ensures) at (c .before .read .ensures))
-    (before2 .ensures) (c .step .ensures)
+    let pre = c .before .before .before .before .before .before .before .before .before .before .before .before .before .before .before .pre in
+    let loop = c .before .before .before .before .before .before .before .before .before .before .loop in
+    let test = c .before .before .before .before .before .before .before .before .before .loop-test in
+    let before2 = c .before .before .before .before .before .before .before .before .before2 in
+    let chance = c .before .before .before .before .before .before .before .chance in
+    let failure = c .before .before .before .before .before .before .failure in
+    let known = rw (c .before .before .before .before .place .ensures) at (c .before .before .before .read .ensures) in
+    back-more pre _ (test .taken) (loop .inv) _ _ (record { read = chance .ensures; rest = failure .ensures }) known
+    (before2 .ensures) (rw (c .before .value .ensures) at (c .step .ensures))
 
 returns : tie.Need-returns Inv-loop μ-loop
 returns c = back-last (c .before .before .before .before .before .before .pre) (c .loop-test .left) (c .before .loop .inv)
@@ -87,7 +100,7 @@ back-spec =
     Inv-loop
     μ-loop
     rest-requires
-    sub-t11
+    sub-t12
     end-value-requires
     loop-holds
     before-requires
@@ -96,6 +109,8 @@ back-spec =
     worked-requires
     place-requires
     read-requires
+    failed-requires
+    value-requires
     step-requires
     add-i
     loop-less

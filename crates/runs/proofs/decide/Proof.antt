@@ -1,8 +1,9 @@
 -- `decide` writes the unit as long as the lead and all that is left stay below k. Assumes nothing.
 use borrow.Author.Needs.{needs}
-use mathlib.Core.Path.{_≡_}
-use Prim.Native.Nat.{suc, _-_, _≤_}
+use mathlib.Core.Path.{_≡_, _∙_}
+use Prim.Native.Nat.{suc, _+_, _-_, _≤_, _<_}
 use native.Mathlib.Omega.{arith}
+use borrow.Author.Tests.{lt-ltb}
 use Rattle.units.specs.Step.{whole}
 use Rattle.places.specs.Cells.{Written}
 use Rattle.places.proofs.Cells.{written-more}
@@ -10,10 +11,10 @@ use Rattle.runs.proofs.decide.Statement.{statement}
 use Rattle.runs.proofs.decide.Tie as tie
 
 abbrev Inv-loop : tie.InvT-loop
-Inv-loop decimal k upto table₀ last left₀ table left = (left ≤ suc last) × Written (λ up i. whole decimal) left 0 table₀ table
+Inv-loop decimal k upto table₀ last ends left₀ table left = (left ≤ suc last) × Written (λ up i. whole decimal) left 0 table₀ table
 
 abbrev μ-loop : tie.MeasureT-loop
-μ-loop decimal k upto table₀ last left₀ table left = suc last - left
+μ-loop decimal k upto table₀ last ends left₀ table left = suc last - left
 
 sub-lesser : tie.Need-sub-lesser Inv-loop μ-loop
 sub-lesser c = search needs
@@ -24,11 +25,14 @@ sub-lesser-2 c = search needs
 lesser-requires : tie.Need-lesser-requires Inv-loop μ-loop
 lesser-requires c κs = search needs
 
-loop-holds : tie.Need-loop-holds Inv-loop μ-loop
-loop-holds c = search needs
+works-requires : tie.Need-works-requires Inv-loop μ-loop
+works-requires c κs = search needs
 
 end-value-requires : tie.Need-end-value-requires Inv-loop μ-loop
 end-value-requires c κs = search needs
+
+loop-holds : tie.Need-loop-holds Inv-loop μ-loop
+loop-holds c = search needs
 
 write-requires : tie.Need-write-requires Inv-loop μ-loop
 write-requires c κs = search needs
@@ -41,19 +45,25 @@ loop-less c = search needs
 
 loop-again : tie.Need-loop-again Inv-loop μ-loop
 loop-again c =
-    let pre = c .before .before .before .before .before .before .before .before .before .before .pre in
-    let lesser = c .before .before .before .before .before .before .before .lesser in
-    let loop = c .before .before .before .before .before .before .loop in
-    let value = c .before .before .before .end-value in
+    let args = c .before .before .before .before .before .before .before .before .before .before .before .args in
+    let pre = c .before .before .before .before .before .before .before .before .before .before .before .pre in
+    let lesser = c .before .before .before .before .before .before .before .before .lesser in
+    let works = c .before .before .before .before .before .before .before .works in
+    let value = c .before .before .before .before .before .before .end-value in
+    let loop = c .before .before .before .before .before .loop in
     let write = c .before .before .write in
-    (omega arith, written-more (write .ensures) (omega arith) (omega (arith, lesser .ensures, pre .size)) (value .ensures) (loop .inv .1))
+    let short : args .free .lead + args .free .run < args .k = omega (arith, pre .free .none, pre .free .alive) in
+    let all = rw (works .ensures ∙ lt-ltb _ _ short) at (value .ensures) in
+    (omega arith, written-more (write .ensures) (omega arith) (omega (arith, lesser .ensures, pre .size)) all (loop .inv .1))
 
 same-length : tie.Need-same-length Inv-loop μ-loop
 same-length c = search needs
 
 returns : tie.Need-returns Inv-loop μ-loop
-returns c = let e : c .before .loop .left ≡ suc (c .before .before .lesser .result) = omega (arith, c .before .loop .inv .0, c .loop-test .left) in
-    (c .before .before .lesser .ensures, rw (e, c .before .before .lesser .ensures) at (c .before .loop .inv .1))
+returns c =
+    let lesser = c .before .before .before .before .lesser in
+    let e : c .before .loop .left ≡ suc (lesser .result) = omega (arith, c .before .loop .inv .0, c .loop-test .left) in
+    (lesser .ensures, rw (e, lesser .ensures) at (c .before .loop .inv .1))
 
 pub decide-spec : {M : Type 1} → statement M
 decide-spec =
@@ -64,8 +74,9 @@ decide-spec =
     sub-lesser
     sub-lesser-2
     lesser-requires
-    loop-holds
+    works-requires
     end-value-requires
+    loop-holds
     write-requires
     add-left
     loop-less

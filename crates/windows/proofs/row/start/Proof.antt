@@ -18,12 +18,15 @@ abbrev μ-loop : tie.MeasureT-loop
 loop-holds : tie.Need-loop-holds Inv-loop μ-loop
 loop-holds c = (omega arith, written-none)
 
+works-requires : tie.Need-works-requires Inv-loop μ-loop
+works-requires c κs = search needs
+
 end-value-requires : tie.Need-end-value-requires Inv-loop μ-loop
 end-value-requires c κs = search needs
 
 write-requires : tie.Need-write-requires Inv-loop μ-loop
 write-requires c κs =
-    let o = c .before .before .before in
+    let o = c .before .before .before .before in
     let pre = o .before .before .pre in
     record { low = omega (arith, pre .low); room = room-kept (o .loop .inv .1 .kept) (pre .room) }
 
@@ -35,9 +38,10 @@ loop-less c = search needs
 
 loop-again : tie.Need-loop-again Inv-loop μ-loop
 loop-again c =
-    let o = c .before .before .before .before .before .before in
+    let o = c .before .before .before .before .before .before .before in
     let low = o .before .before .pre .low in
-    (omega arith, written-more (c .before .before .write .ensures) (omega arith) (omega arith) (c .before .before .before .end-value .ensures) (o .loop .inv .1))
+    let all = rw (c .before .before .before .before .before .works .ensures) at (c .before .before .before .end-value .ensures) in
+    (omega arith, written-more (c .before .before .write .ensures) (omega arith) (omega arith) all (o .loop .inv .1))
 
 same-length : tie.Need-same-length Inv-loop μ-loop
 same-length c = c .before .loop .inv .1 .kept .long
@@ -50,4 +54,4 @@ returns c =
 pub start-spec : {M : Type 1} → statement M
 start-spec =
     tie.close
-    (tie.spec Inv-loop μ-loop loop-holds end-value-requires write-requires add-m loop-less loop-again same-length returns)
+    (tie.spec Inv-loop μ-loop loop-holds works-requires end-value-requires write-requires add-m loop-less loop-again same-length returns)
