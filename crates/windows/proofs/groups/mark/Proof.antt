@@ -13,45 +13,45 @@ use Rattle.windows.proofs.groups.mark.Lts as lts
 use Rattle.windows.proofs.groups.flag.Reads as flag-reads
 
 worked-requires : tie.Need-worked-requires
-worked-requires c κs = omega (arith, c .pre .low)
+worked-requires c κs = omega (arith, c .before .pre .low)
 
 add-working : tie.Need-add-working
-add-working c = rw (c .worked .ensures) (omega (arith, c .before .pre .low))
+add-working c = rw (c .before .worked .ensures) (omega (arith, c .before .before .before .pre .low))
 
 failed-requires : tie.Need-failed-requires
-failed-requires c κs = omega (arith, c .before .pre .low)
+failed-requires c κs = omega (arith, c .before .before .before .pre .low)
 
 add-failing : tie.Need-add-failing
-add-failing c = rw (c .failed .ensures) (omega (arith, c .before .before .pre .low))
+add-failing c = rw (c .before .failed .ensures) (omega (arith, c .before .before .before .before .before .pre .low))
 
 flag-requires : tie.Need-flag-requires
 flag-requires c κs = search needs
 
 mul-table : tie.Need-mul-table
-mul-table c = search needs
+mul-table c = rw (c .before .before .before .before .worked .ensures) (omega (arith, c .before .before .before .before .before .before .pre .low))
 
 slice-write-table : tie.Need-slice-write-table
-slice-write-table c = let p = c .before .before .before .pre in rw (c .before .before .worked .ensures) (omega (arith, p .low, p .room))
+slice-write-table c = let p = c .before .before .before .before .before .before .pre in rw (c .before .before .before .before .worked .ensures) (omega (arith, p .low, p .room))
 
 flag-requires-2 : tie.Need-flag-requires-2
 flag-requires-2 c κs = search needs
 
 mul-table-2 : tie.Need-mul-table-2
-mul-table-2 c = search needs
+mul-table-2 c = rw (c .before .before .before .failed .ensures) (omega (arith, c .before .before .before .before .before .before .before .pre .low))
 
 slice-write-table-2 : tie.Need-slice-write-table-2
-slice-write-table-2 c = let p = c .before .before .before .before .before .pre in rw (c .before .before .before .failed .ensures) (simp length-set (omega (arith, p .low, p .room)))
+slice-write-table-2 c = let p = c .before .before .before .before .before .before .before .pre in rw (c .before .before .before .failed .ensures) (simp length-set (omega (arith, p .low, p .room)))
 
 same-length : tie.Need-same-length
 same-length c = search needs
 
 returns : tie.Need-returns
 returns c =
-    let p = c .before .before .before .before .before .pre in
-    let a = c .before .before .before .before .before .args in
+    let p = c .before .before .before .before .before .before .before .pre in
+    let a = c .before .before .before .before .before .before .before .args in
     let x = a .m .bits in
     let s = two (a .table .now) (marks + 2 * x) _ (marks + (2 * x + 1)) _ (omega (arith, p .low)) (omega (arith, p .low)) (λ e. omega arith) (p .room) in
-    rw (c .before .before .before .before .worked .ensures, c .before .before .before .failed .ensures)
+    rw (c .before .before .before .before .before .worked .ensures, c .before .before .before .failed .ensures)
     (record { first = s .first ∙ c .before .flag .ensures; second = s .second ∙ c .flag2 .ensures; other = s .other; kept = s .kept })
 
 pub mark-spec : {M : Type 1} → statement M
