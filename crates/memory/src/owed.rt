@@ -2,7 +2,7 @@
 ghost use mathlib.Core.Path.{_≡_};
 ghost use mathlib.Core.Bool.{true};
 ghost use Prim.Native.Nat.{_+_, _-_, _^_, _<_, _≤_};
-ghost use Rattle.memory.specs.Owed.{owed, clean, owedWorked, owedFailed, owedWorks, cleanAfter, cleanWorked, cleanFailed};
+ghost use Rattle.memory.specs.Owed.{owed, clean, owedFailed, owedWorks, cleanAfter, cleanFailed};
 
 // "(x, g)": x clean ones before the first that failed, g still to work.
 pub struct Owed {
@@ -27,20 +27,7 @@ impl Owed {
         }
     }
 
-    // "one less, not below 0"
-    pub fn worked(self) -> Owed
-        ensures { λ m. ⌜ m ≡ owedWorked self ⌝ }
-    {
-        if self.owed == 0 {
-            return self;
-        }
-        Owed {
-            clean: self.clean,
-            owed: self.owed - 1,
-        }
-    }
-
-    // As many working components as are owed at most.
+    // "one less, not below 0", of each of so many working components.
     pub fn worked_many(self, many: usize) -> Owed
         requires { ⌜ many ≤ self .owed ⌝ }
         ensures { λ m. ⌜ m ≡ owed (self .clean) (self .owed - many) ⌝ }
@@ -88,7 +75,7 @@ impl Owed {
 }
 
 impl Clean {
-    // So many components read, all working: "x at most r - 1".
+    // So many components read, all working: "clean x becomes clean x+1, x at most r - 1", of each.
     pub fn after(read: usize, r: usize) -> Clean
         requires { ⌜ 1 ≤ r ⌝ }
         ensures { λ m. ⌜ m ≡ cleanAfter r read ⌝ }
@@ -97,14 +84,6 @@ impl Clean {
             return Clean { clean: read };
         }
         Clean { clean: r - 1 }
-    }
-
-    // "clean x becomes clean x+1, x at most r - 1"
-    pub fn worked(self, r: usize) -> Clean
-        requires { ⌜ (1 ≤ r) × (self .clean + 1 < 2 ^ 64) ⌝ }
-        ensures { λ m. ⌜ m ≡ cleanWorked r self ⌝ }
-    {
-        Clean::after(self.clean + 1, r)
     }
 
     // "clean x becomes (x, r-1)"
