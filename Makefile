@@ -29,7 +29,7 @@ installed := $(programs:%=bin/%) $(foreach name,$(libraries),$(call library_file
 progress := tests/progress.py target/build.log
 # rt waits for a whole batch before it begins the next: twice as many crates at a time as there are processors leave none idle
 at_once := RT_JOBS=$${RT_JOBS:-$$((2 * $$(nproc)))}
-both := deckmake decklist
+both := target/stamp/deckmake target/stamp/decklist
 # a compiler for x86-64, and the kit's C code for programs that take words or open files
 cc = $(shell tests/tools.sh | head -n 1)
 kit_code = $(shell dirname "$$(dirname "$$(readlink -f "$$(command -v rt)")")")/lib/libos_c.a
@@ -43,7 +43,7 @@ export TEXT DECK
 help: ## this list
 	@awk -F ':.*## ' '/^[a-z]+:.*## / { printf "make %-10s %s\n", $$1, $$2 }' Makefile
 
-run: target/run ## makes a text's deck and prints its figures (TEXT=file, samples/hold1.txt otherwise; DECK=file for a deck file), proving first what has changed
+run: $(both) ## makes a text's deck and prints its figures (TEXT=file, samples/hold1.txt otherwise; DECK=file for a deck file), proving first what has changed
 	@if [ -n "$$DECK" ]; then tests/run-program decklist --percent < "$$DECK"; \
 	    else tests/run-program deckmake < "$$TEXT" | tests/run-program decklist --percent; fi
 
@@ -81,19 +81,18 @@ uninstall: ## takes away what install put there
 bench: ## the cost of a rating beside peers, and of a worth (docs/BENCH.md); no part of the tests
 	@bench/run
 
-# The two programs of `make run`, in one go, so that what they stand on is proved side by side.
-$(foreach program,$(both),$(if $(wildcard target/bin/$(program)),,$(eval .PHONY: target/run)))
-target/run: $(sources)
-	@for program in $(both); do [ -e target/bin/$$program ] || rm -f target/stamp/$$program; done
-	@$(at_once) $(progress) rt check $(both)
-	@touch $@ $(both:%=target/stamp/%)
-
 # rt's mark on a program that is proved and ran as it should; it says nothing of a program that is no longer there
 $(foreach program,$(programs),$(if $(wildcard target/bin/$(program)),,$(eval .PHONY: target/stamp/$(program))))
-$(proved): target/stamp/%: $(sources)
+$(filter-out $(both),$(proved)): target/stamp/%: $(sources)
 	@[ -e target/bin/$* ] || rm -f $@
 	@$(at_once) $(progress) rt check $*
 	@touch $@
+
+# the two programs of `make run` in one go, so that what they stand on is proved side by side
+$(both) &: $(sources)
+	@for stamp in $(both); do [ -e target/bin/$${stamp##*/} ] || rm -f $$stamp; done
+	@$(at_once) $(progress) rt check $(notdir $(both))
+	@touch $(both)
 
 # Programs that start without the kit: the proved object and the C library in one file.
 $(linked): target/programs/%: target/stamp/%
