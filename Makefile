@@ -9,8 +9,8 @@ version := $(shell cat VERSION)
 major := $(firstword $(subst ., ,$(version)))
 # all that rt reads, and the folders, so that a file added or removed is seen; rt itself sees to which crate is out of date
 sources := crates.txt $(shell find crates -name must-fail -prune -o -print)
-programs := $(filter-out %_cases,$(patsubst crates/%/src/main.rt,%,$(wildcard crates/*/src/main.rt)))
-proved := $(programs:%=target/stamp/%)
+# the programs: each is a library whose one call, NAME_run, answers the exit status
+programs := $(patsubst crates/%/src/lib.rt,%,$(shell grep -l 'extern "C" fn [a-z]*_run()' crates/*/src/lib.rt))
 linked := $(programs:%=target/programs/%)
 # the libraries: the crate whose calls each exports, and what it is for
 libraries := foambeetle foambeetle_office
@@ -29,7 +29,8 @@ installed := $(programs:%=bin/%) $(foreach name,$(libraries),$(call library_file
 progress := tests/progress.py target/build.log
 # rt waits for a whole batch before it begins the next: twice as many crates at a time as there are processors leave none idle
 at_once := RT_JOBS=$${RT_JOBS:-$$((2 * $$(nproc)))}
-both := target/stamp/deckmake target/stamp/decklist
+both := deckmake decklist
+below := $(sort $(filter $(notdir $(wildcard crates/*)),$(shell sed -n 's/^\(deckmake\|decklist\)://p' crates.txt)))
 # a compiler for x86-64, and the kit's C code for programs that take words or open files
 cc = $(shell tests/tools.sh | head -n 1)
 kit_code = $(shell dirname "$$(dirname "$$(readlink -f "$$(command -v rt)")")")/lib/libos_c.a
@@ -43,17 +44,16 @@ export TEXT DECK
 help: ## this list
 	@awk -F ':.*## ' '/^[a-z]+:.*## / { printf "make %-10s %s\n", $$1, $$2 }' Makefile
 
-run: $(both) ## makes a text's deck and prints its figures (TEXT=file, samples/hold1.txt otherwise; DECK=file for a deck file), proving first what has changed
-	@if [ -n "$$DECK" ]; then tests/run-program decklist --percent < "$$DECK"; \
-	    else tests/run-program deckmake < "$$TEXT" | tests/run-program decklist --percent; fi
+run: $(both:%=target/programs/%) ## makes a text's deck and prints its figures (TEXT=file, samples/hold1.txt otherwise; DECK=file for a deck file), proving first what has changed
+	@if [ -n "$$DECK" ]; then tests/run-program decklist --percent "$$DECK"; \
+	    else tests/run-program deckmake "$$TEXT" | tests/run-program decklist --percent; fi
 
 test: ## the gate: every proof from nothing, every must-fail edit, every program, the other tests; log in target/ci.log
 	@tests/all.sh
 
 # a text with a fault makes no file, and leaves the old one
-samples: target/stamp/deckmake ## makes each samples/NAME.deck from samples/NAME.txt, proving first what has changed
-	@for text in samples/*.txt; do \
-	    echo "$$text" && tests/run-program deckmake < "$$text" > target/made.deck && [ -s target/made.deck ] && cp target/made.deck "$${text%.txt}.deck" || exit 1; done
+samples: target/programs/deckmake ## makes each samples/NAME.deck from samples/NAME.txt, proving first what has changed
+	@for text in samples/*.txt; do echo "$$text" && tests/run-program deckmake -o "$${text%.txt}.deck" "$$text" || exit 1; done
 
 lib: $(archives) $(shared) $(headers) ## target/lib: libfoambeetle for the ship, libfoambeetle_office for ashore, .a, .so and .h, for C on x86-64
 
@@ -81,25 +81,22 @@ uninstall: ## takes away what install put there
 bench: ## the cost of a rating beside peers, and of a worth (docs/BENCH.md); no part of the tests
 	@bench/run
 
-# rt's mark on a program that is proved and ran as it should; it says nothing of a program that is no longer there
-$(foreach program,$(programs),$(if $(wildcard target/bin/$(program)),,$(eval .PHONY: target/stamp/$(program))))
-$(filter-out $(both),$(proved)): target/stamp/%: $(sources)
-	@[ -e target/bin/$* ] || rm -f $@
-	@$(at_once) $(progress) rt check $*
+# What the two programs of `make run` stand on is proved side by side.
+target/proved: $(sources)
+	@mkdir -p $(@D)
+	@$(at_once) $(progress) rt check $(below)
 	@touch $@
 
-# the two programs of `make run` in one go, so that what they stand on is proved side by side
-$(both) &: $(sources)
-	@for stamp in $(both); do [ -e target/bin/$${stamp##*/} ] || rm -f $$stamp; done
-	@$(at_once) $(progress) rt check $(notdir $(both))
-	@touch $(both)
+$(both:%=target/staticlib/lib%.a): | target/proved
 
-# Programs that start without the kit: the proved object and the C library in one file.
-$(linked): target/programs/%: target/stamp/%
+# Programs that start without the kit: the proved archive, a main that hands on its status, and the C library in one file.
+$(linked): target/programs/%: target/staticlib/lib%.a
 	@mkdir -p $(@D)
-	@$(cc) -static -o $@ target/obj/$*.o $(kit_code)
+	@echo 'int $*_run(void); int main(void) { return $*_run(); }' > $@.c
+	@$(cc) -static -o $@ $@.c $< $(kit_code)
 
-$(foreach name,$(libraries),target/staticlib/lib$(crate_of_$(name)).a): target/staticlib/lib%.a: $(sources)
+libraries_of := $(foreach name,$(libraries),$(crate_of_$(name)))
+$(patsubst %,target/staticlib/lib%.a,$(libraries_of) $(programs)): target/staticlib/lib%.a: $(sources)
 	@$(progress) rt staticlib $*
 
 $(foreach name,$(libraries),$(eval target/lib/lib$(name).a: target/staticlib/lib$(crate_of_$(name)).a))

@@ -4,7 +4,8 @@
  * deck file's bytes: foambeetle_rate rates one of its systems and answers one 64-bit number, foambeetle_worth tells what
  * one of its fans is worth to a system, foambeetle_unit what the figures of the file are parts of. A call writes nothing
  * of the caller's but the two ends of a worth, keeps nothing between calls, and may run in several threads at once. It
- * uses up to 69,600 bytes of stack, 62,400 of them its working table.
+ * uses up to 66,000 bytes of stack, 62,400 of them its working table. A thread's stack must hold what the C library keeps
+ * of the thread too, some 6,000 bytes: give a thread 72,000.
  *
  * Figures are parts of the file's unit, which its survival numbers are parts of too: FOAMBEETLE_UNIT (2^30) in a file of
  * version 1, FOAMBEETLE_DECIMAL_UNIT (10^9) in one of version 2 or 3. With u for what foambeetle_unit answers of the file,

@@ -45,8 +45,12 @@ SAMPLES = {"rate": rated_lines, "worth": deckworth_output}
 WRITER, EXAMPLE = "write", "example.deck"
 
 
-def run(words, data=b"", **more):
-    return subprocess.run([str(word) for word in words], input=data, stdout=subprocess.PIPE, check=True, **more).stdout
+def run(words, data=b"", statuses=(0,), **more):
+    """What a command writes to standard output; it ends with one of these statuses."""
+    done = subprocess.run([str(word) for word in words], input=data, stdout=subprocess.PIPE, **more)
+    if done.returncode not in statuses:
+        raise subprocess.CalledProcessError(done.returncode, done.args, done.stdout)
+    return done.stdout
 
 
 def make(*words):
@@ -62,13 +66,26 @@ def ready(*targets):
 
 
 def prove():
-    """The programs, proved and built."""
-    ready(*(f"target/stamp/{program}" for program in EVERY_PROGRAM))
+    """The programs, proved and linked."""
+    ready(*(f"target/programs/{program}" for program in EVERY_PROGRAM))
 
 
 def started(program, *words):
-    """The words that start a program that rt built."""
+    """The words that start a program that make has linked."""
     return [root / "tests/run-program", program, *words]
+
+
+# The exit status: what was asked for was written; the file was refused, or the text has faults; something was wrong with the words, the input or the output.
+DONE, REFUSED, FAILED = 0, 1, 2
+
+
+def printed(words, data):
+    """What a program that prints what a file holds prints of it; its status says whether the file was refused."""
+    done = subprocess.run([str(word) for word in words], input=data, stdout=subprocess.PIPE)
+    refused = done.stdout.startswith(b"file refused ") or re.search(rb"^files refused 1\b", done.stdout, re.M)
+    if done.returncode != (REFUSED if refused else DONE):
+        raise subprocess.CalledProcessError(done.returncode, done.args, done.stdout)
+    return done.stdout
 
 
 @lru_cache(maxsize=None)
@@ -106,7 +123,7 @@ def sample(name):
 
 def compare_samples(what, words, output, by_name=False):
     """The sample decks through a program, each on its standard input, and where the program opens it itself by its name too."""
-    got = [run([*words, *([deck] if by_name else [])], deck.read_bytes()).decode() for deck in decks()]
+    got = [printed([*words, *([deck] if by_name else [])], deck.read_bytes()).decode() for deck in decks()]
     return compare(f"samples through {what}", got, [once(output, deck.read_bytes()) for deck in decks()])
 
 
@@ -137,8 +154,10 @@ def mapped(function, inputs):
 
 
 def written(words, data):
-    """What a program, started by these words, writes to standard output and to standard error."""
-    done = subprocess.run([str(word) for word in words], input=data, capture_output=True, check=True)
+    """What a program that writes a file writes to standard output and to standard error; its status says whether there is a file."""
+    done = subprocess.run([str(word) for word in words], input=data, capture_output=True)
+    if done.returncode != (DONE if done.stdout else REFUSED):
+        raise subprocess.CalledProcessError(done.returncode, done.args, done.stdout, done.stderr)
     return done.stdout, done.stderr.decode()
 
 
@@ -146,12 +165,6 @@ def compare_written(what, program, words, inputs):
     """Inputs through a program that writes a file, a process each."""
     got = mapped(lambda data: written(words, data), inputs)
     return compare(f"{what} through {program}", got, [WRITING[program](data) for data in inputs])
-
-
-def compare_stored_file(program):
-    """The input that rt runs a writing program on, and what it holds it to."""
-    crate = root / "crates" / program
-    return compare(f"{program}'s stored answer", [(crate / "stdout").read_bytes()], [WRITING[program]((crate / "stdin").read_bytes())[0]])
 
 
 def fed(words, data, piece):

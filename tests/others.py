@@ -3,7 +3,7 @@
 
     others.py LOG [WORD..]    all of them, or those whose command has one of the words
 
-What they start is built before, so that no two of them build in one folder. A test has one line when it has passed; when it has failed all that it
+What they start is built before, so that no two of them build in one folder, beside those that start nothing. A test has one line when it has passed; when it has failed all that it
 said stands before that line. While none ends, a line every half minute says what is being worked on. LOG gets all that each said, one test after the
 other. The last line is how long each part of the gate took. The exit status is how many failed.
 """
@@ -25,6 +25,7 @@ JOBS = int(os.environ.get("RT_JOBS") or os.cpu_count() or 1)
 class Test(NamedTuple):
     name: str
     command: str
+    starts: bool = True  # what is built before: programs or libraries
 
 
 class Ended(NamedTuple):
@@ -44,21 +45,22 @@ TESTS = tuple(Test(*line) for line in (
     ("deckmend against the second program", "python3 tests/mend.py"),
     ("deckmake and deckshow against the second program", "python3 tests/typed.py"),
     ("the season report against the second program", "python3 tests/season.py"),
-    ("the second program checks itself", "python3 second/selfcheck.py"),
+    ("the second program checks itself", "python3 second/selfcheck.py", False),
     ("deckstate against the second program", "python3 tests/states.py"),
     ("the office's calls over doubles against the second program", "python3 tests/doubles.py"),
     ("what is installed runs, and goes again", "python3 tests/install.py"),
     ("the libraries link every way, and export their calls alone", "python3 tests/library.py"),
-    ("the stored cases are the second program's", "tests/cases.sh"),
+    ("the stored cases are the second program's", "tests/cases.sh", False),
     ("the programs' words, percents and failures", "python3 tests/program.py"),
     ("the office's writer against the second program", "python3 tests/office.py"),
     ("the walk through a deck is true as printed", "python3 tests/walk.py"),
-    ("each must-fail edit is refused for a fact, within their time", "python3 tests/edits.py"),
+    ("each must-fail edit is refused for a fact, within their time", "python3 tests/edits.py", False),
     ("one version everywhere", "python3 tests/version.py"),
-    ("the list of proofs names what there is", "python3 tests/names.py"),
+    ("the list of proofs names what there is", "python3 tests/names.py", False),
     ("the library's calls hold within the stack that the ship grants", "python3 tests/stack.py"),
-    ("the published figures are what the proved programs print", "python3 tests/published.py"),
-    ("the headers declare the C calls as they are defined", "python3 tests/signatures.py"),
+    ("the published figures are what the proved programs print", "python3 tests/published.py", False),
+    ("the headers declare the C calls as they are defined", "python3 tests/signatures.py", False),
+    ("numbers by their names, and the form of the code", "python3 tests/form.py", False),
 ))
 
 
@@ -96,12 +98,17 @@ def each_ended(tests):
 def failures(tests, log):
     """How many of the tests fail; all of them where what they start cannot be built."""
     failed, total = 0, 1 + len(tests)
-    for first in each_ended([BUILD]):
-        tell(first, f"1 of {total}", log)
-        if first.status:
-            print(f"not run for want of it: {len(tests)} tests")
-            return total
-    for place, one in enumerate(each_ended(tests), 2):
+    starting = [test for test in tests if test.starts]
+    first = [BUILD, *(test for test in tests if not test.starts)]
+    built = True
+    for place, one in enumerate(each_ended(first), 1):
+        tell(one, f"{place} of {total}", log)
+        failed += one.status != 0
+        built &= one.test is not BUILD or one.status == 0
+    if not built:
+        print(f"not run for want of what they start: {len(starting)} tests")
+        return failed + len(starting)
+    for place, one in enumerate(each_ended(starting), 1 + len(first)):
         tell(one, f"{place} of {total}", log)
         failed += one.status != 0
     return failed

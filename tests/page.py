@@ -11,7 +11,7 @@ import subprocess
 import sys
 import xml.etree.ElementTree as tree
 
-from common import PAGER, compare, decks, linked, mapped, room, run
+from common import DONE, PAGER, REFUSED, compare, decks, linked, mapped, room, run
 
 from files import DAMAGES, VERSIONS, random_deck
 from foambeetle import BOARDS_VERSION, UNITS, Boards, Deck, Rule, System, deck_bytes
@@ -156,6 +156,14 @@ def on_paper(words, name, text):
     return [] if 1 <= sheets <= SHEETS else [f"{name}: {sheets} sheets"]
 
 
+def drawn(pager, data):
+    """The page of a file; that of a refused one has its status too."""
+    done = subprocess.run(pager, input=data, stdout=subprocess.PIPE)
+    page = done.stdout.decode()
+    assert done.returncode == (REFUSED if "<title>Deck file refused</title>" in page else DONE), done
+    return page
+
+
 def in_browser(pager):
     words = browser()
     if not words:
@@ -163,7 +171,7 @@ def in_browser(pager):
         return True
     room.mkdir(parents=True, exist_ok=True)
     files = {deck.stem: deck.read_bytes() for deck in decks()} | {"hardest": hardest(), "refused": b""}
-    pages = {name: run(pager, data).decode() for name, data in files.items()}
+    pages = {name: drawn(pager, data) for name, data in files.items()}
     told = looked_at(words, pages | {"planted": PLANTED})
     if not all(told.pop(("planted", width)) for width in WIDTHS):
         print("a page with a line that is cut was not found wrong")
@@ -176,7 +184,7 @@ def in_browser(pager):
 
 def main():
     pager, files = linked(PAGER), list(inputs(random.Random(31)))
-    got = [seen(page) for page in mapped(lambda data: run(pager, data).decode(), files)]
+    got = [seen(page) for page in mapped(lambda data: drawn(pager, data), files)]
     good = compare("pages by deckpage", got, [wanted(data) for data in files])
     return 0 if in_browser(pager) and good else 1
 

@@ -47,7 +47,7 @@ def differences(name, entries):
 
 
 def deck_differences():
-    crate = root / "crates/decklist"
+    crate = root / "crates/decklist_program"
     if (crate / "stdin").read_bytes() != published.DECK_FILE or (crate / "stdout").read_text() != published.DECK_LINES:
         yield "decklist is not run on document 01's file, or prints something else"
 

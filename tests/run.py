@@ -12,7 +12,7 @@ import re
 import struct
 import sys
 
-from common import PROGRAMS, SAMPLES, compare, compare_samples, linked, mapped, prove, ready, root, run, sample, started, static
+from common import PROGRAMS, SAMPLES, compare, compare_samples, linked, mapped, printed, prove, ready, root, run, sample, started, static
 
 from files import random_files
 from foambeetle import BOARDS_VERSION, KINDS, UNITS, Boards, Deck, Refusal, Rule, System, deck_bytes, rate, read_deck, unit_of_file, worth_of_file
@@ -148,12 +148,9 @@ def compare_calls(files):
 
 
 def compare_stored():
-    """The files and words that rt runs the programs on, and what it holds them to."""
-    crates = {root / "crates" / program: output for program, output in PROGRAMS.items()}
-    stored = [(crate / "stdout").read_text() for crate in crates]
-    words = [(crate / "args").read_text().split() if (crate / "args").exists() else [] for crate in crates]
-    wanted = [output((crate / "stdin").read_bytes(), *given) for (crate, output), given in zip(crates.items(), words, strict=True)]
-    return compare("programs' stored answers", stored, wanted)
+    """The file that rt runs decklist on, and what it holds it to."""
+    crate = root / "crates/decklist_program"
+    return compare("decklist's stored answer", [(crate / "stdout").read_text()], [PROGRAMS["decklist"]((crate / "stdin").read_bytes())])
 
 
 def main():
@@ -164,8 +161,8 @@ def main():
     inputs = [data for data in files if len(data) < SHORT][:PRINTED] + list(odd_inputs())
     for program, output in PROGRAMS.items():
         words = linked(program)
-        printed = mapped(lambda data: run(words, data).decode(), inputs)
-        good &= compare(f"inputs through {program}", printed, [output(data) for data in inputs])
+        got = mapped(lambda data: printed(words, data).decode(), inputs)
+        good &= compare(f"inputs through {program}", got, [output(data) for data in inputs])
         good &= compare_samples(program, started(program), output)
     for name, output in SAMPLES.items():
         good &= compare_samples(f"the C sample {name}", static(sample(name), name), output, by_name=True)

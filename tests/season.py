@@ -7,7 +7,7 @@ import random
 import subprocess
 import sys
 
-from common import compare, held, linked, mapped, run
+from common import compare, held, linked, mapped, printed
 
 from season import season_output
 from season_samples import many_files, named, random_streams, single_fan
@@ -19,7 +19,7 @@ SHOWN = 250
 
 
 def through(words, streams):
-    return mapped(lambda data: run(words, data).decode(), streams)
+    return mapped(lambda data: printed(words, data).decode(), streams)
 
 
 def in_pieces(words, rng, data):

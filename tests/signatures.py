@@ -2,13 +2,14 @@
 its answer.
 
 A list that is lent stands in C as a pointer of the same name and, after it, a length of any name; a pair of ends as a pointer alone. The proofs say what
-a call answers of its parameters by their names, and nothing of the order in which C passes them. Crate ratings is the benchmark's and has no header.
+a call answers of its parameters by their names, and nothing of the order in which C passes them. Crate ratings is the benchmark's and has no header; a program's crate exports
+its one call, which the Makefile's main declares: no parameter, and an int for the status.
 """
 
 import re
 import sys
 
-from common import prototypes, reported, root
+from common import EVERY_PROGRAM, prototypes, reported, root
 
 HEADERS = {"loading": "foambeetle.h", "office": "foambeetle_office.h"}
 WITHOUT_HEADER = {"ratings"}
@@ -56,9 +57,16 @@ def differences(crate, header):
             yield f"{name}: crates/{crate} has {defined.get(name)}, include/{header} {shown.get(name)}"
 
 
+def misdeclared(program):
+    """A program exports its one call and nothing else."""
+    if exports(program) != ({f"{program}_run": ("i32", [])}, 1):
+        yield f"crates/{program} does not export {program}_run alone, without a parameter and with an i32 for its status"
+
+
 def main():
     exporting = {folder.name for folder in (root / "crates").iterdir() if exports(folder.name)[1]}
-    wrong = [f"crates/{crate} exports to C, or does so no more" for crate in sorted(exporting ^ {*HEADERS, *WITHOUT_HEADER})]
+    wrong = [f"crates/{crate} exports to C, or does so no more" for crate in sorted(exporting ^ {*HEADERS, *WITHOUT_HEADER, *EVERY_PROGRAM})]
+    wrong += [line for program in EVERY_PROGRAM for line in misdeclared(program)]
     wrong += [line for pair in HEADERS.items() for line in differences(*pair)]
     calls = sum(len(declared(header)) for header in HEADERS.values())
     return reported(wrong, f"{calls} C calls declared, {len(wrong)} things wrong")

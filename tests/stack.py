@@ -1,8 +1,8 @@
 """The stack that each of the libraries' calls can need: the frames of the compiled code, added up along the deepest chain of calls.
 
 tests/run.py runs the ship's calls on a stack of just the bytes that are granted; here the paths that no case takes are counted too, and the office's calls, which
-are held to what their header and man page say. What moves the stack in a way that is not known here, is called where the code does not say whom, or calls itself
-without a bound that is known here, is a failure.
+are held to what their header and man page say. What moves the stack in a way that is not known here, is called where the code does not say whom, or calls itself,
+is a failure.
 """
 
 import re
@@ -18,7 +18,6 @@ CALLS = {
 }
 SAID = re.compile(r"up to\s+(?:\*\s+)?([\d,]+)\s+(?:\*\s+)?bytes\s+(?:\*\s+)?of\s+(?:\*\s+)?stack")
 OUTSIDE = {"memcpy": 256, "memset": 256}  # of a C library, whose own code is not ours to read
-AGAIN = {"combine": 5}  # of crate boards, which calls itself for each of at most four boards, and stands once more past them
 RED_ZONE = 128  # what a function that calls nothing may use below its frame
 WORD = 8
 
@@ -88,11 +87,10 @@ def depths_of(library, wrong):
             wrong.append(f"{name} calls itself, and nobody says how often")
             return 0
         frame, called = functions[name]
-        times = max((AGAIN[part] for part in AGAIN if part in name), default=1) if name in called else 1
         standing.add(name)
-        below = max(map(deepest, called - {name} if times > 1 else called), default=RED_ZONE)
+        below = max(map(deepest, called), default=RED_ZONE)
         standing.remove(name)
-        return frame * times + below
+        return frame + below
 
     return {call: deepest(call) for call in CALLS[library]}
 

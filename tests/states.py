@@ -2,10 +2,11 @@
 and wrong ones, damaged files, the samples, and a word of each kind that is no number."""
 
 import random
+import subprocess
 import sys
 from itertools import combinations_with_replacement
 
-from common import compare, decks, linked, mapped, written
+from common import DONE, FAILED, REFUSED, compare, decks, linked, mapped
 
 from files import DAMAGES, VERSIONS, random_deck
 from foambeetle import BOARDS_VERSION, deck_bytes
@@ -19,9 +20,13 @@ MANY = 2000  # words
 
 
 def through(program, case):
+    """What is printed and said; the words stand behind --, so that none of them is an option. The status is 2 for a wrong word, 1 for a refused file."""
     data, words = case
-    printed, said = written([*program, *words], data)
-    return printed.decode(), said
+    done = subprocess.run([*program, "--", *words], input=data, capture_output=True)
+    printed, said = done.stdout.decode(), done.stderr.decode()
+    if done.returncode != (FAILED if said else REFUSED if printed.startswith("file refused ") else DONE):
+        raise subprocess.CalledProcessError(done.returncode, done.args, printed, said)
+    return printed, said
 
 
 def random_cases(rng):

@@ -10,7 +10,7 @@ import random
 import sys
 
 from common import (
-    MAKER, PROGRAMS, SHOWER, WRITING, compare, compare_stored_file, compare_written, decks, fed, linked, mapped, run, texts, written,
+    MAKER, PROGRAMS, SHOWER, WRITING, compare, compare_written, decks, fed, linked, mapped, printed, run, texts, written,
 )
 
 from files import random_deck, random_files
@@ -79,7 +79,7 @@ def damaged_files(words):
     """Sound and damaged files through deckshow."""
     files = list(random_files(1601, FILES))
     print(f"refused files: {sum(map(bool, map(file_refusal, files)))}")
-    return compare("files through deckshow", mapped(lambda data: run(words, data).decode(), files), [PROGRAMS[SHOWER](data) for data in files])
+    return compare("files through deckshow", mapped(lambda data: printed(words, data).decode(), files), [PROGRAMS[SHOWER](data) for data in files])
 
 
 def samples_made(words):
@@ -92,7 +92,7 @@ def samples_made(words):
 def main():
     maker, shower = linked(MAKER), linked(SHOWER)
     rng = random.Random(16)
-    good = compare_stored_file(MAKER) & samples_made(maker) & in_pieces(maker)
+    good = samples_made(maker) & in_pieces(maker)
     for version in UNITS:
         good &= same_deck(maker, version)
     for what, inputs in (

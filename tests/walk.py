@@ -24,11 +24,11 @@ def through(program):
 
 
 def made_as_said():
-    """The command's last word is the deck file that it writes, which samples/ has."""
+    """The command's last word is the text that it reads, and the one behind -o the deck file that it writes, which samples/ has."""
     text, = blocks("deck")
     words = command("deckmake").split()
-    stored = (root / "samples" / words[-1]).read_bytes()
-    return text == (root / words[2]).read_text() and run(started("deckmake"), text.encode()) == stored
+    stored = (root / "samples" / words[words.index("-o") + 1]).read_bytes()
+    return text == (root / words[-1]).read_text() and run(started("deckmake"), text.encode()) == stored
 
 
 def begun_as_said():

@@ -2,6 +2,7 @@
 ghost use Prim.Native.Nat.{_≤_};
 ghost use lib.ListN.{length};
 ghost use Rattle.forms.specs.Within.{Within};
+use rules::refusal;
 
 // Of a file.
 fn put_file_advice(number: u64, out: &mut [u8], at: usize) -> usize
@@ -9,37 +10,37 @@ fn put_file_advice(number: u64, out: &mut [u8], at: usize) -> usize
     ensures { λ r. ⌜ Within r (now (out .exit)) ⌝ }
 {
     match number {
-        2 => text::put(
+        refusal::SIZE => text::put(
             out,
             at,
             b"It has no fans, or more than 64. Make it anew with 1 to 64 fans.",
         ),
-        10 => text::put(
+        refusal::SHORT => text::put(
             out,
             at,
             b"It ends before its header does. Send it again, or make it anew.",
         ),
-        11 => text::put(
+        refusal::VERSION => text::put(
             out,
             at,
             b"It is of no known version. See that it is a deck file, or make it anew.",
         ),
-        12 => text::put(
+        refusal::SYSTEMS => text::put(
             out,
             at,
             b"It has no systems, or more than 32. Make it anew with 1 to 32 systems.",
         ),
-        13 => text::put(
+        refusal::LAYOUT => text::put(
             out,
             at,
             b"Its offsets or its length are wrong. Mend it with deckmend, or send it again.",
         ),
-        20 => text::put(
+        refusal::BOARDS => text::put(
             out,
             at,
             b"It has no boards, or more than 4. Make it anew with 1 to 4 boards, or without boards.",
         ),
-        21 => text::put(
+        refusal::BOARD => text::put(
             out,
             at,
             b"A fan is on a board that is not there. Give the fan another board.",
@@ -54,22 +55,22 @@ fn put_system_advice(number: u64, out: &mut [u8], at: usize) -> usize
     ensures { λ r. ⌜ Within r (now (out .exit)) ⌝ }
 {
     match number {
-        1 => text::put(
+        refusal::KIND => text::put(
             out,
             at,
             b"There is no such kind of rule. Give it a kind from 1 to 8.",
         ),
-        3 => text::put(
+        refusal::STRETCH => text::put(
             out,
             at,
             b"Its stretch is not on the deck. Let it run from a fan of the deck to one that does not come before it.",
         ),
-        4 => text::put(
+        refusal::SURVIVAL => text::put(
             out,
             at,
             b"A fan of its stretch, or a board, has a survival number above the unit. Correct that number.",
         ),
-        5 => text::put(
+        refusal::WEIGHTS => text::put(
             out,
             at,
             b"The weights of its fans add up to more than 120. Give them lighter weights.",
@@ -85,7 +86,8 @@ fn put_system_advice(number: u64, out: &mut [u8], at: usize) -> usize
 // What is refused by these numbers is a system, by the others the file.
 fn of_system(number: u64) -> bool {
     match number {
-        1 | 3 | 4 | 5 | 6 => true,
+        refusal::KIND | refusal::STRETCH | refusal::SURVIVAL | refusal::WEIGHTS | refusal::RANGE =>
+            true,
         _ => false,
     }
 }

@@ -10,10 +10,11 @@ use lib.Dec.{eqb}
 use lib.ListN.{length, take, drop, length-take, length-drop}
 use borrow.Author.Tests.{eqb-true, eqb-false, eq-eqb, ne-eqb}
 use Rattle.rules.specs.declared.Rule.{Rule}
+use Rattle.rules.specs.declared.Question.{Question}
 use Rattle.rules.specs.Below.{total}
 use Rattle.rules.specs.State.{besideOf}
 use Rattle.rules.specs.Stretch.{stretch}
-use Rattle.rules.specs.Asked.{Asked, unitIn, lengthOf, sizeOf, partOf, weightsOf, readOf, boardsOf, boardSurvivalOf, boardCount}
+use Rattle.rules.specs.Asked.{Asked, questionIn, askedOf, unitIn, lengthOf, sizeOf, partOf, weightsOf, readOf, boardsOf, switchboardsOf, boardCount}
 use Rattle.rules.specs.Refusal.{after, firstOf, badVersion, badKind, badSize, badStretch, badBoards, misplaced, aboveUnit, weightsOut, badWeights, ranged, inRange, shortTable, figuresRefusal}
 use Rattle.rules.proofs.Tests.{by-test}
 use Rattle.rules.proofs.Accepted.{none-first, first-same, first-after, first-more, first-rest, in-stretch, weights-accepted}
@@ -21,7 +22,7 @@ use Rattle.rules.proofs.Unread.{unread-total, beside-range}
 use Rattle.refusals.specs.Shared.{ratedRefusal}
 use Rattle.board_lists.specs.Refused.{boardsRefusal}
 use Rattle.board_lists.proofs.Laws.{boards-as-read}
-use Rattle.asked.specs.Parts.{ratedOf, placeRefusal, partRefusal}
+use Rattle.asked.specs.Parts.{ratedOf, placeRefusal, listsRefusal, partRefusal}
 
 -- the part as the code takes it
 pub part-is : (a b n : ℕ) (xs : List ℕ) → badStretch a b n ≡ false → take (b - (a - 1)) (drop (a - 1) xs) ≡ stretch a b xs
@@ -97,33 +98,41 @@ placed rule a b n e =
     let three = none-first 2 _ _ (two .1) in
     record { kind = one .0; size = two .0; inside = three .0; fits = in-stretch a b n (three .0) }
 
--- what is left past 20 and 21, and past 1 to 3
-abbrev pub from4 : Asked → (table : List ℕ) → List (ℕ × Bool)
-from4 q table =
-    (4, aboveUnit (unitIn q) (partOf q) (boardSurvivalOf q))
-    ∷ (5, badWeights (q .rule) (lengthOf q) (q .weights) (weightsOf q))
-    ∷ (6, not (inRange (q .rule) (sizeOf q) (readOf q)))
-    ∷ (7, shortTable table)
-    ∷ []
+-- ---- 20, 21 and 4, with the conditions that come after them
 
-abbrev pub from20 : Asked → (table : List ℕ) → List (ℕ × Bool)
-from20 q table =
-    (20, badBoards (q .version) (boardCount q))
+pub lists-first : (q : Asked) (rest : List (ℕ × Bool))
+    → firstOf
+    ((20, badBoards (q .version) (boardCount q))
     ∷ (21, misplaced (q .version) (lengthOf q) (boardCount q) (q .boards) (boardsOf q))
-    ∷ from4 q table
+    ∷ (4, aboveUnit (unitIn q) (partOf q) (switchboardsOf q))
+    ∷ rest)
+    ≡ after (listsRefusal (questionIn q) (q .survival) (q .boards) (q .switchboards)) (firstOf rest)
+unfolding listsRefusal
+lists-first q rest = first-more 19 _ _ _ _ (first-more 20 _ _ _ _ (first-more 3 _ [] rest _ (first-rest rest)))
+
+-- 20 and 21 over the boards' lists as they are lent, then 4
+pub boards-first : (question : Question) (survival boards switchboards : List ℕ) → badStretch (question .a) (question .b) (length survival) ≡ false
+    → let q = askedOf question survival [] [] boards switchboards in
+    listsRefusal question survival boards switchboards
+    ≡ after (boardsRefusal (q .version) (lengthOf q) (length switchboards) boards (take (q .b - (q .a - 1)) (drop (q .a - 1) boards)))
+    (firstOf ((4, aboveUnit (unitIn q) (partOf q) (switchboardsOf q)) ∷ []))
+unfolding listsRefusal boardsRefusal
+boards-first question survival boards switchboards inside =
+    let q = askedOf question survival [] [] boards switchboards in
+    let four : List (ℕ × Bool) = (4, aboveUnit (unitIn q) (partOf q) (switchboardsOf q)) ∷ [] in
+    first-more 19 _ _ _ _ (first-more 20 _ [] four _ (first-rest four))
+    ∙ ap (λ r. after r (firstOf four))
+    (sym (ap (boardsRefusal (q .version) (lengthOf q) (length switchboards) boards) (part-is (q .a) (q .b) _ boards inside)
+    ∙ boards-as-read (q .version) (lengthOf q) boards (stretch (q .a) (q .b) boards) switchboards))
+
+-- ---- the refusal of what is asked, past 11: part after part
 
 pub past-version : (q : Asked) (table : List ℕ) → badVersion (q .version) ≡ false
-    → figuresRefusal q table ≡ after (placeRefusal (q .rule) (q .a) (q .b) (lengthOf q)) (firstOf (from20 q table))
+    → figuresRefusal q table
+    ≡ after (placeRefusal (q .rule) (q .a) (q .b) (lengthOf q))
+    (after (listsRefusal (questionIn q) (q .survival) (q .boards) (q .switchboards))
+    (after (partRefusal (q .rule) (q .a) (q .b) (lengthOf q) (q .weights) (q .more)) (firstOf ((7, shortTable table) ∷ []))))
 unfolding figuresRefusal
-past-version q table eleven = first-after 11 _ _ eleven ∙ place-first (q .rule) (q .a) (q .b) (lengthOf q) _
-
--- 20 and 21 over the boards' lists as they are lent
-pub boards-first : (q : Asked) (table : List ℕ) → badStretch (q .a) (q .b) (lengthOf q) ≡ false
-    → firstOf (from20 q table)
-    ≡ after (boardsRefusal (q .version) (lengthOf q) (length (q .boardSurvival)) (q .boards) (take (q .b - (q .a - 1)) (drop (q .a - 1) (q .boards)))) (firstOf (from4 q table))
-unfolding boardsRefusal
-boards-first q table inside =
-    first-more 19 _ _ _ _ (first-more 20 _ [] (from4 q table) _ (first-rest (from4 q table)))
-    ∙ ap (λ r. after r (firstOf (from4 q table)))
-    (sym (ap (boardsRefusal (q .version) (lengthOf q) (length (q .boardSurvival)) (q .boards)) (part-is (q .a) (q .b) _ (q .boards) inside)
-    ∙ boards-as-read (q .version) (lengthOf q) (q .boards) (stretch (q .a) (q .b) (q .boards)) (q .boardSurvival)))
+past-version q table eleven =
+    first-after 11 _ _ eleven ∙ place-first (q .rule) (q .a) (q .b) (lengthOf q) _
+    ∙ ap (after _) (lists-first q _ ∙ ap (after _) (part-first (q .rule) (q .a) (q .b) (lengthOf q) (q .weights) (q .more) _))

@@ -2,12 +2,15 @@
 ghost use mathlib.Core.Path.{_≡_};
 ghost use mathlib.Core.Bool.{false};
 ghost use Prim.Native.Nat.{_≤_};
+ghost use lib.ListN.{length};
 ghost use Rattle.rules.specs.State.{S};
 ghost use Rattle.rules.specs.Asked.{askedOf};
 ghost use Rattle.rules.specs.Refusal.{badStretch, someAbove, aboveUnit, figuresRefusal};
-ghost use Rattle.asked.specs.Parts.{ratedOf, placeRefusal, partRefusal};
-use cells::CELLS;
+ghost use Rattle.asked.specs.Parts.{ratedOf, placeRefusal, listsRefusal, partRefusal};
+use rules::Question;
 use rules::Rule;
+use rules::kind;
+use rules::limit::CELLS;
 
 // Refusal 3.
 fn stretch_out(a: u64, b: u64, n: u64) -> bool
@@ -44,7 +47,7 @@ pub fn rated_weights(rule: Rule, n: usize, weights: &[u16], a: u64, b: u64) -> &
     requires { ⌜ badStretch a b n ≡ false ⌝ }
     ensures { λ r. ⌜ now r ≡ ratedOf rule n (now (weights .entry)) a b ⌝ }
 {
-    if rule.kind != 2 {
+    if rule.kind != kind::WEIGHT {
         return &weights[0..0];
     }
     if weights.len() != n {
@@ -60,13 +63,13 @@ pub fn place_refusal(rule: Rule, a: u64, b: u64, n: u64) -> u64
     ensures { λ r. ⌜ r ≡ placeRefusal rule a b n ⌝ }
 {
     if refusals::kind_out(rule) {
-        return 1;
+        return rules::refusal::KIND;
     }
     if refusals::size_out(n) {
-        return 2;
+        return rules::refusal::SIZE;
     }
     if stretch_out(a, b, n) {
-        return 3;
+        return rules::refusal::STRETCH;
     }
     0
 }
@@ -100,12 +103,31 @@ pub fn part_refusal(rule: Rule, a: u64, b: u64, n: usize, weights: &[u16], more:
     )
 }
 
+// Refusals 20, 21 and 4 of a stretch that lies in the list: the boards' lists, then every survival number that is read.
+fn lists_refusal(question: Question, survival: &[u32], boards: &[u8], switchboards: &[u32]) -> u64
+    requires { ⌜ badStretch (question .a) (question .b) (length (now survival)) ≡ false ⌝ }
+    ensures { λ r.
+        ⌜ r ≡ listsRefusal question (now (survival .entry)) (now (boards .entry)) (now (switchboards .entry)) ⌝ }
+{
+    let version = question.version;
+    let from = question.a as usize - 1;
+    let upto = question.b as usize;
+    let g = switchboards.len() as u64;
+    let boarded = board_lists::refusal(version, survival.len(), g, &boards[..], from, upto);
+    if boarded != 0 {
+        return boarded;
+    }
+    let own = board_lists::numbers_read(version, &switchboards[..]);
+    let all = units::whole(units::is_decimal(version));
+    if numbers_out(all, &survival[from..upto], own) {
+        return rules::refusal::SURVIVAL;
+    }
+    0
+}
+
 // Refusals 11, then 1 to 7 with 20 and 21 before 4, the first that applies; 0 for none.
 pub fn refusal(
-    version: u64,
-    rule: Rule,
-    a: u64,
-    b: u64,
+    question: Question,
     survival: &[u32],
     weights: &[u16],
     more: &[u64],
@@ -113,33 +135,30 @@ pub fn refusal(
     switchboards: &[u32],
     table: &[u64],
 ) -> u64
-    ensures { λ r. ⌜ r ≡ figuresRefusal (askedOf version rule a b (now (survival .entry)) (now (weights .entry)) (now (more .entry)) (now (boards .entry)) (now (switchboards .entry))) (now (table .entry)) ⌝ }
+    ensures { λ r.
+        let q = askedOf question (now (survival .entry)) (now (weights .entry)) (now (more .entry))
+        (now (boards .entry)) (now (switchboards .entry)) in
+        ⌜ r ≡ figuresRefusal q (now (table .entry)) ⌝ }
 {
-    if refusals::version_out(version) {
-        return 11;
+    if refusals::version_out(question.version) {
+        return rules::refusal::VERSION;
     }
+    let rule = question.rule;
     let n = survival.len();
-    let place = place_refusal(rule, a, b, n as u64);
+    let place = place_refusal(rule, question.a, question.b, n as u64);
     if place != 0 {
         return place;
     }
-    let from = a as usize - 1;
-    let upto = b as usize;
-    let boarded = board_lists::refusal(version, n, switchboards.len() as u64, boards, from, upto);
-    if boarded != 0 {
-        return boarded;
+    let listed = lists_refusal(question, &survival[..], &boards[..], &switchboards[..]);
+    if listed != 0 {
+        return listed;
     }
-    let own = board_lists::numbers_read(version, switchboards);
-    let all = units::whole(units::is_decimal(version));
-    if numbers_out(all, &survival[from..upto], own) {
-        return 4;
-    }
-    let part = part_refusal(rule, a, b, n, weights, more);
+    let part = part_refusal(rule, question.a, question.b, n, weights, more);
     if part != 0 {
         return part;
     }
     if table.len() < CELLS {
-        return 7;
+        return rules::refusal::TABLE;
     }
     0
 }

@@ -13,7 +13,8 @@ use Rattle.pascal.specs.Ways.{waysOf}
 use Rattle.pascal.proofs.Triangle.{ways-sum, ways-fit}
 use Rattle.bins.specs.From.{bins, shift}
 use Rattle.bins.specs.Cells.{Stored}
-use Rattle.bins.specs.Bins.{width, Sized, Bins, Made, goneAt, term, aroundAt}
+use Rattle.bins.specs.Bins.{Sized, Bins, Made, goneAt, term, aroundAt}
+use Rattle.places.specs.Map.{binRow}
 use Rattle.bins.proofs.Cells.{outside-wider, one-first}
 use Rattle.bins.proofs.From.{from-le}
 use Rattle.bins.proofs.InARow.{shift-at, shift-past, bins-first, bins-slide, sum-past}
@@ -40,8 +41,8 @@ pub sized-same : {k n : ℕ} {a b : List ℕ} → length b ≡ length a → Size
 sized-same e s = record { some = s .some; most = s .most; long = omega arith }
 
 -- row b + 1 on the way, made up to column j
-module _ {k n b off : ℕ} (j : ℕ) {before t : List ℕ} (s : Sized k n before) (h : Bins k n (suc b) before) (o : off ≡ b * width)
-    (w : Stored (bins k (suc b)) (off + width) 0 j before t) (l : b + j ≤ n) where
+module _ {k n b off : ℕ} (j : ℕ) {before t : List ℕ} (s : Sized k n before) (h : Bins k n (suc b) before) (o : off ≡ b * binRow)
+    (w : Stored (bins k (suc b)) (off + binRow) 0 j before t) (l : b + j ≤ n) where
   -- row b is as it was
   row-kept : (i p : ℕ) → i ≤ j → p ≡ off + i → getD t p 0 ≡ bins k b i
   row-kept i p m e = w .rest .low p (omega arith) ∙ h .is b i p (omega arith) (omega arith) (omega arith)
@@ -63,7 +64,7 @@ module _ {k n b off : ℕ} (j : ℕ) {before t : List ℕ} (s : Sized k n before
 
 -- a row more, as far as its columns count
 pub rows-more : {k n rows count off : ℕ} {before after : List ℕ} → Sized k n before → Bins k n rows before
-    → Stored (bins k rows) off 0 count before after → off ≡ rows * width → rows ≤ n + 1 → n + 2 ≤ rows + count → count ≤ width
+    → Stored (bins k rows) off 0 count before after → off ≡ rows * binRow → rows ≤ n + 1 → n + 2 ≤ rows + count → count ≤ binRow
     → Made k n (suc rows) before after
 rows-more {rows = rows} s h w o low wide narrow =
     record {
@@ -78,11 +79,11 @@ rows-more {rows = rows} s h w o low wide narrow =
     }
 
 -- no bin
-pub first-row : {k n : ℕ} {a b : List ℕ} → Sized k n a → b ≡ replicate width 0 ++ drop width a → Made k n 1 a (set b 0 1)
+pub first-row : {k n : ℕ} {a b : List ℕ} → Sized k n a → b ≡ replicate binRow 0 ++ drop binRow a → Made k n 1 a (set b 0 1)
 unfolding bins
 first-row s e =
     rows-more s (record { is = λ r j p l. absurd (omega arith) })
-    (one-first width (omega arith) (omega arith) e) refl (omega arith) (omega arith) (omega arith)
+    (one-first binRow (omega arith) (omega arith) e) refl (omega arith) (omega arith) (omega arith)
 
 -- ---- a ring's sum
 
@@ -101,16 +102,16 @@ sum-step f most m fits l e =
     (rw (o, e), omega (arith, sum-le (suc m) most f (omega arith)))
 
 pub around-is : {k n rows : ℕ} {t : List ℕ} (v j : ℕ) → Bins k n rows t → v < rows → v + j ≤ n + 1
-    → aroundAt k (v * width + j) j t ≡ sumBelow k (λ m. suc m * shift (bins k v) m j)
+    → aroundAt k (v * binRow + j) j t ≡ sumBelow k (λ m. suc m * shift (bins k v) m j)
 around-is {k} {n} {rows} {t} v j h l m =
-    sum-same (min k (suc j)) (term (v * width + j) t) _ (λ u g. ap (λ x. suc u * x) (cell u (omega arith)))
+    sum-same (min k (suc j)) (term (v * binRow + j) t) _ (λ u g. ap (λ x. suc u * x) (cell u (omega arith)))
     ∙ sym
     (elim (decLt (suc j) k) [
       | yes g ↦ let a : min k (suc j) ≡ suc j = omega arith in rw a (sum-past (suc j) k _ (omega arith) (λ u p q. past u p))
       | no g ↦ let a : min k (suc j) ≡ k = omega arith in rw a
     ])
   where
-    cell : (u : ℕ) → u ≤ j → getD t (v * width + j - u) 0 ≡ shift (bins k v) u j
+    cell : (u : ℕ) → u ≤ j → getD t (v * binRow + j - u) 0 ≡ shift (bins k v) u j
     cell u g = h .is v (j - u) _ l (omega arith) (omega arith) ∙ sym (shift-at (bins k v) u j g)
 
     past : (u : ℕ) → suc j ≤ u → suc u * shift (bins k v) u j ≡ 0

@@ -7,11 +7,9 @@ use lib.Dec.{ltb}
 use lib.ListN.{length, getD}
 use Rattle.rules.specs.Below.{sumBelow}
 use Rattle.rules.specs.Refusal.{most, cells}
+use Rattle.places.specs.Map.{binRow}
 use Rattle.bins.specs.From.{bins}
 use Rattle.bins.specs.Cells.{Outside}
-
-abbrev pub width : ℕ
-width = 66
 
 pub record Sized (k n : ℕ) (table : List ℕ) : Type 0 where
   pub some : 0 < k
@@ -20,7 +18,7 @@ pub record Sized (k n : ℕ) (table : List ℕ) : Type 0 where
 
 -- the rows below `rows`
 pub record Bins (k n rows : ℕ) (table : List ℕ) : Type 0 where
-  pub is : (b j p : ℕ) → b < rows → b + j ≤ n + 1 → p ≡ b * width + j → getD table p 0 ≡ bins k b j
+  pub is : (b j p : ℕ) → b < rows → b + j ≤ n + 1 → p ≡ b * binRow + j → getD table p 0 ≡ bins k b j
 
 -- rows made, the rest as it was
 pub record Made (k n rows : ℕ) (before after : List ℕ) : Type 0 where

@@ -7,17 +7,16 @@ ghost use Rattle.rules.specs.Boards.{hasBoards, boardsRead};
 ghost use Rattle.rules.specs.Refusal.{someAbove, badBoards, misplaced};
 ghost use Rattle.board_lists.specs.Refused.{boardsRefusal};
 use refusals::outside;
+use rules::limit;
 
-// The version that has boards, and the most boards of a deck.
-const BOARDS_VERSION: u64 = 3;
-
-const MOST_BOARDS: u64 = 4;
+// The most boards of a deck.
+const MOST: u64 = limit::BOARDS as u64;
 
 // Does a version have boards?
 pub fn has_boards(version: u64) -> bool
     ensures { λ r. ⌜ r ≡ hasBoards version ⌝ }
 {
-    version == BOARDS_VERSION
+    version == rules::version::BOARDED
 }
 
 // Refusal 20.
@@ -25,7 +24,7 @@ pub fn boards_out(version: u64, g: u64) -> bool
     ensures { λ r. ⌜ r ≡ badBoards version g ⌝ }
 {
     if has_boards(version) {
-        return outside(1, g, MOST_BOARDS);
+        return outside(1, g, MOST);
     }
     false
 }
@@ -47,7 +46,9 @@ fn some_above(g: u64, boards: &[u8]) -> bool
 // Refusal 21, of n fans of which those from place `from` up to `upto` are rated.
 pub fn misplaced(version: u64, n: usize, g: u64, boards: &[u8], from: usize, upto: usize) -> bool
     requires { ⌜ (from ≤ upto) × (upto ≤ n) ⌝ }
-    ensures { λ r. ⌜ r ≡ misplaced version n g (now (boards .entry)) (take (upto - from) (drop from (now (boards .entry)))) ⌝ }
+    ensures { λ r.
+        let placed = now (boards .entry) in
+        ⌜ r ≡ misplaced version n g placed (take (upto - from) (drop from placed)) ⌝ }
 {
     if has_boards(version) {
         if boards.len() != n {
@@ -61,21 +62,24 @@ pub fn misplaced(version: u64, n: usize, g: u64, boards: &[u8], from: usize, upt
 // Refusals 20 and 21, in that order; 0 for none, which a version without boards is told at once.
 pub fn refusal(version: u64, n: usize, g: u64, boards: &[u8], from: usize, upto: usize) -> u64
     requires { ⌜ (from ≤ upto) × (upto ≤ n) ⌝ }
-    ensures { λ r. ⌜ r ≡ boardsRefusal version n g (now (boards .entry)) (take (upto - from) (drop from (now (boards .entry)))) ⌝ }
+    ensures { λ r.
+        let placed = now (boards .entry) in
+        ⌜ r ≡ boardsRefusal version n g placed (take (upto - from) (drop from placed)) ⌝ }
 {
     if !has_boards(version) {
         return 0;
     }
     if boards_out(version, g) {
-        return 20;
+        return rules::refusal::BOARDS;
     }
     if misplaced(version, n, g, boards, from, upto) {
-        return 21;
+        return rules::refusal::BOARD;
     }
     0
 }
 
-// What is read of the board numbers of the fans from place `from` up to `upto`: nothing where the version has no boards.
+// What is read of the board numbers of the fans from place `from` up to `upto`: nothing where the version has no
+// boards.
 pub fn boards_read(version: u64, boards: &[u8], from: usize, upto: usize) -> &[u8]
     requires { ⌜ (from ≤ upto) × (hasBoards version ≡ true → upto ≤ length (now boards)) ⌝ }
     ensures { λ r. ⌜ now r ≡ boardsRead version (take (upto - from) (drop from (now (boards .entry)))) ⌝ }

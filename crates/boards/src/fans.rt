@@ -1,19 +1,16 @@
-// The fans that a set of failed boards takes with it.
-ghost use mathlib.Core.Bool.{cond, not};
+// The fans that a set of failed boards takes with it. A set of boards is a word, as a state is: bit b - 1 is one where
+// board b is in it.
+ghost use mathlib.Core.Bool.{cond, true};
 ghost use mathlib.Core.Path.{_≡_};
 ghost use Prim.Native.Nat.{_≤_};
-ghost use lib.Dec.{eqb};
 ghost use lib.ListN.{length, getD, take};
-ghost use Rattle.rules.specs.Below.{some};
 ghost use Rattle.rules.specs.Boards.{boardDown, behind};
 ghost use Rattle.rules.specs.Refusal.{most, mostBoards};
-ghost use Rattle.boards.specs.Combining.{Behind};
-
-// The fans of a list, at most.
-const MOST: usize = 64;
+ghost use Rattle.boards.specs.Combining.{Behind, Felt};
+use rules::limit::FANS;
 
 // Has the board of that number failed? 0 is none.
-fn board_down(out: u64, board: u8) -> bool
+fn board_down(out: usize, board: u8) -> bool
     requires { ⌜ board ≤ mostBoards ⌝ }
     ensures { λ r. ⌜ r ≡ boardDown out board ⌝ }
 {
@@ -36,18 +33,32 @@ fn board_of(boards: &[u8], i: usize) -> u8
     0
 }
 
-// Is no fan on a board?
-pub fn none_on(boards: &[u8], board: u64) -> bool
-    ensures { λ r. ⌜ r ≡ not (some (λ i. eqb (getD (now (boards .entry)) i 0) board) (length (now (boards .entry)))) ⌝ }
+// The set that has one board.
+fn only(board: u8) -> usize
+    requires { ⌜ board ≤ mostBoards ⌝ }
+    ensures { λ r. ⌜ (1 ≤ board → boardDown r board ≡ true) ⌝ }
 {
+    match board {
+        0 => 0,
+        1 => 1,
+        2 => 2,
+        3 => 4,
+        _ => 8,
+    }
+}
+
+// The boards that some fan is on.
+pub fn felt(boards: &[u8]) -> usize
+    requires { ⌜ Behind (now boards) ⌝ }
+    ensures { λ r. ⌜ Felt (now (boards .entry)) r ⌝ }
+{
+    let mut set: usize = 0;
     let mut i: usize = 0;
     while i < boards.len() {
-        if boards[i] as u64 == board {
-            return false;
-        }
+        set = set | only(boards[i]);
         i += 1;
     }
-    true
+    set
 }
 
 // What is left of a fan's survival number.
@@ -58,12 +69,14 @@ fn left(p: u32, lost: bool) -> u32
 }
 
 // A copy of the survival numbers with those of the fans on failed boards 0, and zeros behind them.
-pub fn behind(survival: &[u32], boards: &[u8], out: u64) -> [u32; MOST]
+pub fn behind(survival: &[u32], boards: &[u8], out: usize) -> [u32; FANS]
     requires few { ⌜ length (now survival) ≤ most ⌝ }
     requires placed { ⌜ Behind (now boards) ⌝ }
-    ensures front { λ r. ⌜ take (length (now (survival .entry))) r ≡ behind (now (boards .entry)) out (now (survival .entry)) ⌝ }
+    ensures front { λ r.
+        let all = now (survival .entry) in
+        ⌜ take (length all) r ≡ behind (now (boards .entry)) out all ⌝ }
 {
-    let mut numbers = [0u32; MOST];
+    let mut numbers = [0u32; FANS];
     let mut i: usize = 0;
     while i < survival.len() {
         let lost = board_down(out, board_of(boards, i));

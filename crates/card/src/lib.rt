@@ -3,19 +3,19 @@ ghost use Prim.Native.Nat.{_≤_};
 ghost use lib.ListN.{length};
 ghost use Rattle.rules.specs.State.{S};
 ghost use Rattle.rules.specs.Within.{WithinUnit};
+ghost use Rattle.deck.specs.Outcome.{Placed};
 ghost use Rattle.forms.specs.Within.{Within};
 ghost use Rattle.drawn.specs.Drawn.{Drawable};
+use deck::Head;
 use drawing::bars;
 use drawing::brackets;
 use drawn::Shape;
 use rules::Rating;
 use rules::System;
+use rules::limit;
 use telling::best;
 use telling::chance;
 use telling::fitted;
-
-// A deck has no more systems.
-pub const MOST_SYSTEMS: usize = 32;
 
 // A system's number and its rule in words.
 fn put_title(fans: u64, number: u64, system: System, out: &mut [u8]) -> usize
@@ -45,12 +45,13 @@ fn put_any_ring(shape: Shape, out: &mut [u8], at: usize) -> usize
 }
 
 // What the fans are worth.
-fn put_worth(file: &[u8], number: u64, shape: Shape, out: &mut [u8], at: usize) -> usize
+fn put_worth(file: &[u8], head: Head, s: usize, shape: Shape, out: &mut [u8], at: usize) -> usize
+    requires placed { ⌜ Placed (now file) head s ⌝ }
     requires within { ⌜ Drawable shape ⌝ }
     requires room { ⌜ at ≤ length (now out) ⌝ }
     ensures { λ r. ⌜ Within r (now (out .exit)) ⌝ }
 {
-    let worths = worths::worths_of(file, number, shape.fans);
+    let worths = worths::worths_of(file, head, s);
     let drawn = bars::put_worths(shape, worths, out, at);
     let words = brackets::put_words(shape, out, drawn);
     let ring = put_any_ring(shape, out, words);
@@ -61,78 +62,64 @@ fn put_worth(file: &[u8], number: u64, shape: Shape, out: &mut [u8], at: usize) 
 fn most_gap(shape: Shape, g: u64) -> u64
     requires { ⌜ Drawable shape ⌝ }
 {
-    shape.upto - shape.from + drawn::bounded(0, g, 64)
+    shape.upto - shape.from + drawn::bounded(0, g, limit::FANS as u64)
 }
 
 // A system that is answered.
 fn put_answer(
     file: &[u8],
-    version: u64,
-    g: u64,
-    number: u64,
+    head: Head,
+    s: usize,
     shape: Shape,
     low: u64,
     high: u64,
     out: &mut [u8],
     at: usize,
 ) -> usize
+    requires placed { ⌜ Placed (now file) head s ⌝ }
     requires shape { ⌜ Drawable shape ⌝ }
     requires within { ⌜ (low ≤ S) × (high ≤ S) ⌝ }
     requires room { ⌜ at ≤ length (now out) ⌝ }
     ensures { λ r. ⌜ Within r (now (out .exit)) ⌝ }
 {
-    let decimal = units::is_decimal(version);
-    let chance = chance::put_chance(decimal, low, high, most_gap(shape, g), out, at);
-    put_worth(file, number, shape, out, chance)
+    let decimal = units::is_decimal(head.version);
+    let gap = most_gap(shape, head.boards as u64);
+    let chance = chance::put_chance(decimal, low, high, gap, out, at);
+    put_worth(file, head, s, shape, out, chance)
 }
 
 // What is put for a rating.
 fn put_rating(
     file: &[u8],
-    version: u64,
-    g: u64,
-    number: u64,
+    head: Head,
+    s: usize,
     shape: Shape,
     rating: Rating,
     out: &mut [u8],
     at: usize,
 ) -> usize
+    requires placed { ⌜ Placed (now file) head s ⌝ }
     requires shape { ⌜ Drawable shape ⌝ }
     requires within { ⌜ WithinUnit rating ⌝ }
     requires room { ⌜ at ≤ length (now out) ⌝ }
     ensures { λ r. ⌜ Within r (now (out .exit)) ⌝ }
 {
     match rating {
-        Rating::Range { low, high } => put_answer(
-            file,
-            version,
-            g,
-            number,
-            shape,
-            low,
-            high,
-            out,
-            at,
-        ),
+        Rating::Range { low, high } => put_answer(file, head, s, shape, low, high, out, at),
         Rating::Refused(refused) => advice::put_advice(refused, out, at),
     }
 }
 
-// A system of a file, by its number.
-pub fn put_card(
-    file: &[u8],
-    version: u64,
-    fans: u64,
-    g: u64,
-    number: u64,
-    system: System,
-    out: &mut [u8],
-) -> usize
+// A system of a file by its place, counted from 0.
+pub fn put_card(file: &[u8], head: Head, s: usize, out: &mut [u8]) -> usize
+    requires { ⌜ Placed (now file) head s ⌝ }
     ensures { λ r. ⌜ Within r (now (out .exit)) ⌝ }
 {
-    let title = put_title(fans, number, system, out);
+    let fans = head.fans as u64;
+    let system = deck::system_in(file, head, s);
+    let title = put_title(fans, s as u64 + 1, system, out);
     let shape = drawn::shape_of(fans, system);
-    let rating = systems::rate_file(file, number);
-    let body = put_rating(file, version, g, number, shape, rating, out, title);
+    let rating = systems::rate(file, head, s);
+    let body = put_rating(file, head, s, shape, rating, out, title);
     text::put(out, body, b"</section>\n")
 }

@@ -1,4 +1,5 @@
-// What the cases of several programs share: a rule in three words, lists that begin with how many numbers they have, and weights.
+// What the cases of several programs share: a rule in three words, lists that begin with how many numbers they have,
+// and weights.
 ghost use mathlib.Core.Path.{_≡_};
 ghost use Prim.Native.Nat.{_+_, _≤_};
 ghost use lib.ListN.{length};
@@ -39,8 +40,8 @@ pub fn list_size(bytes: &[u8], at: usize) -> usize
     1 + count
 }
 
-// The words of the case at `at` up to its weights, whose `head` first words end in the number of them; 0 where it is cut short, or has too many
-// weights or one above 16 bits.
+// The words of the case at `at` up to its weights, whose `head` first words end in the number of them; 0 where it is
+// cut short, or has too many weights or one above 16 bits.
 pub fn case_size(bytes: &[u8], at: usize, head: usize) -> usize
     requires begins { ⌜ at ≤ length (now bytes) ⌝ }
     requires headed { ⌜ 1 ≤ head ⌝ }

@@ -28,7 +28,8 @@ fn times(a: u64, b: u64) -> u64
 // Fills a table with rubbish, and answers the number from which a second table goes on.
 pub fn rubbish(seed: u64, cells: &mut [u64]) -> u64
     ensures next { λ r. ⌜ r ≡ rubbishAt seed (length (now (cells .entry))) ⌝ }
-    ensures filled { λ r. ⌜ Begins (rubbishIn seed) (now (cells .entry)) (now (cells .exit)) (length (now (cells .entry))) ⌝ }
+    ensures filled { λ r. ⌜ Begins (rubbishIn seed) (now (cells .entry)) (now (cells .exit))
+        (length (now (cells .entry))) ⌝ }
 {
     let mut x = seed;
     let mut k: usize = 0;

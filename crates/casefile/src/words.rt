@@ -60,7 +60,8 @@ pub fn fit(bytes: &[u8], at: usize, count: usize, limit: u64) -> bool
 // Fills a list of 8-bit numbers with the words from `at` on.
 pub fn octets(bytes: &[u8], at: usize, into: &mut [u8])
     requires { ⌜ at ≤ length (now bytes) ⌝ }
-    ensures { λ _. ⌜ Begins (lowWords octetLimit (now (bytes .entry)) at) (now (into .entry)) (now (into .exit)) (length (now (into .entry))) ⌝ }
+    ensures { λ _. ⌜ Begins (lowWords octetLimit (now (bytes .entry)) at) (now (into .entry)) (now (into .exit))
+        (length (now (into .entry))) ⌝ }
 {
     let mut k: usize = 0;
     while k < into.len() {
@@ -72,7 +73,8 @@ pub fn octets(bytes: &[u8], at: usize, into: &mut [u8])
 // Fills a list of 16-bit numbers with the words from `at` on.
 pub fn shorts(bytes: &[u8], at: usize, into: &mut [u16])
     requires { ⌜ at ≤ length (now bytes) ⌝ }
-    ensures { λ _. ⌜ Begins (lowWords shortLimit (now (bytes .entry)) at) (now (into .entry)) (now (into .exit)) (length (now (into .entry))) ⌝ }
+    ensures { λ _. ⌜ Begins (lowWords shortLimit (now (bytes .entry)) at) (now (into .entry)) (now (into .exit))
+        (length (now (into .entry))) ⌝ }
 {
     let mut k: usize = 0;
     while k < into.len() {
@@ -84,7 +86,8 @@ pub fn shorts(bytes: &[u8], at: usize, into: &mut [u16])
 // Fills a list of 32-bit numbers with the words from `at` on.
 pub fn longs(bytes: &[u8], at: usize, into: &mut [u32])
     requires { ⌜ at ≤ length (now bytes) ⌝ }
-    ensures { λ _. ⌜ Begins (lowWords longLimit (now (bytes .entry)) at) (now (into .entry)) (now (into .exit)) (length (now (into .entry))) ⌝ }
+    ensures { λ _. ⌜ Begins (lowWords longLimit (now (bytes .entry)) at) (now (into .entry)) (now (into .exit))
+        (length (now (into .entry))) ⌝ }
 {
     let mut k: usize = 0;
     while k < into.len() {
@@ -96,7 +99,8 @@ pub fn longs(bytes: &[u8], at: usize, into: &mut [u32])
 // Fills a list of 64-bit numbers with the words from `at` on.
 pub fn fulls(bytes: &[u8], at: usize, into: &mut [u64])
     requires { ⌜ at ≤ length (now bytes) ⌝ }
-    ensures { λ _. ⌜ Begins (wordsFrom (now (bytes .entry)) at) (now (into .entry)) (now (into .exit)) (length (now (into .entry))) ⌝ }
+    ensures { λ _. ⌜ Begins (wordsFrom (now (bytes .entry)) at) (now (into .entry)) (now (into .exit))
+        (length (now (into .entry))) ⌝ }
 {
     let mut k: usize = 0;
     while k < into.len() {

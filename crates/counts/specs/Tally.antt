@@ -13,7 +13,8 @@ use Rattle.rules.specs.Refusal.{after, most, heaviest, cells, notCounted}
 use Rattle.rules.specs.Accepted.{Accepted}
 use Rattle.refusals.specs.Shared.{ruleRefusal}
 use Rattle.bins.specs.Cells.{Outside, Stored}
-use Rattle.bins.specs.Bins.{width, aroundAt}
+use Rattle.bins.specs.Bins.{aroundAt}
+use Rattle.places.specs.Map.{binRow}
 use Rattle.counts.specs.Sums.{cellAt}
 
 -- the call's refusal, by the lengths of the lent tables
@@ -39,8 +40,8 @@ entryAt rule n table j =
     cond (eqb (rule .kind) 2)
     (sumBelow (rule .first) (cellAt table j))
     (cond (eqb (rule .kind) 4)
-    (getD table ((n + 1 - j) * width + j) 0)
-    (cond (eqb j n) 0 (aroundAt (rule .first) ((n - 1 - j) * width + j) j table)))
+    (getD table ((n + 1 - j) * binRow + j) 0)
+    (cond (eqb j n) 0 (aroundAt (rule .first) ((n - 1 - j) * binRow + j) j table)))
 
 -- the kinds that are worked in the table
 abbrev pub OnTable : ℕ → Type 0

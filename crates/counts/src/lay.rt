@@ -5,29 +5,32 @@ ghost use lib.ListN.{length};
 ghost use Rattle.bins.specs.Cells.{Stored};
 ghost use Rattle.counts.specs.Tally.{entryAt, Workable, Worked, Layable};
 use crate::sums;
+use places::map::SUM_ROW;
 use rules::Rule;
+use rules::kind;
 
 // The working table of the rule's kind.
 pub fn work(rule: Rule, n: usize, weights: &[u16], table: &mut [u64])
     requires { ⌜ Workable rule n (now weights) (now table) ⌝ }
     ensures { λ _. ⌜ Worked rule n (now (weights .entry)) (now (table .entry)) (now (table .exit)) ⌝ }
 {
-    if rule.kind == 2 {
+    if rule.kind == kind::WEIGHT {
         sums::fill(rule.first as usize, weights, table);
     } else {
         bins::fill(rule.first as usize, n, table);
     }
 }
 
-// Entry j: what a row of sums comes to below k; row n + 1 - j of the bins; on the ring the row with two bins less, and none with all failed.
+// Entry j: what a row of sums comes to below k; row n + 1 - j of the bins; on the ring the row with two bins less, and
+// none with all failed.
 fn entry(rule: Rule, n: usize, j: usize, table: &[u64]) -> u64
     requires { ⌜ Layable rule n (now table) × (j ≤ n) ⌝ }
     ensures { λ r. ⌜ r ≡ entryAt rule n (now (table .entry)) j ⌝ }
 {
-    if rule.kind == 2 {
-        return sums::total(rule.first as usize, j * sums::WIDTH, table);
+    if rule.kind == kind::WEIGHT {
+        return sums::total(rule.first as usize, j * SUM_ROW, table);
     }
-    if rule.kind == 4 {
+    if rule.kind == kind::ROW {
         return bins::line(n, j, table);
     }
     if j == n {

@@ -9,26 +9,26 @@ ghost use Rattle.counts.specs.Outcome.{Outcome};
 use rules::Counting;
 use rules::NO_MORE;
 use rules::Rule;
+use rules::kind;
+use rules::limit::CELLS;
 
-// The kind that has no count table.
-const UNCOUNTED: u64 = 8;
-
-// Refusals 1, 15, 2, 5, 6, 7 and 8, the first that applies; 0 for none. Kind 8 is never refused by 1, so that 15 may be looked at first.
+// Refusals 1, 15, 2, 5, 6, 7 and 8, the first that applies; 0 for none. Kind 8 is never refused by 1, so that 15 may be
+// looked at first.
 fn refusal(rule: Rule, n: u64, weights: &[u16], lent: usize, slots: usize) -> u64
     ensures { λ r. ⌜ r ≡ refusalOf rule n (now (weights .entry)) lent slots ⌝ }
 {
-    if rule.kind == UNCOUNTED {
-        return 15;
+    if rule.kind == kind::LACKING {
+        return rules::refusal::UNCOUNTED;
     }
     let first = refusals::rule_refusal(rule, n, weights, &NO_MORE);
     if first != 0 {
         return first;
     }
-    if lent < cells::CELLS {
-        return 7;
+    if lent < CELLS {
+        return rules::refusal::TABLE;
     }
     if slots as u64 <= n {
-        return 8;
+        return rules::refusal::COUNT_ROOM;
     }
     0
 }
@@ -36,11 +36,17 @@ fn refusal(rule: Rule, n: u64, weights: &[u16], lent: usize, slots: usize) -> u6
 // The counts of an accepted rule, in the first n + 1 cells of the room.
 fn tally(rule: Rule, n: usize, weights: &[u16], table: &mut [u64], room: &mut [u64])
     requires { ⌜ Countable rule n (now weights) (now table) (now room) ⌝ }
-    ensures { λ _. ⌜ Tallied rule n (now (weights .entry)) (now (table .entry)) (now (room .entry)) (now (table .exit)) (now (room .exit)) ⌝ }
+    ensures { λ _.
+        let beside = now (weights .entry) in
+        ⌜ Tallied rule n beside (now (table .entry)) (now (room .entry)) (now (table .exit)) (now (room .exit)) ⌝ }
 {
-    let kind = rule.kind;
-    match kind {
-        1 | 3 | 6 | 7 => ways::by_ways(rule, n, room),
+    let asked = rule.kind;
+    match asked {
+        kind::NUMBER | kind::BETWEEN | kind::NEAR | kind::NEAR_ROUND => ways::by_ways(
+            rule,
+            n,
+            room,
+        ),
         _ => {
             lay::work(rule, n, weights, table);
             lay::lay(rule, n, table, room);
@@ -50,13 +56,16 @@ fn tally(rule: Rule, n: usize, weights: &[u16], table: &mut [u64], room: &mut [u
 
 // The count table of a rule over n components: its n + 1 entries in the room, worked in the lent table.
 pub fn counts(rule: Rule, n: u64, weights: &[u16], table: &mut [u64], room: &mut [u64]) -> Counting
-    ensures { λ r. ⌜ Outcome rule n (now (weights .entry)) (now (table .entry)) (now (room .entry)) r (now (table .exit)) (now (room .exit)) ⌝ }
+    ensures { λ r.
+        let beside = now (weights .entry) in
+        let table₀ = now (table .entry) in
+        ⌜ Outcome rule n beside table₀ (now (room .entry)) r (now (table .exit)) (now (room .exit)) ⌝ }
 {
     let given = refusal(rule, n, weights, table.len(), room.len());
     if given != 0 {
         return Counting::Refused(given);
     }
     tally(rule, n as usize, weights, table, room);
-    cells::zero(table, cells::CELLS);
+    places::zero(table, CELLS);
     Counting::Counted
 }

@@ -3,18 +3,19 @@ ghost use mathlib.Core.Path.{_≡_};
 ghost use mathlib.Core.Bool.{true};
 ghost use Prim.Native.Nat.{suc, _-_, _*_, _≤_, _<_};
 ghost use lib.ListN.{length};
+ghost use Rattle.rules.specs.Refusal.{most};
 ghost use Rattle.pascal.specs.Ways.{waysOf};
 ghost use Rattle.pascal.specs.Folded.{foldedRule};
 ghost use Rattle.bins.specs.Cells.{Stored};
 ghost use Rattle.counts.specs.Ways.{failsAt, apartOf, ringOf, entryOf, Spread, Lookup};
-use bins::cut;
 use rules::Rule;
+use rules::kind;
 
 // Kinds 1 and 3: do the states with j failed fail?
 fn fails_at(rule: Rule, j: u64) -> bool
     ensures { λ r. ⌜ r ≡ failsAt rule j ⌝ }
 {
-    if rule.kind == 1 {
+    if rule.kind == kind::NUMBER {
         return rule.first <= j;
     }
     if rule.first <= j {
@@ -25,22 +26,23 @@ fn fails_at(rule: Rule, j: u64) -> bool
 
 // The states of i components with j failed where each of `times` takes `owed` components away.
 fn left(owed: usize, i: usize, times: usize, j: usize, triangle: &[u64; pascal::ENTRIES]) -> u64
-    requires { ⌜ (i ≤ 64) × (times * owed ≤ 4096) × (foldedRule (now triangle) ≡ true) ⌝ }
+    requires { ⌜ (i ≤ most) × (times * owed ≤ 4096) × (foldedRule (now triangle) ≡ true) ⌝ }
     ensures { λ r. ⌜ r ≡ waysOf (i - times * owed) j ⌝ }
 {
-    pascal::ways(triangle, cut::less(i, times * owed), j)
+    pascal::ways(triangle, places::rest(i, times * owed), j)
 }
 
-// The working states of a line of i components with j failed: each failed one but the last is followed by `owed` that work.
+// The working states of a line of i components with j failed: each failed one but the last is followed by `owed` that
+// work.
 fn apart(owed: usize, i: usize, j: usize, triangle: &[u64; pascal::ENTRIES]) -> u64
     requires { ⌜ Lookup owed i j (now triangle) ⌝ }
     ensures { λ r. ⌜ r ≡ apartOf owed i j ⌝ }
 {
-    left(owed, i, cut::less(j, 1), j, triangle)
+    left(owed, i, places::rest(j, 1), j, triangle)
 }
 
-// The working states of a ring: each failed one is followed by `owed` that work, or the ring's end falls among those that follow one, in one of
-// `owed` ways.
+// The working states of a ring: each failed one is followed by `owed` that work, or the ring's end falls among those
+// that follow one, in one of `owed` ways.
 fn ring(owed: usize, n: usize, j: usize, triangle: &[u64; pascal::ENTRIES]) -> u64
     requires { ⌜ Lookup owed n j (now triangle) × (owed < n) ⌝ }
     ensures { λ r. ⌜ r ≡ ringOf owed n j ⌝ }
@@ -56,14 +58,14 @@ fn entry(rule: Rule, n: usize, j: usize, triangle: &[u64; pascal::ENTRIES]) -> u
     requires { ⌜ Spread rule n × (j ≤ n) × (foldedRule (now triangle) ≡ true) ⌝ }
     ensures { λ r. ⌜ r ≡ entryOf rule n j ⌝ }
 {
-    if rule.kind <= 3 {
+    if rule.kind <= kind::BETWEEN {
         if fails_at(rule, j as u64) {
             return 0;
         }
         return pascal::ways(triangle, n, j);
     }
     let owed = rule.second as usize - 1;
-    if rule.kind == 6 {
+    if rule.kind == kind::NEAR {
         return apart(owed, n, j, triangle);
     }
     ring(owed, n, j, triangle)

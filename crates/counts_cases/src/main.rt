@@ -1,6 +1,7 @@
-// Runs the cases of standard input and writes a count table a line. All of the input is words of 64 bits, lowest byte first: the number of
-// cases, then each case: kind, first, second, n, the cells of the working table, the cells of the room for the counts, the seed of the
-// rubbish in both, the number of weights, the weights. A case that is cut short ends the run.
+// Runs the cases of standard input and writes a count table a line. All of the input is words of 64 bits, lowest byte
+// first: the number of cases, then each case: kind, first, second, n, the cells of the working table, the cells of the
+// room for the counts, the seed of the rubbish in both, the number of weights, the weights. A case that is cut short
+// ends the run.
 mod lines; // lines.rt: the lines that are written
 
 ghost use Prim.Native.Nat.{_≤_};
@@ -17,7 +18,8 @@ use libc::STDOUT_FILENO;
 use rules::Counting;
 use rules::Rule;
 
-// Where a case has n, the cells of the working table and of the room, and the seed, and how many words come before the weights.
+// Where a case has n, the cells of the working table and of the room, and the seed, and how many words come before the
+// weights.
 const FANS: usize = 3;
 
 const CELLS: usize = 4;

@@ -1,6 +1,6 @@
--- The checks of a file as the program makes them, one number read after the other: what a test that the program made says of the file's own. Assumes nothing.
+-- The checks of a file as the program makes them, by the head that its header gives: what a test that the program made says of the file's own. Assumes nothing.
 use mathlib.Core.Path.{_≡_, refl, sym, ap, ap₂, _∙_}
-use mathlib.Core.Bool.{Bool, true, false, cond, not, _&&_}
+use mathlib.Core.Bool.{Bool, true, false, cond, not, _&&_, _||_}
 use mathlib.Core.List.{List, [], _∷_}
 use Prim.Native.Nat.{ℕ, _+_, _*_, _-_, _≤_}
 use native.Mathlib.Omega.{arith}
@@ -10,18 +10,28 @@ use lib.Seq.{take-all}
 use borrow.Author.Tests.{not-false, eqb-true}
 use Rattle.rules.specs.Boards.{hasBoards}
 use Rattle.rules.specs.Refusal.{firstOf, after, badSize, misplaced}
-use Rattle.rules.specs.File.{numberAt, numbersFrom, boardBytes, boardFans, boardsOffset, boardSurvivalOffset, survivalField, weightsField, systemsField, boardsField, survivalOffset, weightsOffset, systemsOffset, fileLength}
-use Rattle.rules.specs.File.{versionIn, fansIn, countIn, boardCountIn, deckIn, boardsElsewhere, badLayout, badSystems, badBoardsIn, misplacedIn, badStart, shortFile, shortHeader, fileRefusal}
+use Rattle.rules.specs.File.{numberAt, boardFans, boardsOffset, switchboardsOffset, survivalField, weightsField, systemsField, boardsField}
+use Rattle.rules.specs.File.{survivalOffset, weightsOffset, systemsOffset, fileLength, versionIn, fansIn, countIn, boardCountIn, deckIn}
+use Rattle.rules.specs.File.{boardsElsewhere, badLayout, badSystems, badBoardsIn, misplacedIn, badStart, shortFile, shortHeader, fileRefusal}
 use Rattle.rules.proofs.Lists.{below-length}
 use Rattle.rules.proofs.Tests.{both}
 use Rattle.rules.proofs.Accepted.{first-after}
-use Rattle.deck.specs.Outcome.{countsRefusal}
+use Rattle.deck.specs.Head.{headOf, listsElsewhere, boardsBy, countsRefusal}
+use Rattle.deck.specs.Outcome.{bodyRefusal}
 use Rattle.layout.proofs.Versions.{fans-bound}
 
 -- no check left
 pub none-left : firstOf [] ≡ 0
 unfolding firstOf
 none-left = refl
+
+-- one of five tests differs
+one-differs : (a b c d e : Bool) → not (a && b && c && not d && e) ≡ ((not a || not b || not c) || d) || not e
+one-differs true true true false e = refl
+one-differs true true true true e = refl
+one-differs true true false d e = refl
+one-differs true false c d e = refl
+one-differs false b c d e = refl
 
 module _ (bytes : List ℕ) where
   abbrev v : ℕ
@@ -34,23 +44,21 @@ module _ (bytes : List ℕ) where
   g = boardCountIn bytes
 
   -- the offset of the board bytes
-  pub elsewhere-some : {r from : ℕ} → hasBoards v ≡ true → r ≡ numberAt 4 bytes boardsField → from ≡ boardsOffset v n
-      → not (eqb r from) ≡ boardsElsewhere bytes
-  elsewhere-some has e f =
-      ap₂ (λ x y. not (eqb x y)) e f ∙ sym (ap (λ b. b && not (eqb (numberAt 4 bytes boardsField) (boardsOffset v n))) has)
+  pub elsewhere-some : hasBoards v ≡ true → not (eqb (numberAt 4 bytes boardsField) (boardsOffset v n)) ≡ boardsElsewhere bytes
+  elsewhere-some has = sym (ap (λ b. b && not (eqb (numberAt 4 bytes boardsField) (boardsOffset v n))) has)
 
   pub elsewhere-none : hasBoards v ≡ false → boardsElsewhere bytes ≡ false
   elsewhere-none none = ap (λ b. b && not (eqb (numberAt 4 bytes boardsField) (boardsOffset v n))) none
 
-  -- the layout by the numbers read, each beside the place that the layout gives
-  pub layout-is : {r₁ h r₂ w r₃ s l : ℕ} {d : Bool} → r₁ ≡ numberAt 4 bytes survivalField → h ≡ survivalOffset v → r₂ ≡ numberAt 4 bytes weightsField → w ≡ weightsOffset v n
-      → r₃ ≡ numberAt 4 bytes systemsField → s ≡ systemsOffset v n g → d ≡ boardsElsewhere bytes → l ≡ fileLength v n g (countIn bytes)
-      → badLayout bytes ≡ not (eqb r₁ h && eqb r₂ w && eqb r₃ s && not d && eqb (length bytes) l)
-  layout-is a b c d e f p q =
-      sym (λ x. not (eqb (a x) (b x) && eqb (c x) (d x) && eqb (e x) (f x) && not (p x) && eqb (length bytes) (q x)))
+  -- the layout: the offsets that every header has, that of the board bytes, and the length
+  pub layout-is : (listsElsewhere bytes || boardsElsewhere bytes) || not (eqb (length bytes) (fileLength v n g (countIn bytes))) ≡ badLayout bytes
+  layout-is =
+      sym
+      (one-differs (eqb (numberAt 4 bytes survivalField) (survivalOffset v)) (eqb (numberAt 4 bytes weightsField) (weightsOffset v n))
+      (eqb (numberAt 4 bytes systemsField) (systemsOffset v n g)) (boardsElsewhere bytes) (eqb (length bytes) (fileLength v n g (countIn bytes))))
 
   -- a file laid out so holds its board bytes
-  pub laid-whole : badLayout bytes ≡ false → boardSurvivalOffset v n ≤ length bytes
+  pub laid-whole : badLayout bytes ≡ false → switchboardsOffset v n ≤ length bytes
   laid-whole e =
       let offsets =
       eqb (numberAt 4 bytes survivalField) (survivalOffset v) && eqb (numberAt 4 bytes weightsField) (weightsOffset v n)
@@ -59,7 +67,7 @@ module _ (bytes : List ℕ) where
       omega (arith, eqb-true (length bytes) (fileLength v n g (countIn bytes)) (both offsets whole (not-false (offsets && whole) e) .1))
 
   -- the board bytes as they stand
-  pub misplaced-is : (boards : List ℕ) → boards ≡ numbersFrom boardBytes bytes (boardsOffset v n) (boardFans v n)
+  pub misplaced-is : (boards : List ℕ) → boards ≡ boardsBy bytes v n
       → misplaced v n g boards (take (n - 0) (drop 0 boards)) ≡ misplacedIn bytes
   unfolding deckIn
   misplaced-is boards e =
@@ -76,10 +84,9 @@ module _ (bytes : List ℕ) where
   counts-first false false true rest = refl
   counts-first false false false rest = refl
 
-  pub counts-after : shortFile bytes ≡ false → badStart bytes ≡ false → shortHeader bytes ≡ false
-      → fileRefusal bytes ≡ after (countsRefusal bytes) (firstOf ((13, badLayout bytes) ∷ (21, misplacedIn bytes) ∷ []))
-  unfolding fileRefusal countsRefusal
-  counts-after short start header =
+  pub body-after : shortFile bytes ≡ false → badStart bytes ≡ false → shortHeader bytes ≡ false → fileRefusal bytes ≡ bodyRefusal bytes
+  unfolding fileRefusal bodyRefusal countsRefusal
+  body-after short start header =
       first-after 10 _ _ short
       ∙ first-after 11 _ _ start
       ∙ first-after 10 _ _ header

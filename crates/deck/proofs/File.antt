@@ -15,7 +15,7 @@ use Rattle.rules.specs.Boards.{hasBoards, boardsRead}
 use Rattle.rules.specs.Refusal.{mostBoards}
 use Rattle.rules.specs.File.{Deck, numberAt, nthNumber, numbersFrom, allBytes, countsOf, offsetsOf, headerOf, systemNumbers, fileOf, nthSystem, systemIn, deckIn, fileRefusal}
 use Rattle.rules.specs.File.{versionIn, fansIn, countIn, boardCountIn, boardsElsewhere, versionField, zeroField, survivalField, weightsField, systemsField, boardCountField, boardsField, headerLength}
-use Rattle.rules.specs.File.{survivalBytes, weightBytes, boardBytes, systemBytes, boardFans, survivalOffset, weightsOffset, boardsOffset, boardSurvivalOffset, systemsOffset}
+use Rattle.rules.specs.File.{survivalBytes, weightBytes, boardBytes, systemBytes, boardFans, survivalOffset, weightsOffset, boardsOffset, switchboardsOffset, systemsOffset}
 use Rattle.layout.specs.Fits.{Bytes}
 use Rattle.deck.specs.Bounds.{Bounds}
 use Rattle.rules.proofs.Lists.{below-length}
@@ -29,7 +29,7 @@ use Rattle.deck.proofs.Sound.{Sound, sound, not-refused}
 
 -- a file's parts before the weights, the boards' bytes, the boards' numbers and the systems
 abbrev headerFor : Deck → List ℕ
-headerFor d = headerOf (d .version) (length (d .survival)) (length (d .boardSurvival)) (length (d .systems))
+headerFor d = headerOf (d .version) (length (d .survival)) (length (d .switchboards)) (length (d .systems))
 
 abbrev pub toWeights : Deck → List ℕ
 toWeights d = headerFor d ++ allBytes survivalBytes (d .survival)
@@ -41,14 +41,14 @@ abbrev pub toNumbers : Deck → List ℕ
 toNumbers d = toBoards d ++ allBytes boardBytes (d .boards)
 
 abbrev pub toSystems : Deck → List ℕ
-toSystems d = toNumbers d ++ allBytes survivalBytes (d .boardSurvival)
+toSystems d = toNumbers d ++ allBytes survivalBytes (d .switchboards)
 
 -- a part more
 part-length : (xs : List ℕ) (width : ℕ) (ys : List ℕ) → length (xs ++ allBytes width ys) ≡ length xs + width * length ys
 part-length xs width ys = length-append xs (allBytes width ys) ∙ rw (all-length width ys)
 
 pub weights-from : (d : Deck) → length (toWeights d) ≡ weightsOffset (d .version) (length (d .survival))
-weights-from d = part-length (headerFor d) survivalBytes (d .survival) ∙ rw (header-length (d .version) (length (d .survival)) (length (d .boardSurvival)) (length (d .systems)))
+weights-from d = part-length (headerFor d) survivalBytes (d .survival) ∙ rw (header-length (d .version) (length (d .survival)) (length (d .switchboards)) (length (d .systems)))
 
 pub boards-from : (d : Deck) → length (toBoards d) ≡ weightsOffset (d .version) (length (d .survival)) + weightBytes * length (d .weights)
 boards-from d = part-length (toWeights d) weightBytes (d .weights) ∙ rw (weights-from d)
@@ -59,12 +59,12 @@ numbers-from d = part-length (toBoards d) boardBytes (d .boards) ∙ rw (boards-
 
 pub systems-from : (d : Deck)
     → length (toSystems d)
-    ≡ weightsOffset (d .version) (length (d .survival)) + weightBytes * length (d .weights) + boardBytes * length (d .boards) + survivalBytes * length (d .boardSurvival)
-systems-from d = part-length (toNumbers d) survivalBytes (d .boardSurvival) ∙ rw (numbers-from d)
+    ≡ weightsOffset (d .version) (length (d .survival)) + weightBytes * length (d .weights) + boardBytes * length (d .boards) + survivalBytes * length (d .switchboards)
+systems-from d = part-length (toNumbers d) survivalBytes (d .switchboards) ∙ rw (numbers-from d)
 
 pub file-length : (d : Deck)
     → length (fileOf d)
-    ≡ weightsOffset (d .version) (length (d .survival)) + weightBytes * length (d .weights) + boardBytes * length (d .boards) + survivalBytes * length (d .boardSurvival)
+    ≡ weightsOffset (d .version) (length (d .survival)) + weightBytes * length (d .weights) + boardBytes * length (d .boards) + survivalBytes * length (d .switchboards)
     + systemBytes * length (d .systems)
 unfolding fileOf
 file-length d = part-length (toSystems d) 2 (systemNumbers (d .systems)) ∙ omega (arith, systems-from d, numbers-length (d .systems))
@@ -78,7 +78,7 @@ module _ (d : Deck) (ok : Bounds d) where
   n = length (d .survival)
 
   abbrev g : ℕ
-  g = length (d .boardSurvival)
+  g = length (d .switchboards)
 
   abbrev m : ℕ
   m = length (d .systems)
@@ -101,7 +101,7 @@ module _ (d : Deck) (ok : Bounds d) where
   rest =
       allBytes survivalBytes (d .survival)
       ++ (allBytes weightBytes (d .weights)
-      ++ (allBytes boardBytes (d .boards) ++ (allBytes survivalBytes (d .boardSurvival) ++ allBytes 2 (systemNumbers (d .systems)))))
+      ++ (allBytes boardBytes (d .boards) ++ (allBytes survivalBytes (d .switchboards) ++ allBytes 2 (systemNumbers (d .systems)))))
 
   file-parts : fileOf d ≡ headerFor d ++ rest
   unfolding fileOf
@@ -127,7 +127,7 @@ module _ (d : Deck) (ok : Bounds d) where
   survival-stand = record {
     before = headerFor d;
     after =
-        allBytes weightBytes (d .weights) ++ (allBytes boardBytes (d .boards) ++ (allBytes survivalBytes (d .boardSurvival) ++ allBytes 2 (systemNumbers (d .systems))));
+        allBytes weightBytes (d .weights) ++ (allBytes boardBytes (d .boards) ++ (allBytes survivalBytes (d .switchboards) ++ allBytes 2 (systemNumbers (d .systems))));
     parts = simp append-assoc;
     place = header-length v n g m;
   }
@@ -136,7 +136,7 @@ module _ (d : Deck) (ok : Bounds d) where
   unfolding fileOf
   weights-stand = record {
     before = toWeights d;
-    after = allBytes boardBytes (d .boards) ++ (allBytes survivalBytes (d .boardSurvival) ++ allBytes 2 (systemNumbers (d .systems)));
+    after = allBytes boardBytes (d .boards) ++ (allBytes survivalBytes (d .switchboards) ++ allBytes 2 (systemNumbers (d .systems)));
     parts = simp append-assoc;
     place = weights-from d;
   }
@@ -145,12 +145,12 @@ module _ (d : Deck) (ok : Bounds d) where
   unfolding fileOf
   boards-stand = record {
     before = toBoards d;
-    after = allBytes survivalBytes (d .boardSurvival) ++ allBytes 2 (systemNumbers (d .systems));
+    after = allBytes survivalBytes (d .switchboards) ++ allBytes 2 (systemNumbers (d .systems));
     parts = simp append-assoc;
     place = omega (arith, boards-from d, ok .weighed);
   }
 
-  numbers-stand : Stands survivalBytes (d .boardSurvival) (fileOf d) (boardSurvivalOffset v n)
+  numbers-stand : Stands survivalBytes (d .switchboards) (fileOf d) (switchboardsOffset v n)
   unfolding fileOf
   numbers-stand = record {
     before = toNumbers d;
@@ -184,10 +184,10 @@ module _ (d : Deck) (ok : Bounds d) where
         survival = numbersFrom survivalBytes (fileOf d) (survivalOffset (version-at x)) (fans-at x);
         weights = numbersFrom weightBytes (fileOf d) (weightsOffset (version-at x) (fans-at x)) (fans-at x);
         boards = numbersFrom boardBytes (fileOf d) (boardsOffset (version-at x) (fans-at x)) (boardFans (version-at x) (fans-at x));
-        boardSurvival = numbersFrom survivalBytes (fileOf d) (boardSurvivalOffset (version-at x) (fans-at x)) (board-count-at x);
+        switchboards = numbersFrom survivalBytes (fileOf d) (switchboardsOffset (version-at x) (fans-at x)) (board-count-at x);
         systems = listBelow (systems-at x) (nthSystem (fileOf d) (systemsOffset (version-at x) (fans-at x) (board-count-at x)));
       })
-      ∙ (λ x. record { version = v; survival = survival x; weights = weights x; boards = boards x; boardSurvival = numbers x; systems = systems x })
+      ∙ (λ x. record { version = v; survival = survival x; weights = weights x; boards = boards x; switchboards = numbers x; systems = systems x })
 
   pub file-accepted : fileRefusal (fileOf d) ≡ 0
   file-accepted =
@@ -272,19 +272,19 @@ module _ (bytes : List ℕ) (small : Bytes bytes) (e : fileRefusal bytes ≡ 0) 
       let fits : from + 2 * (5 * m) ≡ length bytes = omega (arith, s .whole) in
       rw (
         below-length n (nthNumber survivalBytes bytes (survivalOffset version)),
-        below-length boards (nthNumber survivalBytes bytes (boardSurvivalOffset version n)),
+        below-length boards (nthNumber survivalBytes bytes (switchboardsOffset version n)),
         below-length m (systemIn bytes),
         header-back,
         numbers-of bytes from m,
         bytes-back survivalBytes bytes (survivalOffset version) n small (omega arith),
         bytes-back weightBytes bytes (weightsOffset version n) n small (omega arith),
         bytes-back boardBytes bytes (boardsOffset version n) f small (omega arith),
-        bytes-back survivalBytes bytes (boardSurvivalOffset version n) boards small (omega arith),
+        bytes-back survivalBytes bytes (switchboardsOffset version n) boards small (omega arith),
         bytes-back 2 bytes from (5 * m) small (omega arith),
         ← take-add (survivalOffset version) (survivalBytes * n) bytes,
         ← take-add (weightsOffset version n) (weightBytes * n) bytes,
         ← take-add (boardsOffset version n) (boardBytes * f) bytes,
-        ← take-add (boardSurvivalOffset version n) (survivalBytes * boards) bytes,
+        ← take-add (switchboardsOffset version n) (survivalBytes * boards) bytes,
         ← take-add from (2 * (5 * m)) bytes,
       )
       (take-all (from + 2 * (5 * m)) bytes (omega arith))
@@ -295,7 +295,7 @@ module _ (bytes : List ℕ) (small : Bytes bytes) (e : fileRefusal bytes ≡ 0) 
       let n = fans in
       let m = countIn bytes in
       let as-many : length (deckIn bytes .survival) ≡ n = below-length n _ in
-      let as-boards : length (deckIn bytes .boardSurvival) ≡ boards = below-length boards _ in
+      let as-boards : length (deckIn bytes .switchboards) ≡ boards = below-length boards _ in
       let systems : length (deckIn bytes .systems) ≡ m = below-length m _ in
       let from = systemsOffset version n boards in
       record {
@@ -311,7 +311,7 @@ module _ (bytes : List ℕ) (small : Bytes bytes) (e : fileRefusal bytes ≡ 0) 
         own-numbers = read-own version (numberAt 4 bytes boardCountField) _;
         survival-fits = under-below n _ (λ i. number-fits survivalBytes bytes (survivalOffset version + survivalBytes * i) small);
         weights-fit = under-below n _ (λ i. number-fits weightBytes bytes (weightsOffset version n + weightBytes * i) small);
-        boards-fit = under-below boards _ (λ i. number-fits survivalBytes bytes (boardSurvivalOffset version n + survivalBytes * i) small);
+        boards-fit = under-below boards _ (λ i. number-fits survivalBytes bytes (switchboardsOffset version n + survivalBytes * i) small);
         systems-fit = rw (numbers-of bytes from m) (under-below (5 * m) _ (λ i. number-fits 2 bytes (from + 2 * i) small));
       }
 

@@ -1,71 +1,47 @@
--- What the reader hands on for a file that is not refused: the first n or m entries of its arrays are the deck that the file holds. Assumes nothing.
-use mathlib.Core.Path.{_≡_, sym, ap, _∙_}
+-- The arrays that a file's lists are read into: the first n or g entries of each are the list. And the laws of a head that its readers need: a file that is not
+-- refused is long enough for each list. Assumes nothing.
+use mathlib.Core.Path.{_≡_, sym, ap, ap₂, _∙_}
 use mathlib.Core.List.{List}
-use Prim.Native.Nat.{ℕ, _<_}
-use lib.ListN.{getD, take}
-use Rattle.rules.specs.declared.System.{System}
+use Prim.Native.Nat.{ℕ, _+_, _*_, _^_, _≤_, _<_}
+use native.Mathlib.Omega.{arith}
+use lib.ListN.{length, take}
 use Rattle.rules.specs.Refusal.{mostBoards}
-use Rattle.rules.specs.File.{Deck, mostFans, mostSystems, boardFans, versionIn, fansIn, countIn, boardCountIn, systemIn, fileOf, deckIn, fileRefusal}
-use Rattle.deck.specs.declared.Read.{Read}
-use Rattle.deck.specs.Read.{noDeck, arraysOf, keptDeck}
-use Rattle.deck.specs.Outcome.{Handed}
-use Rattle.deck.specs.Bounds.{Bounds}
-use Rattle.rules.proofs.Lists.{below-length}
-use Rattle.rules.proofs.Unless.{unless-none}
-use Rattle.arrays.proofs.Lists.{padded-take, padded-get}
-use Rattle.deck.proofs.File.{file-accepted, deck-back}
+use Rattle.rules.specs.File.{mostFans, mostSystems, fileLength}
+use Rattle.rules.specs.File.{fansIn, boardCountIn, deckIn}
+use Rattle.arrays.specs.Padded.{padded}
+use Rattle.arrays.proofs.Lists.{padded-take}
+use Rattle.deck.specs.declared.Head.{Head}
+use Rattle.deck.specs.Head.{Small}
+use Rattle.deck.specs.Outcome.{Headed, Placed}
+use Rattle.deck.proofs.Sound.{Sound, sound, sound-few}
 
-module _ (bytes : List ℕ) where
-  -- what the reader's answer is, by its refusal
-  module _ (r : Read) (is : Handed bytes r) where
-    pub read-none : r .refusal ≡ 0 → fileRefusal bytes ≡ 0
-    read-none e = sym (is .refusal) ∙ e
+module _ {bytes : List ℕ} {head : Head} (h : Headed bytes head) where
+  -- no more fans, systems and boards than a file has
+  pub few-fans : head .fans ≤ mostFans
+  few-fans = omega (arith, h .says .fans, sound bytes (h .accepted) .most-fans)
 
-    pub read-deck : r .refusal ≡ 0 → r .deck ≡ keptDeck bytes
-    read-deck e = is .deck ∙ unless-none (fileRefusal bytes) (λ n. noDeck) (keptDeck bytes) (read-none e)
+  pub few-systems : head .systems ≤ mostSystems
+  few-systems = omega (arith, h .says .systems, sound bytes (h .accepted) .most-systems)
 
-  pub kept-survival : take (fansIn bytes) (keptDeck bytes .survival) ≡ deckIn bytes .survival
-  unfolding keptDeck deckIn
-  kept-survival = padded-take mostFans 0 (fansIn bytes) _
+  pub few-boards : head .boards ≤ mostBoards
+  few-boards = omega (arith, h .says .boards, sound-few bytes (h .accepted))
 
-  pub kept-weights : take (fansIn bytes) (keptDeck bytes .weights) ≡ deckIn bytes .weights
-  unfolding keptDeck deckIn
-  kept-weights = padded-take mostFans 0 (fansIn bytes) _
+  -- how long the file is, by its head
+  pub whole : length bytes ≡ fileLength (head .version) (head .fans) (head .boards) (head .systems)
+  whole =
+      let s = h .says in
+      sound bytes (h .accepted) .whole ∙ sym (λ x. fileLength (s .version x) (s .fans x) (s .boards x) (s .systems x))
 
-  pub kept-boards : take (boardFans (versionIn bytes) (fansIn bytes)) (keptDeck bytes .boards) ≡ deckIn bytes .boards
-  unfolding keptDeck deckIn
-  kept-boards = padded-take mostFans 0 (boardFans (versionIn bytes) (fansIn bytes)) _
+  -- lent arrays: the first entries are the file's list
+  module _ {xs : List ℕ} where
+    pub lent-survival : xs ≡ padded mostFans 0 (deckIn bytes .survival) → take (head .fans) xs ≡ deckIn bytes .survival
+    unfolding deckIn
+    lent-survival e = ap₂ take (h .says .fans) e ∙ padded-take mostFans 0 (fansIn bytes) _
 
-  pub kept-numbers : take (boardCountIn bytes) (keptDeck bytes .switchboards) ≡ deckIn bytes .boardSurvival
-  unfolding keptDeck deckIn
-  kept-numbers = padded-take mostBoards 0 (boardCountIn bytes) _
+    pub lent-weights : xs ≡ padded mostFans 0 (deckIn bytes .weights) → take (head .fans) xs ≡ deckIn bytes .weights
+    unfolding deckIn
+    lent-weights e = ap₂ take (h .says .fans) e ∙ padded-take mostFans 0 (fansIn bytes) _
 
-  pub kept-system : (d : System) (s : ℕ) → s < countIn bytes
-      → getD (keptDeck bytes .systems) s d ≡ systemIn bytes s
-  unfolding keptDeck deckIn
-  kept-system d s h = padded-get mostSystems _ d (countIn bytes) _ s h
-
-  kept-arrays : keptDeck bytes ≡ arraysOf (deckIn bytes)
-  unfolding keptDeck deckIn
-  kept-arrays =
-      let n = sym (below-length (fansIn bytes) _) in
-      let m = sym (below-length (countIn bytes) (systemIn bytes)) in
-      let g = sym (below-length (boardCountIn bytes) _) in
-      λ x. record {
-        version = versionIn bytes;
-        fans = n x;
-        count = m x;
-        g = g x;
-        survival = keptDeck bytes .survival;
-        weights = keptDeck bytes .weights;
-        boards = keptDeck bytes .boards;
-        switchboards = keptDeck bytes .switchboards;
-        systems = keptDeck bytes .systems;
-      }
-
--- the reader hands on the deck that a file was written from
-pub read-file : (d : Deck) → Bounds d → (r : Read) → Handed (fileOf d) r → r ≡ record { refusal = 0; deck = arraysOf d }
-read-file d ok r is =
-    let refusal = is .refusal ∙ file-accepted d ok in
-    let deck = read-deck (fileOf d) r is refusal ∙ kept-arrays (fileOf d) ∙ ap arraysOf (deck-back d ok) in
-    λ x. record { refusal = refusal x; deck = deck x }
+    pub lent-numbers : xs ≡ padded mostBoards 0 (deckIn bytes .switchboards) → take (head .boards) xs ≡ deckIn bytes .switchboards
+    unfolding deckIn
+    lent-numbers e = ap₂ take (h .says .boards) e ∙ padded-take mostBoards 0 (boardCountIn bytes) _

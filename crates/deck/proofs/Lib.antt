@@ -3,5 +3,5 @@ pub mod Systems
 pub mod Sound
 pub mod Checks
 pub mod File
-pub mod Kept
 pub mod Outcome
+pub mod Kept

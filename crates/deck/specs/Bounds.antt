@@ -17,11 +17,11 @@ pub record Bounds (d : Deck) : Type 0 where
   pub weighed : length (d .weights) ≡ length (d .survival)
   pub some-system : 1 ≤ length (d .systems)
   pub most-systems : length (d .systems) ≤ mostSystems
-  pub counted : badBoards (d .version) (length (d .boardSurvival)) ≡ false
-  pub placed : misplaced (d .version) (length (d .survival)) (length (d .boardSurvival)) (d .boards) (d .boards) ≡ false
+  pub counted : badBoards (d .version) (length (d .switchboards)) ≡ false
+  pub placed : misplaced (d .version) (length (d .survival)) (length (d .switchboards)) (d .boards) (d .boards) ≡ false
   pub own-boards : boardsRead (d .version) (d .boards) ≡ d .boards
-  pub own-numbers : boardsRead (d .version) (d .boardSurvival) ≡ d .boardSurvival
+  pub own-numbers : boardsRead (d .version) (d .switchboards) ≡ d .switchboards
   pub survival-fits : Under (2 ^ 32) (d .survival)
   pub weights-fit : Under (2 ^ 16) (d .weights)
-  pub boards-fit : Under (2 ^ 32) (d .boardSurvival)
+  pub boards-fit : Under (2 ^ 32) (d .switchboards)
   pub systems-fit : Under (2 ^ 16) (systemNumbers (d .systems))

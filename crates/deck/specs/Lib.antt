@@ -1,4 +1,4 @@
--- What the reader hands on, what the two calls answer, and which decks a file can hold.
-pub mod Read
+-- What a file's head says, what opening a file answers, and which decks a file can hold.
+pub mod Head
 pub mod Outcome
 pub mod Bounds

@@ -1,27 +1,33 @@
--- What the two calls over a file's bytes answer.
+-- What opening a file answers, and what the functions that read a file's numbers ask of its head.
 use mathlib.Core.Path.{_≡_}
 use mathlib.Core.List.{List, [], _∷_}
 use Prim.Native.Nat.{ℕ, _<_}
 use Rattle.rules.specs.Answer.{unless}
-use Rattle.rules.specs.Refusal.{badSize, firstOf}
-use Rattle.rules.specs.File.{fansIn, countIn, badSystems, badBoardsIn, fileRefusal}
-use Rattle.deck.specs.declared.Read.{Read}
-use Rattle.deck.specs.Read.{noDeck, keptDeck}
+use Rattle.rules.specs.Refusal.{after, firstOf}
+use Rattle.rules.specs.File.{badLayout, misplacedIn, fileRefusal}
+use Rattle.deck.specs.declared.Head.{Head}
+use Rattle.deck.specs.declared.Opened.{Opened}
+use Rattle.deck.specs.Head.{headOf, noHead, Says, countsRefusal}
 
--- 2, 12 and 20, of the counts that a file's header gives
-unfoldable pub countsRefusal : List ℕ → ℕ
-countsRefusal bytes = firstOf ((2, badSize (fansIn bytes)) ∷ (12, badSystems bytes) ∷ (20, badBoardsIn bytes) ∷ [])
+-- 2, 12, 20, 13 and 21, of a file whose header is there
+unfoldable pub bodyRefusal : List ℕ → ℕ
+bodyRefusal bytes = after (countsRefusal (headOf bytes)) (firstOf ((13, badLayout bytes) ∷ (21, misplacedIn bytes) ∷ []))
 
--- the outcome of asking for a file's refusal
-pub record Checked (bytes : List ℕ) (r : ℕ) : Type 0 where
-  pub refusal : r ≡ fileRefusal bytes
+-- a refusal with no head beside it
+abbrev pub refusedBy : ℕ → Opened
+refusedBy refusal = record { refusal = refusal; head = noHead }
 
--- the outcome of reading a file: its refusal, and its deck where there is none
-pub record Handed (bytes : List ℕ) (r : Read) : Type 0 where
+-- the outcome of opening a file: its refusal, and its head where there is none
+pub record Opens (bytes : List ℕ) (r : Opened) : Type 0 where
   pub refusal : r .refusal ≡ fileRefusal bytes
-  pub deck : r .deck ≡ unless (fileRefusal bytes) (λ n. noDeck) (keptDeck bytes)
+  pub head : r .head ≡ unless (fileRefusal bytes) (λ n. noHead) (headOf bytes)
 
--- a file that is not refused, and a place of one of its systems, counted from 0
-pub record Placed (bytes : List ℕ) (s : ℕ) : Type 0 where
+-- a file that is not refused, with its head
+pub record Headed (bytes : List ℕ) (head : Head) : Type 0 where
   pub accepted : fileRefusal bytes ≡ 0
-  pub place : s < countIn bytes
+  pub says : Says bytes head
+
+-- and a place of one of its systems, counted from 0
+pub record Placed (bytes : List ℕ) (head : Head) (s : ℕ) : Type 0 where
+  pub headed : Headed bytes head
+  pub place : s < head .systems

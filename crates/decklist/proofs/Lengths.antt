@@ -1,6 +1,6 @@
--- How long the lines can be: no number has more than 20 digits, and no deck more than 32 systems. Assumes nothing.
+-- How long a line can be: no number has more than 20 digits. Assumes nothing.
 use mathlib.Core.Bool.{Bool, true, false}
-use Prim.Native.Nat.{ℕ, zero, suc, _*_, _≤_}
+use Prim.Native.Nat.{ℕ, _≤_}
 use native.Mathlib.Omega.{arith}
 use lib.ListN.{length, length-append}
 use Rattle.rules.specs.declared.Rating.{Rating}
@@ -9,7 +9,7 @@ use Rattle.text.proofs.Digits.{decimal-short}
 use Rattle.text.specs.Decimal.{text}
 use Rattle.percent.specs.Percent.{rangeText}
 use Rattle.percent.proofs.Digits.{range-short}
-use Rattle.decklist.specs.Lines.{endText, endRoom, ratingText, ratingRoom, lineText, lineRoom, linesText, headText, headRoom}
+use Rattle.decklist.specs.Lines.{endText, endRoom, ratingText, ratingRoom, lineText, lineRoom, headText, headRoom}
 
 pub head-short : (n m : ℕ) → length (headText n m) ≤ headRoom
 head-short n m = simp length-append (omega (arith, decimal-short n, decimal-short m))
@@ -24,12 +24,5 @@ rating-short percent u (Range low high) =
     simp length-append (omega (arith, decimal-short low, decimal-short high, end-short percent u low high))
 rating-short percent u (Refused number) = simp length-append (omega (arith, decimal-short number))
 
-line-short : (percent : Bool) (u s : ℕ) (r : Rating) → length (lineText percent u s r) ≤ lineRoom
+pub line-short : (percent : Bool) (u s : ℕ) (r : Rating) → length (lineText percent u s r) ≤ lineRoom
 line-short percent u s r = simp length-append (omega (arith, decimal-short s, rating-short percent u r))
-
-pub lines-short : (percent : Bool) (u m : ℕ) (answer : ℕ → Rating) → length (linesText percent u m answer) ≤ lineRoom * m
-unfolding linesText
-lines-short percent u zero answer = omega arith
-lines-short percent u (suc m) answer =
-    let line = lineText percent u (suc m) (answer m) in
-    omega (arith, length-append (linesText percent u m answer) line, lines-short percent u m answer, line-short percent u (suc m) (answer m))

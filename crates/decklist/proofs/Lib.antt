@@ -1,3 +1,2 @@
 -- The laws of the listing of a file.
 mod Lengths
-mod Printing

@@ -1,3 +1,2 @@
 -- What decklist is asked for, and what it prints.
-pub mod Task
 pub mod Lines

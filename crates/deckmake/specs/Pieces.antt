@@ -1,6 +1,6 @@
 -- Pieces of a text within the buffer that they are read into.
 use Prim.Native.Nat.{ℕ, _≤_}
-use Rattle.deckmake.specs.declared.reading.Piece.{Piece}
+use Rattle.deckmake.specs.declared.text.Piece.{Piece}
 
 abbrev pub pieceRoom : ℕ
 pieceRoom = 131072

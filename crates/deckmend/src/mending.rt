@@ -1,4 +1,5 @@
-// What deckmend writes, put into buffers: the mended file, and the lines of what was changed and cut, or of a refused file.
+// What deckmend writes, put into buffers: the mended file, and the lines of what was changed and cut, or of a refused
+// file.
 ghost use Prim.Native.Nat.{_+_, _*_, _^_, _≤_, _<_};
 ghost use lib.ListN.{length};
 ghost use Rattle.rules.specs.Mending.{perChange};
@@ -60,7 +61,8 @@ fn put_changes(list: &[u64], changed: usize, out: &mut [u8]) -> usize
     end
 }
 
-// All that is written for an input of which the buffer holds the front, all of it or as much as the buffer takes, and so many bytes follow.
+// All that is written for an input of which the buffer holds the front, all of it or as much as the buffer takes, and
+// so many bytes follow.
 pub fn mend_front(
     input: &[u8; INPUT],
     filled: usize,

@@ -1,64 +1,25 @@
--- How long lines can be: so many times the longest. And lines put one after another, in a buffer that has room for as many as there may be. Assumes nothing.
-use mathlib.Core.Path.{_≡_, refl}
+-- How long each line can be, and all of them in a file's room. Assumes nothing.
 use mathlib.Core.List.{List}
-use Prim.Native.Nat.{ℕ, zero, suc, _+_, _*_, _≤_, _<_}
-use native.Mathlib.Omega.{arith}
-use native.Mathlib.Numerals.{add-one}
-use native.Mathlib.Nat.{mul-le-mul-left}
-use lib.ListN.{length, getD, length-append}
-use Rattle.rules.specs.declared.System.{System}
-use Rattle.text.specs.Decimal.{text}
-use Rattle.text.specs.Added.{Added}
-use Rattle.text.proofs.Adding.{none-added, added-more}
+use Prim.Native.Nat.{ℕ, _≤_}
+use lib.ListN.{length, getD}
+use Rattle.rules.specs.File.{Deck}
 use Rattle.arrays.specs.Padded.{noSystem}
+use Rattle.text.specs.Decimal.{text}
 use Rattle.wording.specs.Lines.{versionText, versionRoom, boardRoom, fanRoom, systemRoom}
 use Rattle.wording.proofs.Lengths.{one-short, fan-short, system-short}
-use Rattle.deckshow.specs.Lines.{linesText, boardLine, fanLine, systemLine}
-
-lines-short : (room k : ℕ) (line : ℕ → List ℕ) → ((i : ℕ) → length (line i) ≤ room) → length (linesText k line) ≤ room * k
-unfolding linesText
-lines-short room zero line h = omega arith
-lines-short room (suc k) line h =
-    omega (arith, length-append (linesText k line) (line k), lines-short room k line h, h k)
+use Rattle.deckshow.specs.Lines.{boardLine, fanLine, systemLine}
 
 pub version-short : (version : ℕ) → length (versionText version) ≤ versionRoom
 version-short version = one-short (text "version ") version (text "\n")
 
-pub boards-short : (switchboards : List ℕ) (k : ℕ) → length (linesText k (boardLine switchboards)) ≤ boardRoom * k
-boards-short switchboards k =
-    lines-short boardRoom k (boardLine switchboards) (λ i. one-short (text "board ") (getD switchboards i 0) (text "\n"))
+module _ (d : Deck) where
+  pub board-line : (i : ℕ) → length (boardLine d i) ≤ boardRoom
+  board-line i = one-short (text "board ") (getD (d .switchboards) i 0) (text "\n")
 
-pub fans-short : (survival weights boards : List ℕ) (k : ℕ) → length (linesText k (fanLine survival weights boards)) ≤ fanRoom * k
-fans-short survival weights boards k =
-    lines-short fanRoom k (fanLine survival weights boards) (λ i. fan-short (getD survival i 0) (getD weights i 0) (getD boards i 0))
+  pub fan-line : (i : ℕ) → length (fanLine d i) ≤ fanRoom
+  fan-line i = fan-short (getD (d .survival) i 0) (getD (d .weights) i 0) (getD (d .boards) i 0)
 
-pub systems-short : (n : ℕ) (systems : List System) (k : ℕ) → length (linesText k (systemLine n systems)) ≤ systemRoom * k
-systems-short n systems k =
-    lines-short systemRoom k (systemLine n systems)
-    (λ s.
-    let y = getD systems s noSystem in
-    system-short n (y .rule .kind) (y .rule .first) (y .rule .second) (y .a) (y .b))
-
--- the lines of the first k of n things, in a buffer
-pub record Lined (n : ℕ) (line : ℕ → List ℕ) (out₀ : List ℕ) (at : ℕ) (out : List ℕ) (end k : ℕ) : Type 0 where
-  pub passed : k ≤ n
-  pub same : length out ≡ length out₀
-  pub lines : Added (linesText k line) out₀ at out end
-
-pub no-lines : (n : ℕ) (line : ℕ → List ℕ) (out : List ℕ) (at : ℕ) → Lined n line out at out at 0
-unfolding linesText
-no-lines n line out at = record { passed = omega arith; same = refl; lines = none-added out at }
-
-module _ {n : ℕ} {line : ℕ → List ℕ} {out₀ out : List ℕ} {at end k : ℕ} (l : Lined n line out₀ at out end k) where
-  -- there is room for one more where there is room for the most
-  pub room-left : (room most : ℕ) → length (linesText k line) ≤ room * k → k < n → n ≤ most → at + room * most ≤ length out₀ → end + room ≤ length out
-  room-left room most short more few all =
-      let next : room * suc k ≤ room * most = mul-le-mul-left room (omega arith) in
-      omega (arith, l .same, l .lines .ends)
-
-  pub one-more : {last : List ℕ} {stop : ℕ} → k < n → length last ≡ length out → Added (line k) out end last stop → Lined n line out₀ at last stop (k + 1)
-  unfolding linesText
-  one-more more kept added = record { passed = omega arith; same = omega (arith, l .same); lines = rw add-one (added-more (l .lines) added) }
-
-  pub all-lines : n ≤ k → Added (linesText n line) out₀ at out end
-  all-lines h = let e : k ≡ n = omega (arith, l .passed) in rw e at (l .lines)
+  pub system-line : (s : ℕ) → length (systemLine d s) ≤ systemRoom
+  system-line s =
+      let y = getD (d .systems) s noSystem in
+      system-short (length (d .survival)) (y .rule .kind) (y .rule .first) (y .rule .second) (y .a) (y .b)

@@ -1,3 +1,3 @@
 -- The laws of the lines of a file.
 mod Lengths
-mod Printing
+mod Shown

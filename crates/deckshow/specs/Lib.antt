@@ -1,3 +1,2 @@
--- What deckshow prints, and which decks it can show.
+-- What deckshow prints.
 pub mod Lines
-pub mod Showable

@@ -1,5 +1,5 @@
--- How long the lines can be: no number has more than 20 digits, and no deck more than 32 systems. Assumes nothing.
-use Prim.Native.Nat.{ℕ, zero, suc, _*_, _≤_}
+-- How long a line can be: no number has more than 20 digits. Assumes nothing.
+use Prim.Native.Nat.{ℕ, _≤_}
 use native.Mathlib.Omega.{arith}
 use lib.Dec.{eqb}
 use lib.ListN.{length, length-append}
@@ -7,7 +7,7 @@ use Rattle.rules.specs.declared.Verdict.{Verdict}
 use Rattle.rules.specs.declared.Verdict.the-variants.{Works, Fails, Refused}
 use Rattle.rules.proofs.Tests.{by-test}
 use Rattle.text.proofs.Digits.{decimal-short}
-use Rattle.deckstate.specs.Lines.{placeText, verdictText, verdictRoom, lineText, lineRoom, linesText}
+use Rattle.deckstate.specs.Lines.{placeText, verdictText, verdictRoom, lineText, lineRoom}
 
 place-short : (place : ℕ) → length (placeText place) ≤ verdictRoom
 place-short place =
@@ -18,11 +18,5 @@ verdict-short Works = omega arith
 verdict-short (Fails place) = place-short place
 verdict-short (Refused number) = simp length-append (omega (arith, decimal-short number))
 
-line-short : (s : ℕ) (v : Verdict) → length (lineText s v) ≤ lineRoom
+pub line-short : (s : ℕ) (v : Verdict) → length (lineText s v) ≤ lineRoom
 line-short s v = simp length-append (omega (arith, decimal-short s, verdict-short v))
-
-pub lines-short : (m : ℕ) (verdict : ℕ → Verdict) → length (linesText m verdict) ≤ lineRoom * m
-unfolding linesText
-lines-short zero verdict = omega arith
-lines-short (suc m) verdict =
-    omega (arith, length-append (linesText m verdict) (lineText (suc m) (verdict m)), lines-short m verdict, line-short (suc m) (verdict m))

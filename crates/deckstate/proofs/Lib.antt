@@ -1,6 +1,5 @@
 -- The laws of the lines, of the words, and of what is printed for a file and its words.
 mod Lengths
-mod Printing
 mod Spelling
 mod Words
 mod Whole

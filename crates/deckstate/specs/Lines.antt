@@ -1,14 +1,15 @@
 -- What deckstate prints: "`system S works`, `system S fails from F` (kinds 4 to 8, F the fan's number on the deck, not in the stretch), `system S fails` (kinds 1
 -- to 3) or `system S refused R`". And the room that each line takes at most.
 use mathlib.Core.Bool.{cond}
-use mathlib.Core.List.{List, [], _++_}
-use Prim.Native.Nat.{ℕ, zero, suc, _+_, _*_}
+use mathlib.Core.List.{List, _++_}
+use Prim.Native.Nat.{ℕ, _+_, _*_}
 use lib.Dec.{eqb}
 use Rattle.rules.specs.declared.Verdict.{Verdict}
 use Rattle.rules.specs.declared.Verdict.the-variants.{Works, Fails, Refused}
 use Rattle.rules.specs.File.{mostSystems, countIn}
 use Rattle.text.specs.Decimal.{text}
 use Rattle.text.specs.Lines.{named, namedRoom, pairText, pairRoom, refusedText}
+use Rattle.printing.specs.Lines.{linesText}
 use Rattle.states.specs.States.{verdictIn}
 
 -- place 0 is none
@@ -29,17 +30,16 @@ lineText system verdict = named (text "system ") system ++ verdictText verdict
 abbrev pub lineRoom : ℕ
 lineRoom = namedRoom (text "system ") + verdictRoom
 
--- the lines of the first m systems, whose verdicts are counted from 0
-unfoldable pub linesText : (m : ℕ) → (ℕ → Verdict) → List ℕ
-linesText zero verdict = []
-linesText (suc m) verdict = linesText m verdict ++ lineText (suc m) (verdict m)
+-- of a file's system, counted from 0
+abbrev pub systemLine : (state : ℕ) (bytes : List ℕ) (s : ℕ) → List ℕ
+systemLine state bytes s = lineText (s + 1) (verdictIn bytes s state)
 
 abbrev pub linesRoom : ℕ
 linesRoom = lineRoom * mostSystems
 
 -- all that is printed for a state and a file that is not refused, and the room that it is given
 abbrev pub statesText : (state : ℕ) → List ℕ → List ℕ
-statesText state bytes = linesText (countIn bytes) (λ s. verdictIn bytes s state)
+statesText state bytes = linesText (countIn bytes) (systemLine state bytes)
 
 abbrev pub outputRoom : ℕ
 outputRoom = 2048

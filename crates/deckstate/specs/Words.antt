@@ -10,7 +10,7 @@ use Rattle.rules.specs.Below.{within}
 use Rattle.rules.specs.Answer.{unless}
 use Rattle.rules.specs.File.{fansIn, boardCountIn, deckIn, fileRefusal}
 use Rattle.text.specs.Decimal.{text}
-use Rattle.program.specs.Edges.{sameText}
+use Rattle.options.specs.Texts.{sameText}
 use Rattle.states.specs.States.{fanFailed, boardFailed}
 use Rattle.deckstate.specs.declared.hearing.Said.{Said}
 

@@ -3,11 +3,19 @@ ghost use mathlib.Core.Path.{_≡_};
 ghost use Prim.Native.Nat.{_≤_};
 ghost use lib.ListN.{length};
 ghost use Rattle.rules.specs.Refusal.{most};
-ghost use Rattle.deckstate.specs.Words.{numberIn, nothing, fanHeard, boardHeard, asksBoard, heard, ended, HeardAll, SaidBy};
-use program::words::WORD;
+ghost use Rattle.deck.specs.Outcome.{Opens};
+ghost use Rattle.deckstate.specs.Words.{numberIn, nothing, fanHeard, boardHeard, asksBoard, heard, ended};
+ghost use Rattle.deckstate.specs.Words.{HeardAll, SaidBy};
+use deck::Opened;
 
-// What the words so far say: the state of the deck; whether a board's number is due; and the number of the first wrong word, 0 for none, with the most that
-// it could have been.
+// Room for the longest number, so that a longer word, which is cut to none, is none either.
+const WORD: usize = 16;
+
+// Any number of words is taken.
+pub const MOST_WORDS: u64 = 4294967296;
+
+// What the words so far say: the state of the deck; whether a board's number is due; and the number of the first wrong
+// word, 0 for none, with the most that it could have been.
 pub struct Said {
     pub state: u64,
     pub due: bool,
@@ -98,7 +106,7 @@ fn asks_board(g: u64, word: &[u8]) -> bool
     if g == 0 {
         return false;
     }
-    program::same(word, b"board")
+    options::same(word, b"board")
 }
 
 // What is said with one word more, the at-th; what follows a wrong word is not looked at.
@@ -141,32 +149,39 @@ fn end_words(n: u64, count: u64, said: Said) -> Said
     said
 }
 
-// What all words say, over a deck of n fans on these boards, of which there are g.
+// What all words say that are no options, over a deck of n fans on these boards, of which there are g.
 fn hear_words(n: u64, g: u64, boards: &[u8]) -> Said
     requires { ⌜ (n ≤ most) × (length (now boards) ≤ most) ⌝ }
     ensures { λ r. ⌜ HeardAll n g (now (boards .entry)) r ⌝ }
 {
     let count = os::arg_count();
     let mut word = [0u8; WORD];
+    let mut asked = options::nothing();
     let mut said = nothing_said();
     let mut heard: usize = 0;
-    while heard + 1 < count {
-        heard += 1;
-        let length = os::arg(heard, &mut word);
-        said = hear_word(n, g, boards, heard as u64, &word[..length], said);
+    let mut i: usize = 1;
+    while i < count {
+        let length = os::arg(i, &mut word);
+        let next = options::hear(b"-f         =", MOST_WORDS, asked, i, &word[..length]);
+        if next.operands != asked.operands {
+            heard += 1;
+            said = hear_word(n, g, boards, heard as u64, &word[..length], said);
+        }
+        asked = next;
+        i += 1;
     }
     end_words(n, heard as u64, said)
 }
 
-// What the words say of a file's deck; those of a refused file are not looked at.
-pub fn said_of(file: &[u8]) -> Said
+// What the words say of the deck of a file that was opened; those of a refused file are not looked at.
+pub fn said_of(file: &[u8], opened: Opened) -> Said
+    requires { ⌜ Opens (now file) opened ⌝ }
     ensures { λ r. ⌜ SaidBy (now (file .entry)) r ⌝ }
 {
-    if deck::file_refusal(file) != 0 {
+    if opened.refusal != 0 {
         return nothing_said();
     }
-    let n = deck::fans_in(file) as u64;
-    let g = deck::board_count_in(file) as u64;
-    let boards = deck::boards_in(file);
-    hear_words(n, g, boards)
+    let head = opened.head;
+    let boards = deck::boards_in(file, head);
+    hear_words(head.fans as u64, head.boards as u64, boards)
 }

@@ -1,13 +1,14 @@
 // The lines that deckstate prints, put into a buffer.
 ghost use Prim.Native.Nat.{_+_, _≤_};
-ghost use lib.ListN.{length};
+ghost use lib.ListN.{length, take};
 ghost use Rattle.text.specs.Added.{Added};
-ghost use Rattle.printing.specs.Listable.{Listable};
+ghost use Rattle.deck.specs.Outcome.{Opens, Headed, Placed};
+ghost use Rattle.printing.specs.Lines.{printText};
 ghost use Rattle.printing.specs.Front.{WholePrinted};
-ghost use Rattle.states.specs.States.{verdictAt};
-ghost use Rattle.deckstate.specs.Lines.{placeText, verdictText, lineText, linesText, statesText, wrongText};
+ghost use Rattle.deckstate.specs.Lines.{placeText, verdictText, systemLine, statesText, wrongText};
 ghost use Rattle.deckstate.specs.Lines.{verdictRoom, lineRoom, linesRoom, outputRoom, wrongRoom};
-use deck::Deck;
+use deck::Head;
+use deck::Opened;
 use printing::INPUT;
 use rules::Verdict;
 use text::lines;
@@ -41,43 +42,62 @@ fn put_verdict(verdict: Verdict, out: &mut [u8], at: usize) -> usize
     }
 }
 
-// A system's line.
-fn put_system(system: u64, verdict: Verdict, out: &mut [u8], at: usize) -> usize
-    requires { ⌜ at + lineRoom ≤ length (now out) ⌝ }
-    ensures { λ r. ⌜ Added (lineText system verdict) (now (out .entry)) at (now (out .exit)) r ⌝ }
+// The line of a file's system, counted from 0.
+fn put_system(file: &[u8], head: Head, s: usize, state: u64, out: &mut [u8], at: usize) -> usize
+    requires placed { ⌜ Placed (now file) head s ⌝ }
+    requires room { ⌜ at + lineRoom ≤ length (now out) ⌝ }
+    ensures { λ r. ⌜ Added (systemLine state (now (file .entry)) s) (now (out .entry)) at (now (out .exit)) r ⌝ }
 {
-    let end = text::put_named(b"system ", system, out, at);
+    let verdict = states::state_system(file, head, s, state);
+    let end = text::put_named(b"system ", s as u64 + 1, out, at);
     put_verdict(verdict, out, end)
 }
 
-// The lines of a deck's systems.
-fn put_systems(deck: Deck, state: u64, out: &mut [u8]) -> usize
-    requires listable { ⌜ Listable deck ⌝ }
+// The lines of its systems.
+fn put_systems(file: &[u8], head: Head, state: u64, out: &mut [u8]) -> usize
+    requires headed { ⌜ Headed (now file) head ⌝ }
     requires room { ⌜ linesRoom ≤ length (now out) ⌝ }
-    ensures { λ r. ⌜ Added (linesText (deck .count) (λ s. verdictAt deck s state)) (now (out .entry)) 0 (now (out .exit)) r ⌝ }
+    ensures { λ r. ⌜ Added (statesText state (now (file .entry))) (now (out .entry)) 0 (now (out .exit)) r ⌝ }
 {
     let mut end: usize = 0;
-    let mut s: u64 = 0;
-    while s < deck.count {
-        let verdict = states::state_system(deck, s as usize, state);
+    let mut s: usize = 0;
+    while s < head.systems {
+        end = put_system(file, head, s, state, out, end);
         s += 1;
-        end = put_system(s, verdict, out, end);
     }
     end
 }
 
-// All that is printed for an input and a state, where the buffer holds the input's front: all of it, or as much as the buffer takes.
-pub fn state_front(state: u64, input: &[u8; INPUT], filled: usize, out: &mut [u8]) -> usize
+// All that is printed for a file that was opened, and a state.
+fn put_file(file: &[u8], opened: Opened, state: u64, out: &mut [u8]) -> usize
+    requires opens { ⌜ Opens (now file) opened ⌝ }
+    requires room { ⌜ outputRoom ≤ length (now out) ⌝ }
+    ensures { λ r.
+        let text = printText (statesText state) (now (file .entry)) in
+        ⌜ Added text (now (out .entry)) 0 (now (out .exit)) r ⌝ }
+{
+    if opened.refusal != 0 {
+        return printing::put_refused_file(opened.refusal, out);
+    }
+    let head = opened.head;
+    put_systems(file, head, state, out)
+}
+
+// All that is printed for an input and a state, where the buffer holds the input's front, which was opened: all of it,
+// or as much as the buffer takes.
+pub fn state_front(
+    state: u64,
+    input: &[u8; INPUT],
+    filled: usize,
+    opened: Opened,
+    out: &mut [u8],
+) -> usize
     requires within { ⌜ filled ≤ length (now input) ⌝ }
+    requires opens { ⌜ Opens (take filled (now input)) opened ⌝ }
     requires room { ⌜ outputRoom ≤ length (now out) ⌝ }
     ensures { λ r. ⌜ WholePrinted (statesText state) (now (input .entry)) filled (now (out .exit)) r ⌝ }
 {
-    let read = printing::read_front(input, filled);
-    if read.refusal != 0 {
-        return printing::put_refused_file(read.refusal, out);
-    }
-    let deck = read.deck;
-    put_systems(deck, state, out)
+    put_file(printing::front_of(input, filled), opened, state, out)
 }
 
 // The line of a wrong word.

@@ -1,30 +1,28 @@
--- How long the lines can be: no number has more than 20 digits and a minus, no deck more than 64 fans and 32 systems. Assumes nothing.
-use Prim.Native.Nat.{ℕ, zero, suc, _*_, _≤_}
+-- How long lines can be: no number has more than 20 digits and a minus, and no file more than 64 fans. Assumes nothing.
+use mathlib.Core.List.{List}
+use Prim.Native.Nat.{ℕ, _+_, _≤_}
+use native.Mathlib.Nat.{mul-le-mul-left}
 use native.Mathlib.Omega.{arith}
 use lib.ListN.{length, length-append}
 use Rattle.rules.specs.declared.Worth.{Worth}
 use Rattle.rules.specs.declared.Worth.the-variants.{Ends, Refused}
-use Rattle.rules.specs.File.{mostFans}
+use Rattle.rules.specs.File.{mostFans, fansIn, worthIn}
 use Rattle.text.proofs.Digits.{decimal-short, signed-short}
-use Rattle.deckworth.specs.Lines.{worthText, worthRoom, lineText, lineRoom, fansText, fansRoom, systemsText}
+use Rattle.deck.specs.declared.Head.{Head}
+use Rattle.deck.specs.Outcome.{Headed}
+use Rattle.deck.proofs.Sound.{sound}
+use Rattle.printing.proofs.Lined.{lines-short}
+use Rattle.deckworth.specs.Lines.{worthText, worthRoom, lineText, lineRoom, fanLine, fansText, fansRoom}
 
 worth-short : (w : Worth) → length (worthText w) ≤ worthRoom
 worth-short (Ends lower upper) = simp length-append (omega (arith, signed-short lower, signed-short upper))
 worth-short (Refused number) = simp length-append (omega (arith, decimal-short number))
 
-line-short : (s fan : ℕ) (w : Worth) → length (lineText s fan w) ≤ lineRoom
+pub line-short : (s fan : ℕ) (w : Worth) → length (lineText s fan w) ≤ lineRoom
 line-short s fan w = simp length-append (omega (arith, decimal-short s, decimal-short fan, worth-short w))
 
-pub fans-short : (s n : ℕ) (worth : ℕ → Worth) → length (fansText s n worth) ≤ lineRoom * n
-unfolding fansText
-fans-short s zero worth = omega arith
-fans-short s (suc n) worth =
-    let line = lineText s (suc n) (worth (suc n)) in
-    omega (arith, length-append (fansText s n worth) line, fans-short s n worth, line-short s (suc n) (worth (suc n)))
-
-pub systems-short : (m n : ℕ) (worth : ℕ → ℕ → Worth) → n ≤ mostFans → length (systemsText m n worth) ≤ fansRoom * m
-unfolding systemsText
-systems-short zero n worth h = omega arith
-systems-short (suc m) n worth h =
-    let fans = fansText (suc m) n (worth m) in
-    omega (arith, length-append (systemsText m n worth) fans, systems-short m n worth h, fans-short (suc m) n (worth m))
+pub fans-short : {bytes : List ℕ} {head : Head} → Headed bytes head → (s : ℕ) → length (fansText bytes s) ≤ fansRoom
+fans-short {bytes} headed s =
+    let few : fansIn bytes ≤ mostFans = sound bytes (headed .accepted) .most-fans in
+    let all = mul-le-mul-left lineRoom few in
+    omega (arith, lines-short lineRoom (fansIn bytes) (fanLine bytes s) (λ i. line-short (s + 1) (i + 1) (worthIn bytes s (i + 1))))

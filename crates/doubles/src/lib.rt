@@ -1,4 +1,5 @@
-// A chance as a 64-bit float: out by a division by 2^30, in by a multiplication, both exact; and the whole numbers just below and above.
+// A chance as a 64-bit float: out by a division by 2^30, in by a multiplication, both exact; and the whole numbers just
+// below and above.
 ghost use mathlib.Core.Path.{_≡_};
 ghost use mathlib.Core.Bool.{true};
 ghost use Prim.Native.Nat.{_≤_};

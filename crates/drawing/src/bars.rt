@@ -6,9 +6,9 @@ ghost use Rattle.drawn.specs.Drawn.{Drawable, mostDrawn};
 ghost use Rattle.forms.specs.Within.{Within};
 ghost use Rattle.drawing.specs.Drawing.{mostLine, mostLetters};
 use crate::brackets;
-use drawn::FANS;
 use drawn::Shape;
 use drawn::Worths;
+use rules::limit::FANS;
 use text::lines;
 
 // Such a part of the largest end is too little to be seen.
@@ -26,7 +26,8 @@ const FEW: u64 = 24;
 
 const SOME: u64 = 32;
 
-// How far down the line is that the bars of many fans stand on, and the height of the tallest there in hundredths of a step; of few fans half of both.
+// How far down the line is that the bars of many fans stand on, and the height of the tallest there in hundredths of a
+// step; of few fans half of both.
 const TALL: u64 = 100;
 
 const TALLEST: u64 = 9500;
@@ -124,7 +125,7 @@ fn width_of(fans: u64) -> u64
     requires { ⌜ fans ≤ mostDrawn ⌝ }
     ensures { λ r. ⌜ r ≤ 640 ⌝ }
 {
-    drawn::bounded(FEW, fans, 64) * FAN
+    drawn::bounded(FEW, fans, FANS as u64) * FAN
 }
 
 // How large letters are, by the drawing's width.

@@ -2,18 +2,15 @@
 ghost use Prim.Native.Nat.{_≤_};
 ghost use Rattle.rules.specs.State.{S};
 ghost use Rattle.drawn.specs.Drawn.{mostDrawn, Drawable};
+use rules::Rule;
 use rules::System;
+use rules::kind;
+use rules::limit;
+use rules::version;
 use text::lines;
 
-// A deck has no more fans.
-pub const FANS: usize = 64;
-
-const MOST: u64 = 64;
-
-// The larger unit, which no worth is above.
-const UNIT: u64 = 1073741824;
-
-// The deck's fans, the stretch, how long the rule's windows are (0 where it has none), and whether the stretch is a ring.
+// The deck's fans, the stretch, how long the rule's windows are (0 where it has none), and whether the stretch is a
+// ring.
 pub struct Shape {
     pub fans: u64,
     pub from: u64,
@@ -24,8 +21,8 @@ pub struct Shape {
 
 // The two ends of each fan's worth, the first fan's at 0; a fan outside the stretch has none, and 0 stands there.
 pub struct Worths {
-    pub lower: [i64; FANS],
-    pub upper: [i64; FANS],
+    pub lower: [i64; limit::FANS],
+    pub upper: [i64; limit::FANS],
 }
 
 // A number within bounds; those of a system that is answered are.
@@ -43,16 +40,16 @@ pub fn bounded(least: u64, x: u64, most: u64) -> u64
 }
 
 // How long a rule's windows are: kinds 4 and 5 have it as their first number, kinds 6 to 8 as their second.
-fn window_of(kind: u64, first: u64, second: u64) -> u64
+fn window_of(rule: Rule) -> u64
     ensures { λ r. ⌜ r ≤ mostDrawn ⌝ }
 {
-    if kind == 4 || kind == 5 {
-        return bounded(0, first, MOST);
-    }
-    if kind == 6 || kind == 7 || kind == 8 {
-        return bounded(0, second, MOST);
-    }
-    0
+    let kind = rule.kind;
+    let width = match kind {
+        kind::ROW | kind::ROW_ROUND => rule.first,
+        kind::NEAR | kind::NEAR_ROUND | kind::LACKING => rule.second,
+        _ => 0,
+    };
+    bounded(0, width, limit::FANS as u64)
 }
 
 // What is drawn of a system of a deck of so many fans. A line that is shorter than its window is one window.
@@ -60,12 +57,12 @@ pub fn shape_of(fans: u64, system: System) -> Shape
     ensures { λ r. ⌜ Drawable r ⌝ }
 {
     let rule = system.rule;
-    let n = bounded(1, fans, MOST);
+    let n = bounded(1, fans, limit::FANS as u64);
     let from = bounded(1, system.a, n);
     let upto = bounded(from, system.b, n);
-    let window = window_of(rule.kind, rule.first, rule.second);
+    let window = window_of(rule);
     let size = upto + 1 - from;
-    let ring = rule.kind == 5 || rule.kind == 7;
+    let ring = rule.kind == kind::ROW_ROUND || rule.kind == kind::NEAR_ROUND;
     Shape {
         fans: n,
         from,
@@ -81,10 +78,10 @@ fn larger(x: u64, y: u64) -> u64 {
 }
 
 // The largest of so many ends, without their signs.
-fn largest_in(ends: [i64; FANS]) -> u64 {
+fn largest_in(ends: [i64; limit::FANS]) -> u64 {
     let mut largest: u64 = 0;
     let mut i: usize = 0;
-    while i < FANS {
+    while i < limit::FANS {
         largest = larger(largest, lines::absolute(ends[i]));
         i += 1;
     }
@@ -97,5 +94,9 @@ pub fn largest_of(worths: Worths) -> u64
 {
     let lower = worths.lower;
     let upper = worths.upper;
-    bounded(0, larger(largest_in(lower), largest_in(upper)), UNIT)
+    bounded(
+        0,
+        larger(largest_in(lower), largest_in(upper)),
+        version::BINARY,
+    )
 }

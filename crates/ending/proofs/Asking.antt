@@ -17,7 +17,7 @@ use Rattle.rules.proofs.EachKind.{within-true}
 use Rattle.rules.proofs.Accepted.{none-first}
 use Rattle.rules.proofs.Tests.{by-test}
 use Rattle.rules.proofs.Unless.{unless-some, unless-none, unless-by}
-use Rattle.deck.specs.Outcome.{countsRefusal}
+use Rattle.deck.specs.Head.{headOf, countsRefusal}
 use Rattle.ending.specs.Ending.{asksBy, asks, fileAt, longest}
 use Rattle.layout.proofs.Numbers.{number-same}
 use Rattle.layout.proofs.Versions.{header-bounds, header-some, by-boards, fans-bound, without-boards, few-boards}
@@ -28,7 +28,7 @@ pub record Counted (bytes : List ℕ) : Type 0 where
   pub systems : countIn bytes ≤ mostSystems
   pub boards : boardCountIn bytes ≤ mostBoards
 
-pub counted : (bytes : List ℕ) → countsRefusal bytes ≡ 0 → Counted bytes
+pub counted : (bytes : List ℕ) → countsRefusal (headOf bytes) ≡ 0 → Counted bytes
 unfolding countsRefusal
 counted bytes e =
     let size = none-first 1 _ _ e in
@@ -59,22 +59,22 @@ module _ (bytes : List ℕ) where
     past = rw (le-ltb (length bytes) shortestHeader (omega (arith, header-bounds (versionIn bytes))), le-ltb (length bytes) header l)
 
     pub asks-start : badStart bytes ≡ true → asks bytes ≡ header
-    asks-start e = past ∙ ap (λ b. cond b header (unless (countsRefusal bytes) (λ r. header) (lengthIn bytes))) e
+    asks-start e = past ∙ ap (λ b. cond b header (unless (countsRefusal (headOf bytes)) (λ r. header) (lengthIn bytes))) e
 
-    pub asks-refused : badStart bytes ≡ false → (countsRefusal bytes ≡ 0 → ⊥) → asks bytes ≡ header
+    pub asks-refused : badStart bytes ≡ false → (countsRefusal (headOf bytes) ≡ 0 → ⊥) → asks bytes ≡ header
     asks-refused e some =
         past
-        ∙ ap (λ b. cond b header (unless (countsRefusal bytes) (λ r. header) (lengthIn bytes))) e
-        ∙ unless-some (countsRefusal bytes) _ _ some
+        ∙ ap (λ b. cond b header (unless (countsRefusal (headOf bytes)) (λ r. header) (lengthIn bytes))) e
+        ∙ unless-some (countsRefusal (headOf bytes)) _ _ some
 
-    pub asks-whole : badStart bytes ≡ false → countsRefusal bytes ≡ 0 → asks bytes ≡ lengthIn bytes
+    pub asks-whole : badStart bytes ≡ false → countsRefusal (headOf bytes) ≡ 0 → asks bytes ≡ lengthIn bytes
     asks-whole e none =
         past
-        ∙ ap (λ b. cond b header (unless (countsRefusal bytes) (λ r. header) (lengthIn bytes))) e
-        ∙ unless-none (countsRefusal bytes) _ _ none
+        ∙ ap (λ b. cond b header (unless (countsRefusal (headOf bytes)) (λ r. header) (lengthIn bytes))) e
+        ∙ unless-none (countsRefusal (headOf bytes)) _ _ none
 
 -- no file asks for more than the longest has
-pub whole-most : (bytes : List ℕ) → countsRefusal bytes ≡ 0 → lengthIn bytes ≤ longest
+pub whole-most : (bytes : List ℕ) → countsRefusal (headOf bytes) ≡ 0 → lengthIn bytes ≤ longest
 whole-most bytes e =
     let few = counted bytes e in
     omega (arith, few .fans, few .systems, few .boards, header-bounds (versionIn bytes), fans-bound (versionIn bytes) (fansIn bytes))
@@ -135,7 +135,7 @@ header-least bytes long =
           let h = headerLength (versionIn bytes) in
           rw (past bytes l)
           (by-test (λ x. h ≤ x) (badStart bytes) _ _ (λ e. omega arith)
-          (λ e. unless-by (λ x. h ≤ x) (countsRefusal bytes) (λ r. h) (lengthIn bytes) (omega arith) (λ none. omega arith)))
+          (λ e. unless-by (λ x. h ≤ x) (countsRefusal (headOf bytes)) (λ r. h) (lengthIn bytes) (omega arith) (λ none. omega arith)))
     ]
 
 pub shortest-least : (bytes : List ℕ) → shortestHeader ≤ asks bytes

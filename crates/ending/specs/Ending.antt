@@ -7,13 +7,13 @@ use lib.ListN.{take, drop}
 use Rattle.rules.specs.Refusal.{lastVersion, mostBoards}
 use Rattle.rules.specs.Answer.{unless}
 use Rattle.rules.specs.File.{mostFans, mostSystems, shortestHeader, headerLength, fileLength, versionIn, lengthIn, shortFile, shortHeader, badStart}
-use Rattle.deck.specs.Outcome.{countsRefusal}
+use Rattle.deck.specs.Head.{headOf, countsRefusal}
 
 -- "where its counts say", by a header that is there: a refused one asks for nothing behind it
 abbrev pub asksBy : List ℕ → ℕ
 asksBy bytes =
     let header = headerLength (versionIn bytes) in
-    cond (badStart bytes) header (unless (countsRefusal bytes) (λ r. header) (lengthIn bytes))
+    cond (badStart bytes) header (unless (countsRefusal (headOf bytes)) (λ r. header) (lengthIn bytes))
 
 -- the header first, and then what it asks for
 unfoldable pub asks : List ℕ → ℕ

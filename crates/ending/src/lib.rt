@@ -19,11 +19,12 @@ pub fn asks(bytes: &[u8]) -> usize
     if bytes.len() < header {
         return header;
     }
-    if deck::bad_start(bytes) {
+    if deck::bad_start(bytes, version) {
         return header;
     }
-    if deck::counts_refusal(bytes) != 0 {
+    let head = deck::head_given(bytes, version);
+    if deck::counts_refusal(head) != 0 {
         return header;
     }
-    deck::length_given(bytes)
+    deck::length_given(head)
 }

@@ -8,6 +8,7 @@ ghost use Rattle.units.specs.Step.{whole};
 ghost use Rattle.places.specs.Cells.{Both, Kept};
 use places::Ends;
 use rules::Rule;
+use rules::kind;
 
 pub fn rate(
     decimal: bool,
@@ -18,16 +19,18 @@ pub fn rate(
     table: &mut [u64],
 ) -> Ends
     requires { ⌜ Ratable (whole decimal) rule (now survival) (besideOf rule (now weights) (now more)) (now table) ⌝ }
-    ensures figure { λ r. ⌜ Both (λ up. figure up (whole decimal) rule (now (survival .entry)) (besideOf rule (now (weights .entry)) (now (more .entry)))) r ⌝ }
+    ensures figure { λ r.
+        let beside = besideOf rule (now (weights .entry)) (now (more .entry)) in
+        ⌜ Both (λ up. figure up (whole decimal) rule (now (survival .entry)) beside) r ⌝ }
     ensures kept { λ r. ⌜ Kept (now (table .entry)) (now (table .exit)) ⌝ }
 {
-    let kind = rule.kind;
-    match kind {
-        4 => runs::line(decimal, rule.first as usize, survival, table),
-        5 => runs::ring(decimal, rule.first as usize, survival, table),
-        6 => gaps::line(decimal, rule.second as usize, survival, table),
-        7 => gaps::ring(decimal, rule.second as usize, survival, table),
-        8 => windows::rate(decimal, rule.first, rule.second, more, survival, table),
+    let asked = rule.kind;
+    match asked {
+        kind::ROW => runs::line(decimal, rule.first as usize, survival, table),
+        kind::ROW_ROUND => runs::ring(decimal, rule.first as usize, survival, table),
+        kind::NEAR => gaps::line(decimal, rule.second as usize, survival, table),
+        kind::NEAR_ROUND => gaps::ring(decimal, rule.second as usize, survival, table),
+        kind::LACKING => windows::rate(decimal, rule.first, rule.second, more, survival, table),
         _ => rows::rate(decimal, rule, survival, weights, table),
     }
 }

@@ -1,20 +1,20 @@
-// The worth of a fan to a system of a deck, and of a file.
+// The worth of a fan to a system of a file.
 ghost use mathlib.Core.List.{[]};
 ghost use mathlib.Core.Path.{_≡_};
 ghost use lib.ListN.{replicate};
-ghost use Rattle.rules.specs.Asked.{askedOf};
+ghost use Rattle.rules.specs.Asked.{questionOf, askedOf};
 ghost use Rattle.rules.specs.Refusal.{cells};
 ghost use Rattle.rules.specs.Worth.{worthOf};
 ghost use Rattle.rules.specs.File.{worthIn, worthLoadingOf};
 ghost use Rattle.deck.specs.Outcome.{Placed};
-ghost use Rattle.systems.specs.Arrays.{worthAt, Held};
-use cells::CELLS;
-use deck::Deck;
+use deck::Head;
 use rules::NO_MORE;
+use rules::Question;
 use rules::System;
 use rules::Worth;
+use rules::limit::CELLS;
 
-// The worth of a fan over a deck's lists, in a working table of the call's own, which nobody sees after it and nobody clears.
+// The worth of a fan over a deck's lists, in a working table of its own, which nobody sees after it and nobody clears.
 fn weigh_lists(
     version: u64,
     system: System,
@@ -24,33 +24,22 @@ fn weigh_lists(
     boards: &[u8],
     switchboards: &[u32],
 ) -> Worth
-    ensures { λ r. ⌜ r ≡ worthOf (askedOf version (system .rule) (system .a) (system .b) (now (survival .entry)) (now (weights .entry)) [] (now (boards .entry)) (now (switchboards .entry))) fan (replicate cells 0) ⌝ }
+    ensures { λ r.
+        let question = questionOf version (system .rule) (system .a) (system .b) in
+        let q = askedOf question (now (survival .entry)) (now (weights .entry)) []
+        (now (boards .entry)) (now (switchboards .entry)) in
+        ⌜ r ≡ worthOf q fan (replicate cells 0) ⌝ }
 {
-    let mut working = [0u64; CELLS];
     let rule = system.rule;
-    let a = system.a;
-    let b = system.b;
-    let refused = worth::refusal(
+    let question = Question {
         version,
         rule,
-        a,
-        b,
-        fan,
-        survival,
-        weights,
-        &NO_MORE,
-        boards,
-        switchboards,
-        &working,
-    );
-    if refused != 0 {
-        return Worth::Refused(refused);
-    }
+        a: system.a,
+        b: system.b,
+    };
+    let mut working = [0u64; CELLS];
     worth::weigh(
-        version,
-        rule,
-        a,
-        b,
+        question,
         fan,
         survival,
         weights,
@@ -61,45 +50,21 @@ fn weigh_lists(
     )
 }
 
-// The worth of a fan to the system at a place of a deck, counted from 0.
-pub fn worth_system(deck: Deck, s: usize, fan: u64) -> Worth
-    requires { ⌜ Held deck s ⌝ }
-    ensures { λ r. ⌜ r ≡ worthAt deck s fan ⌝ }
-{
-    let fans = deck.fans as usize;
-    let placed = layout::board_fans(deck.version, fans);
-    let g = deck.g as usize;
-    let survival = deck.survival;
-    let weights = deck.weights;
-    let boards = deck.boards;
-    let switchboards = deck.switchboards;
-    let system = deck.systems[s];
-    weigh_lists(
-        deck.version,
-        system,
-        fan,
-        &survival[..fans],
-        &weights[..fans],
-        &boards[..placed],
-        &switchboards[..g],
-    )
-}
-
-// The worth of a fan to the system at a place of a file that is not refused, counted from 0. Only the lists are copied from the file's bytes.
-pub fn weigh_in(file: &[u8], s: usize, fan: u64) -> Worth
-    requires { ⌜ Placed (now file) s ⌝ }
+// The worth of a fan to the system at a place of a file that is not refused, counted from 0. Only the lists are copied
+// from the file's bytes.
+pub fn weigh(file: &[u8], head: Head, s: usize, fan: u64) -> Worth
+    requires { ⌜ Placed (now file) head s ⌝ }
     ensures { λ r. ⌜ r ≡ worthIn (now (file .entry)) s fan ⌝ }
 {
-    let version = deck::version_in(file);
-    let n = deck::fans_in(file);
-    let survival = deck::survival_in(file);
-    let weights = deck::weights_in(file);
-    let boards = deck::boards_in(file);
-    let g = deck::board_count_in(file);
-    let switchboards = deck::board_survival_in(file);
-    let system = deck::system_in(file, s);
+    let n = head.fans;
+    let g = head.boards;
+    let survival = deck::survival_in(file, head);
+    let weights = deck::weights_in(file, head);
+    let boards = deck::boards_in(file, head);
+    let switchboards = deck::board_survival_in(file, head);
+    let system = deck::system_in(file, head, s);
     weigh_lists(
-        version,
+        head.version,
         system,
         fan,
         &survival[..n],
@@ -113,9 +78,11 @@ pub fn weigh_in(file: &[u8], s: usize, fan: u64) -> Worth
 pub fn weigh_file(file: &[u8], system: u64, fan: u64) -> Worth
     ensures { λ r. ⌜ r ≡ worthLoadingOf (now (file .entry)) system fan ⌝ }
 {
-    let refused = systems::refusal(file, system);
+    let opened = deck::open(file);
+    let refused = systems::refusal(opened, system);
     if refused != 0 {
         return Worth::Refused(refused);
     }
-    weigh_in(file, (system - 1) as usize, fan)
+    let head = opened.head;
+    weigh(file, head, (system - 1) as usize, fan)
 }

@@ -28,7 +28,8 @@ pub fn put_fault(
     at: usize,
 ) -> usize
     requires { ⌜ at + faultRoom ≤ length (now out) ⌝ }
-    ensures { λ r. ⌜ Added (faultText (faultAt line (now (word .entry)) wanted named)) (now (out .entry)) at (now (out .exit)) r ⌝ }
+    ensures { λ r. ⌜ Added (faultText (faultAt line (now (word .entry)) wanted named)) (now (out .entry)) at
+        (now (out .exit)) r ⌝ }
 {
     let spot = put_spot(line, word, out, at);
     let middle = text::put(out, spot, b": wanted ");

@@ -16,7 +16,7 @@ use Rattle.rules.specs.Below.{within}
 use Rattle.rules.specs.State.{S, unitOf}
 use Rattle.rules.specs.Figure.{figure, low, high}
 use Rattle.rules.specs.Stretch.{stretch}
-use Rattle.rules.specs.Asked.{Asked, askedOf, readOf, roundedOf}
+use Rattle.rules.specs.Asked.{Asked, questionOf, askedOf, readOf, roundedOf}
 use Rattle.rules.specs.Refusal.{firstOf, badKind, badSize, badStretch, someAbove, badWeights, inRange, shortTable, figuresRefusal}
 use Rattle.rules.specs.Answer.{Rates, tableAfter}
 use Rattle.rules.proofs.WithoutBoards as without
@@ -44,9 +44,9 @@ pub record RatedBefore (rule : Rule) (a b : ℕ) (survival weights t₀ t : List
   pub answer : Rates r (refusalBefore rule a b survival weights t₀) (low S rule (stretch a b survival) (stretch a b weights)) (high S rule (stretch a b survival) (stretch a b weights))
   pub table : t ≡ tableAfter (refusalBefore rule a b survival weights t₀) t₀
 
-module _ (rule : Rule) (a b : ℕ) (survival weights more boards boardSurvival : List ℕ) (earlier : rule .kind ≡ 8 → ⊥) where
+module _ (rule : Rule) (a b : ℕ) (survival weights more boards switchboards : List ℕ) (earlier : rule .kind ≡ 8 → ⊥) where
   abbrev q : Asked
-  q = askedOf 1 rule a b survival weights more boards boardSurvival
+  q = askedOf (questionOf 1 rule a b) survival weights more boards switchboards
 
   kind-same : badKind rule ≡ badKindBefore rule
   kind-same = ap (λ x. not (leb 1 (rule .kind) && x)) (go (decLe (rule .kind) 7))

@@ -10,7 +10,7 @@ use Rattle.rules.specs.declared.Rating.{Rating}
 use Rattle.rules.specs.State.{S, unitOf, besideOf}
 use Rattle.rules.specs.Figure.{figure, low, high}
 use Rattle.rules.specs.Stretch.{stretch}
-use Rattle.rules.specs.Asked.{Asked, askedOf, roundedOf}
+use Rattle.rules.specs.Asked.{Asked, questionOf, askedOf, roundedOf}
 use Rattle.rules.specs.Refusal.{firstOf, badKind, badSize, badStretch, someAbove, badWeights, inRange, shortTable, figuresRefusal}
 use Rattle.rules.specs.Answer.{Rates, tableAfter}
 use Rattle.rules.proofs.WithoutBoards.{refusalBefore, refusal-before, rounded-before}
@@ -38,9 +38,9 @@ module _ (rule : Rule) (a b : ℕ) (survival weights more : List ℕ) where
     pub answer : Rates r (refusalOfOne t₀) (low S rule (stretch a b survival) beside) (high S rule (stretch a b survival) beside)
     pub table : t ≡ tableAfter (refusalOfOne t₀) t₀
 
-  module _ (boards boardSurvival : List ℕ) where
+  module _ (boards switchboards : List ℕ) where
     abbrev q : Asked
-    q = askedOf 1 rule a b survival weights more boards boardSurvival
+    q = askedOf (questionOf 1 rule a b) survival weights more boards switchboards
 
     refusal-same : (table : List ℕ) → figuresRefusal q table ≡ refusalOfOne table
     unfolding refusalBefore refusalOfOne firstOf unitOf

@@ -1,6 +1,5 @@
--- The part that is rated, the call's outcome, that a better list is rated no lower, that kinds 1 to 7, and version 1, are answered as they were, and that the call for a
+-- The call's outcome, that a better list is rated no lower, that kinds 1 to 7, and version 1, are answered as they were, and that the call for a
 -- whole list, which it took the place of, answered as it does.
-pub mod Part
 pub mod Outcome
 pub mod Better
 pub mod Earlier

@@ -16,7 +16,7 @@ use Rattle.rules.specs.Below.{total}
 use Rattle.rules.specs.State.{S}
 use Rattle.rules.specs.Figure.{figure, low, high}
 use Rattle.rules.specs.Stretch.{stretch}
-use Rattle.rules.specs.Asked.{askedOf}
+use Rattle.rules.specs.Asked.{questionOf, askedOf}
 use Rattle.rules.specs.Refusal.{firstOf, badSize, someAbove, heaviest, weightsOut, badWeights, inRange, shortTable}
 use Rattle.rules.specs.Answer.{Rates, tableAfter}
 use Rattle.rules.proofs.EachKind.{within-true}
@@ -92,9 +92,9 @@ module _ (rule : Rule) (survival weights : List ℕ) (earlier : rule .kind ≡ 8
     five-past e = five-same ∙ none-first 4 _ _ (none-first 3 _ _ (none-first 2 _ _ (none-first 1 _ _ (none-first 0 _ _ e .1) .1) .1) .1) .0
 
     -- the theorem
-    pub whole-as-before : (more boards boardSurvival : List ℕ) {t : List ℕ} {r : Rating} → Rated (askedOf 1 rule 1 n survival weights more boards boardSurvival) table t r → Listed rule survival weights table t r
-    whole-as-before more boards boardSurvival {t} {r} h =
-        let v = rated-as-before rule 1 n survival weights more boards boardSurvival earlier h in
+    pub whole-as-before : (more boards switchboards : List ℕ) {t : List ℕ} {r : Rating} → Rated (askedOf (questionOf 1 rule 1 n) survival weights more boards switchboards) table t r → Listed rule survival weights table t r
+    whole-as-before more boards switchboards {t} {r} h =
+        let v = rated-as-before rule 1 n survival weights more boards switchboards earlier h in
         record {
           answer = rates-same r whole-refusal (λ e. (sym (figure-same false (five-past e)), sym (figure-same true (five-past e)))) (v .answer);
           table = v .table ∙ ap (λ q. tableAfter q table) whole-refusal;

@@ -21,7 +21,7 @@ pub record Whole (bytes : List ℕ) (at : ℕ) (s : Sizes) : Type 0 where
   pub weights : s .weights ≤ mostNumbers
   pub more : s .more ≤ mostNumbers
   pub boards : s .boards ≤ mostNumbers
-  pub switchboards : s .switchboards ≤ mostNumbers
+  pub g : s .g ≤ mostNumbers
   pub room : s .room ≤ mostCells
-  pub long : s .long ≡ otherWords + s .fans + s .weights + s .more + s .boards + s .switchboards
-  pub ends : at + otherWords + s .fans + s .weights + s .more + s .boards + s .switchboards ≤ length bytes
+  pub long : s .long ≡ otherWords + s .fans + s .weights + s .more + s .boards + s .g
+  pub ends : at + otherWords + s .fans + s .weights + s .more + s .boards + s .g ≤ length bytes

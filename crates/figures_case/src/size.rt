@@ -26,15 +26,15 @@ fn cut_short() -> Sizes
         weights: 0,
         more: 0,
         boards: 0,
-        switchboards: 0,
+        g: 0,
         long: 0,
         room: 0,
         whole: false,
     }
 }
 
-// Does the case at `at`, of n survival numbers, w weights, m numbers of further pairs, p board numbers and g boards, end within the file, and does each
-// number fit its list?
+// Does the case at `at`, of n survival numbers, w weights, m numbers of further pairs, p board numbers and g boards,
+// end within the file, and does each number fit its list?
 fn fits(bytes: &[u8], at: usize, n: usize, w: usize, m: usize, p: usize, g: usize) -> bool
     requires begins { ⌜ at ≤ length (now bytes) ⌝ }
     requires few { ⌜ n ≤ mostNumbers ⌝ }
@@ -59,7 +59,8 @@ fn fits(bytes: &[u8], at: usize, n: usize, w: usize, m: usize, p: usize, g: usiz
     words::fit(bytes, at + OTHERS + n + w + m + p, g, words::LONG_LIMIT)
 }
 
-// The sizes of the case at `at`, of n survival numbers, w weights and m numbers of further pairs, whose table has so many cells.
+// The sizes of the case at `at`, of n survival numbers, w weights and m numbers of further pairs, whose table has so
+// many cells.
 fn boarded_at(bytes: &[u8], at: usize, n: usize, w: usize, m: usize, room: usize) -> Sizes
     requires begins { ⌜ at ≤ length (now bytes) ⌝ }
     requires few { ⌜ n ≤ mostNumbers ⌝ }
@@ -73,19 +74,19 @@ fn boarded_at(bytes: &[u8], at: usize, n: usize, w: usize, m: usize, room: usize
         return cut_short();
     }
     let boards = p as usize;
-    let g = words::word(bytes, at + PLACED + n + w + m + boards);
-    if g > MOST_NUMBERS as u64 {
+    let count = words::word(bytes, at + PLACED + n + w + m + boards);
+    if count > MOST_NUMBERS as u64 {
         return cut_short();
     }
-    let switchboards = g as usize;
-    let long = OTHERS + n + w + m + boards + switchboards;
-    let whole = fits(bytes, at, n, w, m, boards, switchboards);
+    let g = count as usize;
+    let long = OTHERS + n + w + m + boards + g;
+    let whole = fits(bytes, at, n, w, m, boards, g);
     Sizes {
         fans: n,
         weights: w,
         more: m,
         boards,
-        switchboards,
+        g,
         long,
         room,
         whole,

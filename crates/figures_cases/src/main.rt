@@ -1,10 +1,11 @@
-// Runs the cases of standard input and writes an answer and the checksum of the lent table a line. All of the input is words of 64 bits, lowest
-// byte first: the number of cases, then each case. A case that is cut short ends the run.
+// Runs the cases of standard input and writes an answer and the checksum of the lent table a line. All of the input is
+// words of 64 bits, lowest byte first: the number of cases, then each case. A case that is cut short ends the run.
+mod lists; // lists.rt: a case's lists
+
 ghost use Prim.Native.Nat.{_+_, _≤_};
 ghost use lib.ListN.{length};
 ghost use Rattle.io.specs.Counts.{Counts};
 ghost use Rattle.figures_case.specs.Whole.{headWords, Whole};
-use casefile::MOST_NUMBERS;
 use casefile::cases;
 use casefile::tables;
 use casefile::words;
@@ -27,9 +28,26 @@ use figures_case::line::put_line;
 use figures_case::size;
 use libc::STDIN_FILENO;
 use libc::STDOUT_FILENO;
+use rules::Question;
 
 // The call for the worth of a fan.
 const WORTH: u64 = 1;
+
+// What the case at `at` asks beside its lists.
+fn question_at(bytes: &[u8], at: usize) -> Question
+    requires { ⌜ at + headWords ≤ length (now bytes) ⌝ }
+{
+    let version = words::word(bytes, at + VERSION);
+    let rule = cases::rule_at(bytes, at + RULE);
+    let a = words::word(bytes, at + A);
+    let b = words::word(bytes, at + B);
+    Question {
+        version,
+        rule,
+        a,
+        b,
+    }
+}
 
 // The answer that the case at `at` asks of its lists.
 fn asked(
@@ -44,17 +62,11 @@ fn asked(
 ) -> Answer
     requires { ⌜ at + headWords ≤ length (now bytes) ⌝ }
 {
-    let version = words::word(bytes, at + VERSION);
-    let rule = cases::rule_at(bytes, at + RULE);
-    let a = words::word(bytes, at + A);
-    let b = words::word(bytes, at + B);
+    let question = question_at(bytes, at);
     if words::word(bytes, at + CALL) == WORTH {
         let fan = words::word(bytes, at + FAN);
         return Answer::Weighed(worth::worth(
-            version,
-            rule,
-            a,
-            b,
+            question,
             fan,
             survival,
             weights,
@@ -65,10 +77,7 @@ fn asked(
         ));
     }
     Answer::Rated(figures::figures(
-        version,
-        rule,
-        a,
-        b,
+        question,
         survival,
         weights,
         more,
@@ -78,7 +87,7 @@ fn asked(
     ))
 }
 
-// The same, with the lists read from the case.
+// The same, with the lists read from the case: each stands behind the word that says how long it is.
 fn answered(bytes: &[u8], at: usize, s: Sizes, table: &mut [u64]) -> Answer
     requires { ⌜ Whole (now bytes) at s ⌝ }
 {
@@ -86,17 +95,12 @@ fn answered(bytes: &[u8], at: usize, s: Sizes, table: &mut [u64]) -> Answer
     let w = s.weights;
     let m = s.more;
     let p = s.boards;
-    let g = s.switchboards;
-    let mut survival = [0u32; MOST_NUMBERS];
-    words::longs(bytes, at + HEAD, &mut survival[..n]);
-    let mut weights = casefile::weights_room();
-    words::shorts(bytes, at + WEIGHED + n, &mut weights[..w]);
-    let mut more = casefile::more_room();
-    words::fulls(bytes, at + PAIRED + n + w, &mut more[..m]);
-    let mut boards = [0u8; MOST_NUMBERS];
-    words::octets(bytes, at + PLACED + n + w + m, &mut boards[..p]);
-    let mut switchboards = [0u32; MOST_NUMBERS];
-    words::longs(bytes, at + OTHERS + n + w + m + p, &mut switchboards[..g]);
+    let g = s.g;
+    let survival = lists::longs(bytes, at + HEAD, n);
+    let weights = lists::shorts(bytes, at + WEIGHED + n, w);
+    let more = lists::fulls(bytes, at + PAIRED + n + w, m);
+    let boards = lists::octets(bytes, at + PLACED + n + w + m, p);
+    let switchboards = lists::longs(bytes, at + OTHERS + n + w + m + p, g);
     asked(
         bytes,
         at,

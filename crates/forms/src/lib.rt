@@ -1,4 +1,5 @@
-// Forms: texts with marks that numbers are filled in for. What the buffer has no room for is left out, as by `text::put`.
+// Forms: texts with marks that numbers are filled in for. What the buffer has no room for is left out, as by
+// `text::put`.
 ghost use Prim.Native.Nat.{suc, _^_, _≤_, _<_};
 ghost use lib.ListN.{length};
 ghost use Rattle.forms.specs.Within.{Within};

@@ -13,13 +13,15 @@ use Rattle.rules.specs.Figure.{rounded, mixed, value}
 use Rattle.rules.proofs.Rounding.{nothing}
 use Rattle.memory.specs.declared.owed.Owed.{Owed}
 use Rattle.memory.specs.Owed.{owed, owedWorked, owedWorks, owing}
+use Rattle.memory.proofs.Moves.{owed-worked-before}
 use Rattle.memory.proofs.Owing.{owed-works, owed-fails, owed-ends, owed-dead}
 use Rattle.places.specs.declared.Ends.{Ends}
 use Rattle.units.specs.declared.debt.Shares.{Shares}
 use Rattle.places.specs.Cells.{Both, MustWork, Place, Workable, cellAt, one, sharesAt, valueOf}
 use Rattle.places.proofs.Cells.{both-at, both-as}
 use Rattle.places.proofs.Values.{Chance, valued-dead, valued-suc, valued-within}
-use Rattle.gaps.specs.Gaps.{Due, Shared, shares}
+use Rattle.gaps.specs.Gaps.{Due, Shared}
+use Rattle.places.specs.Map.{shares}
 
 module _ {u : ℕ} (whole : 0 < u) (r : ℕ) (survival : List ℕ) (up : Bool) where
   -- a memory that owes nothing before a component
@@ -74,12 +76,12 @@ unfolding value
 end-valued u r survival m alive end = both-as (λ up. rw (end, owed-ends r 0 m alive))
 
 -- a component that must work
-module _ {u r : ℕ} {m : Owed} {i : ℕ} {survival : List ℕ} {after : Ends} {t : List ℕ} (y : Due u r m i survival after t) where
+module _ {u r : ℕ} {hand : Owed} {i : ℕ} {survival : List ℕ} {ends : Ends} {t : List ℕ} (y : Due u r hand i survival ends t) where
   pub due-place : Place (shares + i) t
   due-place = record { low = omega (arith, y .size, y .list .size); room = y .list .room }
 
   module _ (p q : ℕ) (is : Chance u survival i p q) where
-    pub due-must : {s : Shares} → Both (λ up. cellAt t up (shares + i)) (sharesAt s) → MustWork u p q s after
+    pub due-must : {s : Shares} → Both (λ up. cellAt t up (shares + i)) (sharesAt s) → MustWork u p q s ends
     due-must b = record {
       survival = rw (is .read) (y .list .units i);
       rest = is .rest;
@@ -87,11 +89,14 @@ module _ {u r : ℕ} {m : Owed} {i : ℕ} {survival : List ℕ} {after : Ends} {
         of-p = rw (is .read, b .low) (y .shared .row false i (y .size));
         of-q = rw (is .read, b .high) (y .shared .row true i (y .size));
       };
-      left = valued-within (y .list .whole) (owing r) survival (y .list .units) i (owedWorked m) (y .value);
+      left = valued-within (y .list .whole) (owing r) survival (y .list .units) i hand (y .value);
     }
 
-    pub due-more : {e : Ends} → Both (λ up. rounded up u (mixed u p (one up after) 0)) e → Both (λ up. valueOf u (owing r) survival m up (i + 1)) e
-    due-more = both-as (λ up. rw (is .read, both-at (y .value) up) (sym (due-before (y .list .whole) r survival up m i (y .some) (y .alive))))
+    pub due-more : {e : Ends} → Both (λ up. rounded up u (mixed u p (one up ends) 0)) e → Both (λ up. valueOf u (owing r) survival (owed (hand .clean) (hand .owed + 1)) up (i + 1)) e
+    due-more =
+        both-as (λ up.
+        rw (is .read, both-at (y .value) up)
+        (sym (rw (owed-worked-before hand) at (due-before (y .list .whole) r survival up (owed (hand .clean) (hand .owed + 1)) i (omega arith) (y .alive)))))
 
 -- a debt taken back to i components left
 pub record Back (u r x g from : ℕ) (survival : List ℕ) (i : ℕ) (m : Owed) (ends : Ends) : Type 0 where
@@ -110,17 +115,15 @@ module _ {u r x g from : ℕ} {survival : List ℕ} {i : ℕ} {m : Owed} {ends :
   earlier : {m' : Owed} → m' ≡ owed (m .clean) (m .owed + 1) → m' ≡ owed x (g + (i + 1 - from))
   earlier before = before ∙ rw (v .is) (ap (owed x) (omega (arith, v .least)))
 
-  pub back-due : {m' : Owed} → m' ≡ owed (m .clean) (m .owed + 1) → i < length survival → g + (i + 1 - from) < r → {t : List ℕ} → Workable u survival t → Shared u survival t → Due u r m' i survival ends t
-  back-due {m'} before size alive list shared = record {
-    some = rw before (omega arith);
-    alive = rw (earlier before) alive;
+  pub back-due : i < length survival → g + (i + 1 - from) < r → {t : List ℕ} → Workable u survival t → Shared u survival t → Due u r m i survival ends t
+  back-due size alive list shared = record {
+    alive = rw (v .is) (omega (arith, v .least));
     size = size;
     list = list;
     shared = shared;
-    value =
-        let e : m .owed + 1 - 1 ≡ m .owed = omega arith in
-        rw (before, e) (v .value);
+    value = v .value;
   }
 
-  pub back-more : {m' : Owed} {e : Ends} → m' ≡ owed (m .clean) (m .owed + 1) → Both (λ up. valueOf u (owing r) survival m' up (i + 1)) e → Back u r x g from survival (i + 1) m' e
-  back-more before b = record { least = omega (arith, v .least); is = earlier before; value = b }
+  pub back-more : {m' : Owed} {e : Ends} → m' ≡ owed (m .clean) (m .owed + 1) → Both (λ up. valueOf u (owing r) survival (owed (m .clean) (m .owed + 1)) up (i + 1)) e
+      → Back u r x g from survival (i + 1) m' e
+  back-more before b = record { least = omega (arith, v .least); is = earlier before; value = rw before b }

@@ -13,7 +13,8 @@ use Rattle.rules.specs.Refusal.{most}
 use Rattle.memory.specs.declared.owed.Owed.{Owed}
 use Rattle.memory.specs.Owed.{owed, owedFailed, owedWorks, owing}
 use Rattle.places.specs.declared.Ends.{Ends}
-use Rattle.places.specs.Cells.{Both, Put, Kept, Place, cellAt, half, one, valueOf}
+use Rattle.places.specs.Cells.{Both, Put, Kept, Place, cellAt, one, valueOf}
+use Rattle.places.specs.Map.{half}
 use Rattle.places.proofs.Cells.{both-at, both-as, row-none, row-other, row-more, workable-kept, kept-none, kept-trans}
 use Rattle.places.proofs.Values.{valued-within}
 use Rattle.gaps.specs.declared.Known.{Known}
@@ -117,8 +118,9 @@ stands-first y b = record { holds = y; value = holds-at y _ (omega arith) b; kep
 -- a component more
 module _ {u r x left : ℕ} {survival : List ℕ} {works fails : Ends} {t₀ t : List ℕ} (y : Stands u r x left survival works t₀ t) (l : left < length survival)
     (f : Both (λ up. valueOf u (owing r) survival (owed x (r - 1)) up left) fails) where
-  pub stands-stepping : Stepping u left survival works fails t
-  stands-stepping = record {
+  pub stands-stepping : {free : Owed} → free .owed ≡ 0 → Stepping u free left survival works fails t
+  stands-stepping none = record {
+    none = none;
     size = l;
     list = y .holds .asked .list;
     works-small = valued-within (y .holds .asked .list .whole) (owing r) survival (y .holds .asked .list .units) left (owed x 0) (y .value);

@@ -1,5 +1,4 @@
 -- The shares of the components' numbers as the table holds them: written one component at a time, and left alone by what is written elsewhere. Assumes nothing.
-use mathlib.Core.Path.{_≡_}
 use mathlib.Core.Bool.{Bool, true, false, cond}
 use mathlib.Core.Logic.{inr}
 use mathlib.Core.List.{List}
@@ -11,9 +10,10 @@ use Rattle.rules.specs.State.{failure}
 use Rattle.rules.specs.Refusal.{most}
 use Rattle.units.specs.Share.{Dealt}
 use Rattle.places.specs.declared.Ends.{Ends}
-use Rattle.places.specs.Cells.{Kept, Put, Written, cellAt, half, one}
+use Rattle.places.specs.Cells.{Kept, Put, Written, cellAt, one}
+use Rattle.places.specs.Map.{half, shares}
 use Rattle.places.proofs.Cells.{kept-none, kept-trans}
-use Rattle.gaps.specs.Gaps.{Shared, shares}
+use Rattle.gaps.specs.Gaps.{Shared}
 
 -- a component's P or Q
 abbrev pub numberAt : (u : ℕ) (survival : List ℕ) → Bool → ℕ → ℕ

@@ -1,6 +1,6 @@
 -- What comes out is document 01's: the memory that owes nothing past r - 1 clean ones is the line's start; the open clean ones, a component at a time, are
 -- the ring's. Assumes nothing.
-use mathlib.Core.Path.{_≡_, refl, sym, ap, _∙_}
+use mathlib.Core.Path.{_≡_, refl, sym, ap, subst, _∙_}
 use mathlib.Core.Bool.{Bool, true, cond}
 use mathlib.Core.List.{List}
 use Prim.Native.Nat.{ℕ, suc, _+_, _-_, _≤_, _<_, min}
@@ -12,7 +12,7 @@ use Rattle.rules.specs.Memory.{machineOf, row6, row7, ended, end7}
 use Rattle.rules.specs.Figure.{rounded, mixed, value, figureOf}
 use Rattle.memory.specs.declared.owed.Owed.{Owed}
 use Rattle.memory.specs.declared.owed.Clean.{Clean}
-use Rattle.memory.specs.Owed.{owed, cleanAfter, cleanFailed, owing}
+use Rattle.memory.specs.Owed.{owed, cleanAfter, cleanWorked, cleanFailed, owing}
 use Rattle.memory.specs.Open.{cleanOpen}
 use Rattle.memory.proofs.Owing.{owed-row6, owed-row7}
 use Rattle.memory.proofs.Opening.{clean-start, clean-works, clean-fails}
@@ -31,6 +31,10 @@ asked-kept k y = record { two = y .two; list = workable-kept k (y .list) }
 pub start-begun : {u r : ℕ} {survival t₀ t : List ℕ} {m : Owed} → Asked u r survival t₀ → m ≡ owed (r - 1) 0 → Settled u r survival t → Kept t₀ t → Begun u r m survival t
 start-begun y is s k = record { none = ap (λ m. m .owed) is; asked = asked-kept k y; settled = s }
 
+-- the clean ones by another name
+pub reached-as : {u r x x' upto : ℕ} {survival t₀ t : List ℕ} {s : Known} → x ≡ x' → Reached u r x upto survival t₀ t s → Reached u r x' upto survival t₀ t s
+reached-as {u} {r} {upto = upto} {survival} {t₀} {t} {s} e = subst (λ x. Reached u r x upto survival t₀ t s) e
+
 pub line-is : {u r : ℕ} {survival t₀ t : List ℕ} {s : Known} → Reached u r (r - 1) (length survival) survival t₀ t s → {e : Ends} → Both (λ up. cellAt t up (length survival)) e
     → Both (λ up. figureOf (row6 r) up u survival) e
 line-is {u} {r} {survival} z b =
@@ -45,7 +49,7 @@ module _ (r : ℕ) (survival : List ℕ) where
   opened u up i = valueOf u (machineOf (row7 r)) survival (cleanOpen r n i) up i
 
   -- the debt that a failed component closes them with
-  abbrev closed : (i : ℕ) → Owed
+  abbrev pub closed : (i : ℕ) → Owed
   closed i = owed (min (n - suc i) (r - 1)) (r - 1)
 
   open-first : (u : ℕ) (up : Bool) → u ≡ opened u up 0
@@ -65,6 +69,19 @@ module _ (r : ℕ) (survival : List ℕ) where
   -- the debt as the code makes it
   pub closed-is : (i : ℕ) {c : Clean} {m : Owed} → c ≡ cleanAfter r (n - i - 1) → m ≡ cleanFailed r c → m ≡ closed i
   closed-is i after failed = let e : n - i - 1 ≡ n - suc i = omega arith in failed ∙ rw (after, e)
+
+-- the clean ones at hand, of which i components less were read than of all: before the first, at the next, and what a working one brings those to that are worked out
+pub hand-first : (r n : ℕ) → cleanAfter r n ≡ cleanAfter r (n - 0)
+hand-first r n = ap (cleanAfter r) (omega arith)
+
+pub hand-next : (r n i : ℕ) → cleanAfter r (n - i - 1) ≡ cleanAfter r (n - (i + 1))
+hand-next r n i = ap (cleanAfter r) (omega arith)
+
+pub hand-worked : (r n i : ℕ) {c w h : Clean} → c ≡ cleanAfter r (n - i - 1) → w ≡ cleanWorked r c → h ≡ cleanAfter r (n - i) → i < n → w .clean ≡ h .clean
+hand-worked r n i at works hand more =
+    let k = n - i - 1 in
+    let was : min (min k (r - 1) + 1) (r - 1) ≡ min (n - i) (r - 1) = omega arith in
+    ap (λ m. m .clean) works ∙ ap (λ m. min (m .clean + 1) (r - 1)) at ∙ was ∙ sym (ap (λ m. m .clean) hand)
 
 -- the ring on the way: the clean ones that are known, and the value of the open ones
 pub record Closing (u r : ℕ) (survival t₀ : List ℕ) (i : ℕ) (s : Known) (ends : Ends) (t : List ℕ) : Type 0 where

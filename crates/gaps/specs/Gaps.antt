@@ -8,9 +8,10 @@ use Rattle.rules.specs.State.{failure}
 use Rattle.rules.specs.Figure.{rounded, mixed}
 use Rattle.units.specs.Share.{Dealt}
 use Rattle.memory.specs.declared.owed.Owed.{Owed}
-use Rattle.memory.specs.Owed.{owed, owedWorked, owing}
+use Rattle.memory.specs.Owed.{owed, owing}
 use Rattle.places.specs.declared.Ends.{Ends}
-use Rattle.places.specs.Cells.{Both, Shelf, Kept, Within, Workable, cellAt, half, one, valueOf}
+use Rattle.places.specs.Cells.{Both, Shelf, Kept, Within, Workable, cellAt, one, valueOf}
+use Rattle.places.specs.Map.{half, shares}
 use Rattle.gaps.specs.declared.Known.{Known}
 
 -- a rule in range
@@ -18,23 +19,18 @@ pub record Asked (u r : ℕ) (survival t : List ℕ) : Type 0 where
   pub two : 2 ≤ r
   pub list : Workable u survival t
 
--- where the shares of the components stand
-abbrev pub shares : ℕ
-shares = 900
-
 -- P's share of each component stands where the low end of a value does, and Q's where the high end does
 pub record Shared (u : ℕ) (survival t : List ℕ) : Type 0 where
   pub row : (up : Bool) (i : ℕ) → i < length survival
       → Dealt u (cond up (failure u (getD survival i 0)) (getD survival i 0)) (cellAt t up (shares + i))
 
--- a memory that owes, and its value after the next component works
-pub record Due (u r : ℕ) (m : Owed) (i : ℕ) (survival : List ℕ) (after : Ends) (t : List ℕ) : Type 0 where
-  pub some : 1 ≤ m .owed
-  pub alive : m .owed < r
+-- the memory at hand, with its value, and one before it that owes one more
+pub record Due (u r : ℕ) (hand : Owed) (i : ℕ) (survival : List ℕ) (ends : Ends) (t : List ℕ) : Type 0 where
+  pub alive : hand .owed + 1 < r
   pub size : i < length survival
   pub list : Workable u survival t
   pub shared : Shared u survival t
-  pub value : Both (λ up. valueOf u (owing r) survival (owedWorked m) up i) after
+  pub value : Both (λ up. valueOf u (owing r) survival hand up i) ends
 
 -- components that must all work, before the memory m
 pub record Owing (u r : ℕ) (m : Owed) (from upto : ℕ) (survival : List ℕ) (end : Ends) (t : List ℕ) : Type 0 where
@@ -108,7 +104,8 @@ pub record Bringable (u r : ℕ) (s : Known) (m : Owed) (i : ℕ) (survival t : 
   pub size : i < length survival
 
 -- what a step of the memory that owes nothing is handed
-pub record Stepping (u i : ℕ) (survival : List ℕ) (works fails : Ends) (t : List ℕ) : Type 0 where
+pub record Stepping (u : ℕ) (free : Owed) (i : ℕ) (survival : List ℕ) (works fails : Ends) (t : List ℕ) : Type 0 where
+  pub none : free .owed ≡ 0
   pub size : i < length survival
   pub list : Workable u survival t
   pub works-small : Within u works

@@ -13,25 +13,33 @@ use places::Ends;
 // With no components left.
 pub fn begin(decimal: bool, r: usize, free: Owed, survival: &[u32], table: &mut [u64]) -> Known
     requires { ⌜ Begun (whole decimal) r free (now survival) (now table) ⌝ }
-    ensures { λ s. ⌜ Reached (whole decimal) r (free .clean) 0 (now (survival .entry)) (now (table .entry)) (now (table .exit)) s ⌝ }
+    ensures { λ s.
+        let u = whole decimal in
+        let read = now (survival .entry) in
+        ⌜ Reached u r (free .clean) 0 read (now (table .entry)) (now (table .exit)) s ⌝ }
 {
     places::write(table, 0, places::end_value(decimal, free.works()));
     Known { free, left: 0 }
 }
 
-// One component more, out of the value where it works and the one where it fails.
+// One component more, out of the value at hand, which a working one leaves, and the one where it fails.
 fn more(
     decimal: bool,
+    free: Owed,
     survival: &[u32],
     i: usize,
-    works: Ends,
+    hand: Ends,
     fails: Ends,
     table: &mut [u64],
 ) -> Ends
-    requires { ⌜ Stepping (whole decimal) i (now survival) works fails (now table) ⌝ }
-    ensures step { λ e. ⌜ Both (λ up. rounded up (whole decimal) (mixed (whole decimal) (getD (now (survival .entry)) i 0) (one up works) (one up fails))) e ⌝ }
+    requires { ⌜ Stepping (whole decimal) free i (now survival) hand fails (now table) ⌝ }
+    ensures step { λ e.
+        let u = whole decimal in
+        let p = getD (now (survival .entry)) i 0 in
+        ⌜ Both (λ up. rounded up u (mixed u p (one up hand) (one up fails))) e ⌝ }
     ensures put { λ e. ⌜ Put (i + 1) e (now (table .entry)) (now (table .exit)) ⌝ }
 {
+    let works = places::at_hand(free.worked().owed, free.owed, hand);
     let p = places::chance(survival, i);
     let ends = places::step(decimal, p, p.failure(decimal), works, fails);
     places::write(table, i + 1, ends);
@@ -48,16 +56,19 @@ fn reach_cut(
     table: &mut [u64],
 ) -> Known
     requires { ⌜ Reachable (whole decimal) r s upto (now survival) (now table) ⌝ }
-    ensures { λ k. ⌜ Onward (whole decimal) r (s .free .clean) upto (now (survival .entry)) (now (table .entry)) (now (table .exit)) k ⌝ }
+    ensures { λ k.
+        let u = whole decimal in
+        let read = now (survival .entry) in
+        ⌜ Onward u r (s .free .clean) upto read (now (table .entry)) (now (table .exit)) k ⌝ }
 {
     let free = s.free;
     let m = free.failed(r);
     let last = places::lesser(upto, r);
     let mut left = s.left;
-    let mut works = places::read(table, left);
+    let mut hand = places::read(table, left);
     while left < last {
         let fails = owed::cut_short(decimal, m, left, table);
-        works = more(decimal, survival, left, works, fails, table);
+        hand = more(decimal, free, survival, left, hand, fails, table);
         left += 1;
     }
     Known { free, left }
@@ -73,15 +84,18 @@ fn reach_paid(
     table: &mut [u64],
 ) -> Known
     requires { ⌜ Payable (whole decimal) r s upto (now survival) (now table) ⌝ }
-    ensures { λ k. ⌜ Reached (whole decimal) r (s .free .clean) upto (now (survival .entry)) (now (table .entry)) (now (table .exit)) k ⌝ }
+    ensures { λ k.
+        let u = whole decimal in
+        let read = now (survival .entry) in
+        ⌜ Reached u r (s .free .clean) upto read (now (table .entry)) (now (table .exit)) k ⌝ }
 {
     let free = s.free;
     let m = free.failed(r);
     let mut left = s.left;
-    let mut works = places::read(table, left);
+    let mut hand = places::read(table, left);
     while left < upto {
         let fails = owed::paid(decimal, r, m, left, survival, table);
-        works = more(decimal, survival, left, works, fails, table);
+        hand = more(decimal, free, survival, left, hand, fails, table);
         left += 1;
     }
     Known { free, left }
@@ -97,7 +111,10 @@ pub fn reach(
     table: &mut [u64],
 ) -> Known
     requires { ⌜ Reachable (whole decimal) r s upto (now survival) (now table) ⌝ }
-    ensures { λ k. ⌜ Reached (whole decimal) r (s .free .clean) upto (now (survival .entry)) (now (table .entry)) (now (table .exit)) k ⌝ }
+    ensures { λ k.
+        let u = whole decimal in
+        let read = now (survival .entry) in
+        ⌜ Reached u r (s .free .clean) upto read (now (table .entry)) (now (table .exit)) k ⌝ }
 {
     let cut = reach_cut(decimal, r, s, upto, survival, table);
     reach_paid(decimal, r, cut, upto, survival, table)
@@ -114,7 +131,10 @@ pub fn bring(
     table: &mut [u64],
 ) -> Known
     requires { ⌜ Bringable (whole decimal) r s m i (now survival) (now table) ⌝ }
-    ensures { λ k. ⌜ Reached (whole decimal) r (m .clean) (i - m .owed) (now (survival .entry)) (now (table .entry)) (now (table .exit)) k ⌝ }
+    ensures { λ k.
+        let u = whole decimal in
+        let read = now (survival .entry) in
+        ⌜ Reached u r (m .clean) (i - m .owed) read (now (table .entry)) (now (table .exit)) k ⌝ }
 {
     let upto = places::rest(i, m.owed);
     let free = s.free;

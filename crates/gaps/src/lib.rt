@@ -1,9 +1,10 @@
 // Kinds 6 and 7: low and high where any r components in a row may hold one failed one at most.
 //
-// A failed component owes r - 1 working ones, and paid off the memory owes nothing again. So past one number of clean ones only the memory that owes
-// nothing is kept: its value with i components left stands at place i. Where a debt goes back as far as the components' end, what stands in the second
-// half of the places serves every number of clean ones; past it stand the shares of the components' numbers. The table is all that a ring uses: one
-// number of clean ones at a time.
+// A failed component owes r - 1 working ones, and paid off the memory owes nothing again. So past one number of clean
+// ones only the memory that owes nothing is kept: its value with i components left stands at place i. Where a debt goes
+// back as far as the components' end, what stands in the second half of the places serves every number of clean ones;
+// past it stand the shares of the components' numbers. The table is all that a ring uses: one number of clean ones at a
+// time.
 mod free; // free.rt: the memory that owes nothing, known for more and more components left
 mod owed; // owed.rt: memories that owe
 
@@ -81,13 +82,16 @@ pub fn ring(decimal: bool, r: usize, survival: &[u32], table: &mut [u64]) -> End
     let n = survival.len();
     owed::settle(decimal, r, survival, table);
     let mut known = free::begin(decimal, r, Owed::start(r), survival, table);
-    let mut ends = places::end_value(decimal, Clean::after(n, r).works());
+    let mut hand = Clean::after(n, r);
+    let mut ends = places::end_value(decimal, hand.works());
     let mut i: usize = 0;
     while i < n {
         let clean = Clean::after(n - i - 1, r);
         let m = clean.failed(r);
         known = free::bring(decimal, r, known, m, i, survival, table);
-        ends = close(decimal, r, m, i, survival, ends, table);
+        let works = places::at_hand(clean.worked(r).clean, hand.clean, ends);
+        ends = close(decimal, r, m, i, survival, works, table);
+        hand = clean;
         i += 1;
     }
     ends

@@ -3,32 +3,36 @@ ghost use mathlib.Core.Bool.{cond};
 ghost use Prim.Native.Nat.{_+_, _-_, _≤_};
 ghost use Rattle.memory.specs.Owed.{owed, owing, owedWorks};
 ghost use Rattle.units.specs.Step.{whole};
-ghost use Rattle.places.specs.Cells.{Both, Kept, Place, Workable, cellAt, half, valueOf};
+ghost use Rattle.places.specs.Cells.{Both, Kept, Place, Workable, cellAt, valueOf};
+ghost use Rattle.places.specs.Map.{half};
 ghost use Rattle.gaps.specs.Gaps.{Asked, Due, Owing, Passable, Settled, Shared};
 use memory::owed::Owed;
 use places::Ends;
-use places::HALF;
+use places::map::HALF;
+use places::map::SHARES;
 use units::debt;
 
-// Where the shares of the components stand, past the two sides' places.
-const SHARES: usize = 900;
-
-// The value of a memory that owes with one component more, out of its value after the component works: where it fails, it is dead.
+// The value of the memory before the one at hand, which owes one more: where the component works that one is left, and
+// where it fails the memory is dead.
 fn must_work(
     decimal: bool,
     r: usize,
-    m: Owed,
+    hand: Owed,
     i: usize,
     survival: &[u32],
-    after: Ends,
+    ends: Ends,
     table: &[u64],
 ) -> Ends
-    requires { ⌜ Due (whole decimal) r m i (now survival) after (now table) ⌝ }
-    ensures { λ e. ⌜ Both (λ up. valueOf (whole decimal) (owing r) (now (survival .entry)) m up (i + 1)) e ⌝ }
+    requires { ⌜ Due (whole decimal) r hand i (now survival) ends (now table) ⌝ }
+    ensures { λ e.
+        let m = owed (hand .clean) (hand .owed + 1) in
+        ⌜ Both (λ up. valueOf (whole decimal) (owing r) (now (survival .entry)) m up (i + 1)) e ⌝ }
 {
+    let m = hand.before();
+    let works = places::at_hand(m.worked().owed, hand.owed, ends);
     let p = places::chance(survival, i);
     let shares = places::read_shares(table, SHARES + i);
-    places::step_owed(decimal, p, p.failure(decimal), shares, after)
+    places::step_owed(decimal, p, p.failure(decimal), shares, works)
 }
 
 // Back over components that must all work, from the memory m with `from` left.
@@ -43,14 +47,16 @@ fn back(
     table: &[u64],
 ) -> Ends
     requires { ⌜ Owing (whole decimal) r m from upto (now survival) end (now table) ⌝ }
-    ensures { λ e. ⌜ Both (λ up. valueOf (whole decimal) (owing r) (now (survival .entry)) (owed (m .clean) (m .owed + (upto - from))) up upto) e ⌝ }
+    ensures { λ e.
+        let due = owed (m .clean) (m .owed + (upto - from)) in
+        ⌜ Both (λ up. valueOf (whole decimal) (owing r) (now (survival .entry)) due up upto) e ⌝ }
 {
-    let mut due = m;
+    let mut hand = m;
     let mut ends = end;
     let mut i = from;
     while i < upto {
-        due = due.before();
-        ends = must_work(decimal, r, due, i, survival, ends, table);
+        ends = must_work(decimal, r, hand, i, survival, ends, table);
+        hand = hand.before();
         i += 1;
     }
     ends
@@ -83,22 +89,25 @@ pub fn settle(decimal: bool, r: usize, survival: &[u32], table: &mut [u64])
 {
     prepare(decimal, survival, table);
     let last = places::lesser(survival.len(), r - 1);
-    let mut due = Owed { clean: 0, owed: 0 };
-    let mut ends = places::end_value(decimal, due.works());
+    let mut hand = Owed { clean: 0, owed: 0 };
+    let mut ends = places::end_value(decimal, hand.works());
     places::write(table, HALF, ends);
     let mut i: usize = 0;
     while i < last {
-        due = due.before();
-        ends = must_work(decimal, r, due, i, survival, ends, table);
+        ends = must_work(decimal, r, hand, i, survival, ends, table);
+        hand = hand.before();
         i += 1;
         places::write(table, HALF + i, ends);
     }
 }
 
-// A debt that the components' end cuts short, or just pays: as many work as are left, and the clean ones must make up for the rest.
+// A debt that the components' end cuts short, or just pays: as many work as are left, and the clean ones must make up
+// for the rest.
 pub fn cut_short(decimal: bool, m: Owed, i: usize, table: &[u64]) -> Ends
     requires { ⌜ Place (half + i) (now table) × (i ≤ m .owed) ⌝ }
-    ensures { λ e. ⌜ Both (λ up. cond (owedWorks (owed (m .clean) (m .owed - i))) (cellAt (now (table .entry)) up (half + i)) 0) e ⌝ }
+    ensures { λ e.
+        let works = owedWorks (owed (m .clean) (m .owed - i)) in
+        ⌜ Both (λ up. cond works (cellAt (now (table .entry)) up (half + i)) 0) e ⌝ }
 {
     let last = m.worked_many(i);
     if last.works() {

@@ -3,13 +3,8 @@ pub mod number; // number.rt: numbers that bytes spell
 
 ghost use mathlib.Core.Path.{_≡_};
 ghost use Prim.Native.Nat.{_^_, _≤_, _<_};
-ghost use Rattle.rules.specs.File.{headerLength, boardFans, weightsOffset, boardsOffset, boardSurvivalOffset, systemsOffset, fileLength};
-
-pub const MOST_FANS: usize = 64;
-
-pub const MOST_SYSTEMS: usize = 32;
-
-pub const MOST_BOARDS: usize = 4;
+ghost use Rattle.rules.specs.File.{headerLength, boardFans, weightsOffset, boardsOffset, switchboardsOffset};
+ghost use Rattle.rules.specs.File.{systemsOffset, fileLength};
 
 pub const VERSION_FIELD: usize = 0;
 
@@ -81,7 +76,7 @@ pub fn boards_offset(version: u64, n: usize) -> usize
 // Where the boards' survival numbers begin.
 pub fn board_survival_offset(version: u64, n: usize) -> usize
     requires { ⌜ n < 2 ^ 16 ⌝ }
-    ensures { λ r. ⌜ (r ≡ boardSurvivalOffset version n) × (r < 2 ^ 22) ⌝ }
+    ensures { λ r. ⌜ (r ≡ switchboardsOffset version n) × (r < 2 ^ 22) ⌝ }
 {
     boards_offset(version, n) + BOARD_BYTES * board_fans(version, n)
 }

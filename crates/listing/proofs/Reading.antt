@@ -34,7 +34,7 @@ unfolding added
 lines-added s first set =
     lines-cond (eqb (getD set ofThing 0) aVersion) _ _ _ refl
     (lines-cond (eqb (getD set ofThing 0) someFans) _ _ _ (lines-cond (ltb mostFans (length (s .survival) + getD set ofNumber 0)) _ _ _ refl refl)
-    (lines-cond (eqb (getD set ofThing 0) aBoard) _ _ _ (lines-cond (ltb mostBoards (length (s .boardSurvival) + 1)) _ _ _ refl refl) (lines-cond (ltb mostSystems (length (s .systems) + 1)) _ _ _ refl refl)))
+    (lines-cond (eqb (getD set ofThing 0) aBoard) _ _ _ (lines-cond (ltb mostBoards (length (s .switchboards) + 1)) _ _ _ refl refl) (lines-cond (ltb mostSystems (length (s .systems) + 1)) _ _ _ refl refl)))
 
 lines-wordy : (s : Listed) (line : List ℕ) (words : List (List ℕ)) → wordy s line words .lines ≡ s .lines + 1
 unfolding wordy thing

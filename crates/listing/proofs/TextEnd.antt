@@ -25,7 +25,7 @@ module _ {l : Listing} {s : Listed} {out : List ℕ} (h : Holds l s out) where
       ++ missing (l .lines) (eqb (l .version) 3 && eqb (l .boards) 0) noBoard
 
   abbrev elsewhere : List Fault
-  elsewhere = cond (eqb (length (s .boardSurvival)) 0) [] (unplaced (length (s .boardSurvival)) 0 (s .boards) (s .fanLines))
+  elsewhere = cond (eqb (length (s .switchboards)) 0) [] (unplaced (length (s .switchboards)) 0 (s .boards) (s .fanLines))
 
   same-last : lacks ++ elsewhere ≡ lastFaults s
   same-last =
@@ -47,12 +47,12 @@ module _ {l : Listing} {s : Listed} {out : List ℕ} (h : Holds l s out) where
   pub ended-boardless : {t : Told} {then : List ℕ} → l .boards ≡ 0 → Telling t (s .faults ++ lacks) then
       → Holds (record { lines = l .lines; version = l .version; begun = l .begun; fans = l .fans; boards = l .boards; switchboards = l .switchboards; systems = l .systems; told = t }) (ended s) then
   ended-boardless z t =
-      ended-by (rw (eq-eqb (length (s .boardSurvival)) 0 (h .boards .counted ∙ z), append-nil lacks) t)
+      ended-by (rw (eq-eqb (length (s .switchboards)) 0 (h .boards .counted ∙ z), append-nil lacks) t)
 
   pub ended-boarded : {t : Told} {then : List ℕ} → (l .boards ≡ 0 → ⊥)
       → Telling t (s .faults ++ (lacks ++ unplaced (l .boards) 0 (take (l .fans .count) (l .fans .boards)) (take (l .fans .count) (l .fans .lines)))) then
       → Holds (record { lines = l .lines; version = l .version; begun = l .begun; fans = l .fans; boards = l .boards; switchboards = l .switchboards; systems = l .systems; told = t }) (ended s) then
   ended-boarded n t =
       let e : elsewhere ≡ unplaced (l .boards) 0 (take (l .fans .count) (l .fans .boards)) (take (l .fans .count) (l .fans .lines)) =
-      rw (ne-eqb (length (s .boardSurvival)) 0 (λ z. n (sym (h .boards .counted) ∙ z)), h .boards .counted, h .fans .placed .stands, h .fans .lined .stands) in
+      rw (ne-eqb (length (s .switchboards)) 0 (λ z. n (sym (h .boards .counted) ∙ z)), h .boards .counted, h .fans .placed .stands, h .fans .lined .stands) in
       ended-by (rw e t)

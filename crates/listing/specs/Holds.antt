@@ -15,7 +15,7 @@ pub record Holds (l : Listing) (s : Listed) (out : List ℕ) : Type 0 where
   pub version : l .version ≡ s .version
   pub begun : l .begun ≡ s .begun
   pub fans : Fanned (l .fans) (s .survival) (s .weights) (s .boards) (s .fanLines)
-  pub boards : Stored mostBoards (l .boards) (l .switchboards) (s .boardSurvival)
+  pub boards : Stored mostBoards (l .boards) (l .switchboards) (s .switchboards)
   pub systems : Ruled (l .systems) (s .systems)
   pub told : Telling (l .told) (s .faults) out
 
@@ -50,7 +50,7 @@ ended s = record {
   weights = s .weights;
   boards = s .boards;
   fanLines = s .fanLines;
-  boardSurvival = s .boardSurvival;
+  switchboards = s .switchboards;
   systems = s .systems;
   faults = s .faults ++ lastFaults s;
 }

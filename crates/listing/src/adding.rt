@@ -3,11 +3,9 @@ ghost use Rattle.typing.specs.Reads.{Within};
 ghost use Rattle.typing.specs.Text.{faultAt, told, addedFans, addedBoard, addedSystem, added};
 ghost use Rattle.listing.specs.Holds.{Held, Steps};
 use crate::Listing;
-use crate::MOST_BOARDS;
+use rules::limit;
 use typed_lists::fans;
-use typed_lists::fans::MOST_FANS;
 use typed_lists::listed;
-use typed_lists::listed::MOST_SYSTEMS;
 use typed_lists::told;
 use typing::line::SETS;
 
@@ -46,7 +44,8 @@ pub fn tell(
     out: &mut [u8],
 ) -> Listing
     requires { ⌜ Held listing (now out) ⌝ }
-    ensures { λ r. ⌜ Steps listing (now (out .entry)) r (now (out .exit)) (λ s. told s (faultAt line (now (word .entry)) wanted named)) ⌝ }
+    ensures { λ r. ⌜ Steps listing (now (out .entry)) r (now (out .exit))
+        (λ s. told s (faultAt line (now (word .entry)) wanted named)) ⌝ }
 {
     let before = listing.told;
     let after = told::plus(before, line, word, wanted, named, out);
@@ -58,11 +57,12 @@ pub fn tell(
 // Some fans.
 fn added_fans(listing: Listing, first: &[u8], set: [u64; SETS], out: &mut [u8]) -> Listing
     requires { ⌜ Held listing (now out) × Within set ⌝ }
-    ensures { λ r. ⌜ Steps listing (now (out .entry)) r (now (out .exit)) (λ s. addedFans s (now (first .entry)) set) ⌝ }
+    ensures { λ r.
+        ⌜ Steps listing (now (out .entry)) r (now (out .exit)) (λ s. addedFans s (now (first .entry)) set) ⌝ }
 {
     let before = listing.fans;
     let more = set[OF_NUMBER];
-    if before.count as u64 + more > MOST_FANS as u64 {
+    if before.count as u64 + more > limit::FANS as u64 {
         return tell(listing, listing.lines, first, MANY_FANS, 0, out);
     }
     let parts = set[OF_PARTS] as u32;
@@ -77,10 +77,11 @@ fn added_fans(listing: Listing, first: &[u8], set: [u64; SETS], out: &mut [u8]) 
 // A board.
 fn added_board(listing: Listing, first: &[u8], set: [u64; SETS], out: &mut [u8]) -> Listing
     requires { ⌜ Held listing (now out) × Within set ⌝ }
-    ensures { λ r. ⌜ Steps listing (now (out .entry)) r (now (out .exit)) (λ s. addedBoard s (now (first .entry)) set) ⌝ }
+    ensures { λ r.
+        ⌜ Steps listing (now (out .entry)) r (now (out .exit)) (λ s. addedBoard s (now (first .entry)) set) ⌝ }
 {
     let g = listing.boards;
-    if g + 1 > MOST_BOARDS {
+    if g + 1 > limit::BOARDS {
         return tell(listing, listing.lines, first, MANY_BOARDS, 0, out);
     }
     let mut switchboards = listing.switchboards;
@@ -94,10 +95,11 @@ fn added_board(listing: Listing, first: &[u8], set: [u64; SETS], out: &mut [u8])
 // A system.
 fn added_system(listing: Listing, first: &[u8], set: [u64; SETS], out: &mut [u8]) -> Listing
     requires { ⌜ Held listing (now out) × Within set ⌝ }
-    ensures { λ r. ⌜ Steps listing (now (out .entry)) r (now (out .exit)) (λ s. addedSystem s (now (first .entry)) set) ⌝ }
+    ensures { λ r. ⌜ Steps listing (now (out .entry)) r (now (out .exit)) (λ s. addedSystem s (now (first .entry)) set)
+        ⌝ }
 {
     let before = listing.systems;
-    if before.count + 1 > MOST_SYSTEMS {
+    if before.count + 1 > limit::SYSTEMS {
         return tell(listing, listing.lines, first, MANY_SYSTEMS, 0, out);
     }
     let after = listed::plus(before, set);

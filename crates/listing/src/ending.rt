@@ -31,7 +31,8 @@ pub fn missing(before: Told, lines: u64, lacks: bool, wanted: u64, out: &mut [u8
 // A fan on a board that is not there.
 fn tell_board(before: Told, line: u64, board: u8, g: usize, out: &mut [u8]) -> Told
     requires { ⌜ Roomy before (now out) ⌝ }
-    ensures { λ r. ⌜ MoreTold before (now (out .entry)) r (now (out .exit)) (faultAt line (decimal board) noSuchBoard g ∷ []) ⌝ }
+    ensures { λ r. ⌜ MoreTold before (now (out .entry)) r (now (out .exit))
+        (faultAt line (decimal board) noSuchBoard g ∷ []) ⌝ }
 {
     let mut word = [0u8; DIGITS];
     let end = text::put_number(&mut word, 0, board as u64);
@@ -63,7 +64,8 @@ fn pass(before: ToldLast, line: u64, board: u8, g: usize, out: &mut [u8]) -> Tol
 // All fans on boards that are not there.
 pub fn unplaced(before: Told, fans: Fans, g: usize, out: &mut [u8]) -> Told
     requires { ⌜ Tells before (now out) × Lined fans ⌝ }
-    ensures { λ r. ⌜ MoreTold before (now (out .entry)) r (now (out .exit)) (unplaced g 0 (take (fans .count) (fans .boards)) (take (fans .count) (fans .lines))) ⌝ }
+    ensures { λ r. ⌜ MoreTold before (now (out .entry)) r (now (out .exit))
+        (unplaced g 0 (take (fans .count) (fans .boards)) (take (fans .count) (fans .lines))) ⌝ }
 {
     let boards = fans.boards;
     let lines = fans.lines;

@@ -15,6 +15,7 @@ ghost use Rattle.typing.specs.Text.{counted, thing, withLine, withLines};
 ghost use Rattle.typing.specs.Line.{readLine};
 ghost use Rattle.typed_lists.specs.Told.{toldRoom};
 ghost use Rattle.listing.specs.Holds.{Starts, Held, Steps, Counts, mostLines, ended, HoldsText};
+use rules::limit;
 use typed_lists::fans::Fans;
 use typed_lists::listed::Systems;
 use typed_lists::told::Told;
@@ -23,16 +24,15 @@ use typing::grammar::ENTRIES;
 use typing::line;
 use typing::words;
 
-pub const MOST_BOARDS: usize = 4;
-
-// The lines so far, the version, whether a thing stands there already, the fans, the boards' own survival numbers, the systems, and the faults told.
+// The lines so far, the version, whether a thing stands there already, the fans, the boards' own survival numbers, the
+// systems, and the faults told.
 pub struct Listing {
     pub lines: u64,
     pub version: u64,
     pub begun: bool,
     pub fans: Fans,
     pub boards: usize,
-    pub switchboards: [u32; MOST_BOARDS],
+    pub switchboards: [u32; limit::BOARDS],
     pub systems: Systems,
     pub told: Told,
 }
@@ -63,7 +63,7 @@ pub fn none() -> Listing
     ensures { λ r. ⌜ Starts r ⌝ }
 {
     let fans = typed_lists::fans::no_fans();
-    let switchboards = [0u32; MOST_BOARDS];
+    let switchboards = [0u32; limit::BOARDS];
     let systems = typed_lists::listed::no_systems();
     let told = Told { count: 0, end: 0 };
     Listing {
@@ -98,8 +98,11 @@ fn with_words(
     upto: usize,
     out: &mut [u8],
 ) -> Listing
-    requires { ⌜ (now table ≡ grammar) × Held listing (now out) × (listing .lines < mostLines) × (from ≤ upto) × (upto ≤ length (now line)) ⌝ }
-    ensures { λ r. ⌜ Steps listing (now (out .entry)) r (now (out .exit)) (λ s. thing (counted s true) (part (now (line .entry)) from upto) (readLine (s .version) (s .begun) (now (line .entry)))) ⌝ }
+    requires { ⌜ (now table ≡ grammar) × Held listing (now out) × (listing .lines < mostLines) × (from ≤ upto) ×
+        (upto ≤ length (now line)) ⌝ }
+    ensures { λ r. ⌜ Steps listing (now (out .entry)) r (now (out .exit))
+        (λ s. thing (counted s true) (part (now (line .entry)) from upto)
+        (readLine (s .version) (s .begun) (now (line .entry)))) ⌝ }
 {
     let read = line::read_line(table, listing.version, listing.begun, line);
     let set = read.set;
@@ -140,7 +143,8 @@ fn with_line(table: &[u64; ENTRIES], listing: Listing, line: &[u8], out: &mut [u
 // All lines of a text, or of a piece of one that ends with a line: the listing then.
 pub fn read_lines(listing: Listing, text: &[u8], out: &mut [u8]) -> Listing
     requires { ⌜ Held listing (now out) × (listing .lines + length (now text) ≤ mostLines) ⌝ }
-    ensures { λ r. ⌜ Steps listing (now (out .entry)) r (now (out .exit)) (λ s. withLines s (linesOf (now (text .entry)))) ⌝ }
+    ensures { λ r. ⌜ Steps listing (now (out .entry)) r (now (out .exit))
+        (λ s. withLines s (linesOf (now (text .entry)))) ⌝ }
 {
     let table = grammar::table();
     let mut next = listing;

@@ -1,4 +1,5 @@
-// The loading computer's calls: a deck file's bytes and a system number in, its figures as one 64-bit number out; with a fan, its worth.
+// The loading computer's calls: a deck file's bytes and a system number in, its figures as one 64-bit number out; with
+// a fan, its worth.
 ghost use mathlib.Core.Path.{_≡_};
 ghost use Rattle.loading.specs.Outcome.{Answered, Parted, numberOf, endsAfter, Told};
 use rules::Worth;
@@ -11,15 +12,18 @@ pub extern "C" fn foambeetle_rate(file: &[u8], system: u64) -> u64
     packing::pack(systems::rate_file(file, system))
 }
 
-// What the C program calls for the unit of a file's figures: `uint64_t foambeetle_unit(const uint8_t *file, size_t length)`.
+// What the C program calls for the unit of a file's figures: `uint64_t foambeetle_unit(const uint8_t *file, size_t
+// length)`.
 #[no_mangle]
 pub extern "C" fn foambeetle_unit(file: &[u8]) -> u64
     ensures { λ r. ⌜ Parted (now (file .entry)) r ⌝ }
 {
-    if deck::file_refusal(file) != 0 {
+    let opened = deck::open(file);
+    if opened.refusal != 0 {
         return 0;
     }
-    let decimal = units::is_decimal(deck::version_in(file));
+    let head = opened.head;
+    let decimal = units::is_decimal(head.version);
     units::whole(decimal)
 }
 

@@ -44,7 +44,7 @@ kept-short s k =
       k .placed,
       k .boards,
       read-few (s .version) (s .boards),
-      read-few (s .version) (s .boardSurvival),
+      read-few (s .version) (s .switchboards),
       counted,
     )
 

@@ -1,4 +1,5 @@
-// What is made of a text, put into buffers: the deck file, and the warnings of its systems or the faults that were told.
+// What is made of a text, put into buffers: the deck file, and the warnings of its systems or the faults that were
+// told.
 ghost use Prim.Native.Nat.{_+_, _≤_};
 ghost use lib.ListN.{length};
 ghost use Rattle.rules.specs.File.{mostSystems};
@@ -47,11 +48,12 @@ fn put_warnings(file: &[u8], count: usize, out: &mut [u8]) -> usize
     requires room { ⌜ warningsRoom ≤ length (now out) ⌝ }
     ensures { λ r. ⌜ Added (warningsText (now (file .entry)) count) (now (out .entry)) 0 (now (out .exit)) r ⌝ }
 {
+    let opened = deck::open(file);
     let mut end: usize = 0;
     let mut s: usize = 0;
     while s < count {
         s += 1;
-        let rating = systems::rate_file(file, s as u64);
+        let rating = systems::rate_opened(file, opened, s as u64);
         end = put_warning(s as u64, rating, out, end);
     }
     end

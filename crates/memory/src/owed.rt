@@ -1,8 +1,10 @@
-// Rows 6 and 7: how many components must still work after a failed one. The line of row 6 is the ring past as many clean ones as can count.
+// Rows 6 and 7: how many components must still work after a failed one. The line of row 6 is the ring past as many
+// clean ones as can count.
 ghost use mathlib.Core.Path.{_≡_};
 ghost use mathlib.Core.Bool.{true};
 ghost use Prim.Native.Nat.{_+_, _-_, _^_, _<_, _≤_};
-ghost use Rattle.memory.specs.Owed.{owed, clean, owedFailed, owedWorks, cleanAfter, cleanFailed};
+ghost use Rattle.memory.specs.Owed.{owed, owedWorked, owedFailed, owedWorks, cleanAfter, cleanWorked};
+ghost use Rattle.memory.specs.Owed.{cleanFailed};
 
 // "(x, g)": x clean ones before the first that failed, g still to work.
 pub struct Owed {
@@ -27,7 +29,20 @@ impl Owed {
         }
     }
 
-    // "one less, not below 0", of each of so many working components.
+    // "one less, not below 0"
+    pub fn worked(self) -> Owed
+        ensures { λ m. ⌜ m ≡ owedWorked self ⌝ }
+    {
+        if self.owed == 0 {
+            return self;
+        }
+        Owed {
+            clean: self.clean,
+            owed: self.owed - 1,
+        }
+    }
+
+    // The same of each of so many working components.
     pub fn worked_many(self, many: usize) -> Owed
         requires { ⌜ many ≤ self .owed ⌝ }
         ensures { λ m. ⌜ m ≡ owed (self .clean) (self .owed - many) ⌝ }
@@ -75,7 +90,7 @@ impl Owed {
 }
 
 impl Clean {
-    // So many components read, all working: "clean x becomes clean x+1, x at most r - 1", of each.
+    // So many components read, all working.
     pub fn after(read: usize, r: usize) -> Clean
         requires { ⌜ 1 ≤ r ⌝ }
         ensures { λ m. ⌜ m ≡ cleanAfter r read ⌝ }
@@ -84,6 +99,19 @@ impl Clean {
             return Clean { clean: read };
         }
         Clean { clean: r - 1 }
+    }
+
+    // "clean x becomes clean x+1, x at most r - 1"
+    pub fn worked(self, r: usize) -> Clean
+        requires { ⌜ 1 ≤ r ⌝ }
+        ensures { λ m. ⌜ m ≡ cleanWorked r self ⌝ }
+    {
+        if r - 1 <= self.clean {
+            return Clean { clean: r - 1 };
+        }
+        Clean {
+            clean: self.clean + 1,
+        }
     }
 
     // "clean x becomes (x, r-1)"

@@ -6,11 +6,10 @@ ghost use Rattle.rules.specs.Memory.{lackingLast};
 ghost use Rattle.rules.specs.Pairs.{longestWindow};
 ghost use Rattle.memory.specs.Pattern.{pattern, manyPatterns};
 use rules::Pair;
+use rules::limit;
 
 // As many ones as the longest window has components.
-const WINDOW: u64 = 1023;
-
-const LONGEST: u64 = 10;
+const ONES: u64 = 1023;
 
 pub struct Pattern {
     pub bits: usize,
@@ -52,7 +51,7 @@ impl Pattern {
         requires { ⌜ p .r ≤ longestWindow ⌝ }
         ensures { λ b. ⌜ b ≡ lackingLast (self .bits) p ⌝ }
     {
-        let last = (self.bits as u64) & (WINDOW >> (LONGEST - p.r));
+        let last = (self.bits as u64) & (ONES >> (limit::WINDOW - p.r));
         p.r - (u64::count_ones(last) as u64) < p.k
     }
 

@@ -7,15 +7,16 @@ use Rattle.rules.specs.Refusal.{badVersion, badSize, firstOf, after}
 use Rattle.rules.specs.File.{versionIn, fansIn, shortFile, shortHeader, badSystems, badBoardsIn}
 use Rattle.rules.specs.Mending.{endsEarly, beyondMending}
 use Rattle.rules.proofs.Accepted.{first-after, first-more}
-use Rattle.deck.specs.Outcome.{countsRefusal}
+use Rattle.deck.specs.Head.{countsRefusal}
+use Rattle.mend.specs.Looked.{cutRefusal}
 
 none-before : (rest : List (ℕ × Bool)) → firstOf rest ≡ after (firstOf []) (firstOf rest)
 unfolding firstOf after
 none-before rest = refl
 
 pub counts-then : (bytes : List ℕ) → shortFile bytes ≡ false → badVersion (versionIn bytes) ≡ false → shortHeader bytes ≡ false
-    → beyondMending bytes ≡ after (countsRefusal bytes) (firstOf ((22, endsEarly bytes) ∷ []))
-unfolding beyondMending countsRefusal
+    → beyondMending bytes ≡ cutRefusal bytes
+unfolding beyondMending cutRefusal countsRefusal
 counts-then bytes short version header =
     let rest : List (ℕ × Bool) = (22, endsEarly bytes) ∷ [] in
     first-after 10 _ _ short

@@ -1,6 +1,7 @@
 -- The theorems about mending a deck file, from the ground up.
 pub mod Checks
 pub mod Mendable
+pub mod Looking
 pub mod Putting
 pub mod Kept
 pub mod Mended

@@ -12,7 +12,7 @@ use borrow.Author.Tests.{le-ltb, le-leb, eq-eqb}
 use Rattle.rules.specs.Below.{listBelow}
 use Rattle.rules.specs.Refusal.{firstOf}
 use Rattle.rules.specs.File.{numberAt, nthNumber, offsetsOf, numbersFrom, nthSystem, zeroField, survivalField, weightsField, systemsField, shortestHeader, headerLength, headerOf, fileLength, boardFans, boardsElsewhere, lengthIn}
-use Rattle.rules.specs.File.{survivalBytes, weightBytes, boardBytes, survivalOffset, weightsOffset, boardsOffset, boardSurvivalOffset, systemsOffset, versionIn, fansIn, countIn, boardCountIn, deckIn, misplacedIn, fileRefusal}
+use Rattle.rules.specs.File.{survivalBytes, weightBytes, boardBytes, survivalOffset, weightsOffset, boardsOffset, switchboardsOffset, systemsOffset, versionIn, fansIn, countIn, boardCountIn, deckIn, misplacedIn, fileRefusal}
 use Rattle.rules.specs.Mending.{headerFor, bodyIn, mended, changesBelow, beyondMending}
 use Rattle.rules.proofs.Changes.{changes-upto}
 use Rattle.layout.specs.Fits.{Bytes}
@@ -117,17 +117,17 @@ module _ (bytes : List ℕ) (none : beyondMending bytes ≡ 0) where
       let survival = numbers-same body-kept survivalBytes (survivalOffset v) n (omega arith) (omega arith) in
       let weights = numbers-same body-kept weightBytes (weightsOffset v n) n (omega arith) (omega arith) in
       let boards = numbers-same body-kept boardBytes (boardsOffset v n) (boardFans v n) (omega arith) (omega arith) in
-      let numbers = numbers-same body-kept survivalBytes (boardSurvivalOffset v n) g (omega arith) (omega arith) in
+      let numbers = numbers-same body-kept survivalBytes (switchboardsOffset v n) g (omega arith) (omega arith) in
       let systems = systems-same body-kept from m (omega arith) (omega arith) in
       (λ x. record {
         version = version-kept x;
         survival = numbersFrom survivalBytes (mended bytes) (survivalOffset (version-kept x)) (fans-kept x);
         weights = numbersFrom weightBytes (mended bytes) (weightsOffset (version-kept x) (fans-kept x)) (fans-kept x);
         boards = numbersFrom boardBytes (mended bytes) (boardsOffset (version-kept x) (fans-kept x)) (boardFans (version-kept x) (fans-kept x));
-        boardSurvival = numbersFrom survivalBytes (mended bytes) (boardSurvivalOffset (version-kept x) (fans-kept x)) (boards-kept x);
+        switchboards = numbersFrom survivalBytes (mended bytes) (switchboardsOffset (version-kept x) (fans-kept x)) (boards-kept x);
         systems = listBelow (systems-kept x) (nthSystem (mended bytes) (systemsOffset (version-kept x) (fans-kept x) (boards-kept x)));
       })
-      ∙ (λ x. record { version = v; survival = survival x; weights = weights x; boards = boards x; boardSurvival = numbers x; systems = systems x })
+      ∙ (λ x. record { version = v; survival = survival x; weights = weights x; boards = boards x; switchboards = numbers x; systems = systems x })
 
   -- zero field and offsets are the layout's
   zero-written : numberAt 2 (mended bytes) zeroField ≡ 0

@@ -54,7 +54,8 @@ fn put_change(place: usize, old: u8, new: u8, list: &mut [u64], at: usize) -> us
 pub fn put_changes(old: &[u8], new: &[u8], k: usize, list: &mut [u64])
     requires places { ⌜ (k ≤ length (now old)) × (k ≤ length (now new)) ⌝ }
     requires fits { ⌜ perChange * held (differs (now old) (now new)) k ≤ length (now list) ⌝ }
-    ensures { λ _. ⌜ now (list .exit) ≡ laid 0 (changesBelow (now (old .entry)) (now (new .entry)) k) (now (list .entry)) ⌝ }
+    ensures { λ _. ⌜ now (list .exit) ≡ laid 0 (changesBelow (now (old .entry)) (now (new .entry)) k)
+        (now (list .entry)) ⌝ }
 {
     let mut at: usize = 0;
     let mut i: usize = 0;

@@ -1,4 +1,5 @@
-// The office's calls for its C programs: the deck file's writer; a deck's chances as doubles; a rating asked in doubles.
+// The office's calls for its C programs: the deck file's writer; a deck's chances as doubles; a rating asked in
+// doubles.
 ghost use mathlib.Core.Path.{_≡_};
 ghost use Rattle.rules.specs.State.{ruleOf};
 ghost use Rattle.rules.specs.Writing.{typedOf};
@@ -20,8 +21,9 @@ fn pack(writing: Writing) -> u64
     }
 }
 
-// What the C program calls: `uint64_t foambeetle_write(uint64_t version, const uint32_t *survival, size_t n, const uint16_t *weights, size_t w,
-// const uint8_t *boards, size_t b, const uint32_t *switchboards, size_t g, const uint16_t *systems, size_t s, uint8_t *room, size_t length)`.
+// What the C program calls: `uint64_t foambeetle_write(uint64_t version, const uint32_t *survival, size_t n, const
+// uint16_t *weights, size_t w, const uint8_t *boards, size_t b, const uint32_t *switchboards, size_t g, const uint16_t
+// *systems, size_t s, uint8_t *room, size_t length)`.
 #[no_mangle]
 pub extern "C" fn foambeetle_write(
     version: u64,
@@ -32,7 +34,8 @@ pub extern "C" fn foambeetle_write(
     systems: &[u16],
     room: &mut [u8],
 ) -> u64
-    ensures { λ r. ⌜ Filed (typedOf version (now (survival .entry)) (now (weights .entry)) (now (boards .entry)) (now (switchboards .entry)) (now (systems .entry))) (now (room .entry)) (now (room .exit)) r ⌝ }
+    ensures { λ r. ⌜ Filed (typedOf version (now (survival .entry)) (now (weights .entry)) (now (boards .entry))
+        (now (switchboards .entry)) (now (systems .entry))) (now (room .entry)) (now (room .exit)) r ⌝ }
 {
     pack(writer::write_deck(
         version,
@@ -68,8 +71,9 @@ pub extern "C" fn foambeetle_chance(file: &[u8], system: u64, ends: &mut [f64; 2
     tell(export::chance_of(file, system), ends)
 }
 
-// What the C program calls for a rating asked in doubles: `uint64_t foambeetle_rate_doubles(uint64_t kind, uint64_t first, uint64_t second,
-// const uint64_t *more, size_t pairs, uint64_t a, uint64_t b, const double *survival, size_t n, const uint16_t *weights, size_t weighed)`.
+// What the C program calls for a rating asked in doubles: `uint64_t foambeetle_rate_doubles(uint64_t kind, uint64_t
+// first, uint64_t second, const uint64_t *more, size_t pairs, uint64_t a, uint64_t b, const double *survival, size_t n,
+// const uint16_t *weights, size_t weighed)`.
 #[no_mangle]
 pub extern "C" fn foambeetle_rate_doubles(
     kind: u64,
@@ -81,7 +85,8 @@ pub extern "C" fn foambeetle_rate_doubles(
     survival: &[f64],
     weights: &[u16],
 ) -> u64
-    ensures { λ r. ⌜ Answered (plannedOf (ruleOf kind first second) a b (bitsOf (now (survival .entry))) (now (weights .entry)) (now (more .entry))) r ⌝ }
+    ensures { λ r. ⌜ Answered (plannedOf (ruleOf kind first second) a b (bitsOf (now (survival .entry)))
+        (now (weights .entry)) (now (more .entry))) r ⌝ }
 {
     let rule = Rule {
         kind,

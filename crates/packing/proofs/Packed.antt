@@ -9,7 +9,7 @@ use native.Mathlib.Nat.{le-trans}
 use Rattle.rules.specs.declared.Rating.{Rating}
 use Rattle.rules.specs.declared.Rating.the-variants.{Range, Refused}
 use Rattle.rules.specs.State.{S}
-use Rattle.rules.specs.Asked.{Asked, unitIn, partOf, readOf, boardsOf, boardSurvivalOf, roundedOf}
+use Rattle.rules.specs.Asked.{Asked, unitIn, partOf, readOf, boardsOf, switchboardsOf, roundedOf}
 use Rattle.rules.specs.Refusal.{figuresRefusal}
 use Rattle.rules.specs.Answer.{figuresOf}
 use Rattle.rules.specs.File.{packed}
@@ -34,7 +34,7 @@ figures-packable q table =
     let within : (up : Bool) → figuresRefusal q table ≡ 0 → roundedOf up q ≤ S =
     λ up e.
     le-trans
-    (behind-within (unitIn q) (unit-some (q .version)) (q .rule) (partOf q) (readOf q) (boardsOf q) (boardSurvivalOf q) (figures-ratable q table e .2 .units)
+    (behind-within (unitIn q) (unit-some (q .version)) (q .rule) (partOf q) (readOf q) (boardsOf q) (switchboardsOf q) (figures-ratable q table e .2 .units)
     (figures-boarded q table e .1 .units) up)
     (unit-most (q .version)) in
     unless-by Packable _ Refused _ (figures-le q table) (λ e. (within false e, within true e))

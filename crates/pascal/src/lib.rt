@@ -1,5 +1,5 @@
-// Document 01: "How many states have j failed at all comes from a fixed table of Pascal rows 0 to 64". Document 02: "Keep entries up to half of each
-// row, 1,089 in all".
+// Document 01: "How many states have j failed at all comes from a fixed table of Pascal rows 0 to 64". Document 02:
+// "Keep entries up to half of each row, 1,089 in all".
 ghost use mathlib.Core.Path.{_≡_};
 ghost use mathlib.Core.Bool.{true};
 ghost use Prim.Native.Nat.{_≤_};
@@ -9,7 +9,8 @@ ghost use Rattle.pascal.specs.Folded.{foldOf, foldedRule};
 // "1,089 in all"
 pub const ENTRIES: usize = 1089;
 
-// The table, for a caller to lend to `ways`: a use of the constant copies it to the stack, so it is used once for many lookups.
+// The table, for a caller to lend to `ways`: a use of the constant copies it to the stack, so it is used once for many
+// lookups.
 pub fn table() -> [u64; ENTRIES]
     ensures { λ r. ⌜ foldedRule r ≡ true ⌝ }
 {

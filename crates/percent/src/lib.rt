@@ -5,7 +5,8 @@ ghost use lib.ListN.{length};
 ghost use Rattle.rules.specs.State.{S};
 ghost use Rattle.units.specs.Step.{whole};
 ghost use Rattle.text.specs.Added.{Added};
-ghost use Rattle.percent.specs.Percent.{pointDigits, percentOf, lastDigits, percentText, percentRoom, rangeText, rangeRoom};
+ghost use Rattle.percent.specs.Percent.{pointDigits, percentOf, lastDigits, percentText, percentRoom, rangeText};
+ghost use Rattle.percent.specs.Percent.{rangeRoom};
 
 const MILLION: u64 = 1000000;
 

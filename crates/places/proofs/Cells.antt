@@ -10,7 +10,8 @@ use lib.Seq.{getD-set-same, getD-set-other, drop-set-lt}
 use borrow.Author.Count.{below-more}
 use Rattle.rules.specs.Refusal.{cells}
 use Rattle.places.specs.declared.Ends.{Ends}
-use Rattle.places.specs.Cells.{far, half, Side, one, Both, cellAt, Place, Kept, Put, Shelf, Written, Workable}
+use Rattle.places.specs.Cells.{Side, one, Both, cellAt, Place, Kept, Put, Shelf, Written, Workable}
+use Rattle.places.specs.Map.{far, half}
 
 pub both-at : {f : Bool → ℕ} {r : Ends} → Both f r → (up : Bool) → one up r ≡ f up
 both-at b false = b .low

@@ -12,6 +12,7 @@ use Rattle.rules.specs.Refusal.{most, cells}
 use Rattle.units.specs.declared.debt.Shares.{Shares}
 use Rattle.units.specs.Debt.{Shared}
 use Rattle.places.specs.declared.Ends.{Ends}
+use Rattle.places.specs.Map.{far, half}
 
 -- one end of a value
 abbrev pub one : Bool → Ends → ℕ
@@ -21,13 +22,6 @@ one up e = cond up (e .high) (e .low)
 pub record Both (f : Bool → ℕ) (r : Ends) : Type 0 where
   pub low : r .low ≡ f false
   pub high : r .high ≡ f true
-
--- low ends stand in the first `far` cells, the high end of each as many further; the second half of the places begins at `half`
-abbrev pub far : ℕ
-far = 1200
-
-abbrev pub half : ℕ
-half = 600
 
 -- a row of places stands on one of two sides
 abbrev pub Side : ℕ → Type 0

@@ -1,2 +1,3 @@
 -- What the contracts over places cite.
 pub mod Cells
+pub mod Map

@@ -1,25 +1,24 @@
-// Places of the lent table: a place is two cells, the low end of a value and, FAR cells further, its high end.
+// Places of the lent table: a place is two cells, the low end of a value and, FAR cells further, its high end. And the
+// table's cells set to 0.
+pub mod map; // map.rt: which of the table's cells hold what
+
 ghost use mathlib.Core.Path.{_≡_};
 ghost use mathlib.Core.Bool.{Bool, cond};
+ghost use mathlib.Core.List.{_++_};
 ghost use Prim.Native.Nat.{_-_, _<_, _≤_, min};
-ghost use lib.ListN.{length, getD};
+ghost use lib.ListN.{length, getD, drop, replicate};
 ghost use Rattle.rules.specs.State.{S};
 ghost use Rattle.rules.specs.Figure.{rounded, mixed};
 ghost use Rattle.units.specs.Step.{whole};
 ghost use Rattle.units.specs.Odds.{Prepared};
 ghost use Rattle.places.specs.Cells.{Both, MustWork, Place, Put, Steady, Within, cellAt, one, sharesAt};
+use crate::map::FAR;
 use units::Failure;
 use units::FailureShare;
 use units::Survival;
 use units::SurvivalShare;
 use units::debt::Shares;
 use units::odds::Odds;
-
-// How far the high end of a value stands from its low end, and so how many places there are.
-pub const FAR: usize = 1200;
-
-// Where the second half of the places begins.
-pub const HALF: usize = 600;
 
 // The two ends of a value.
 pub struct Ends {
@@ -85,7 +84,9 @@ pub fn write_shares(table: &mut [u64], at: usize, shares: Shares)
 // One rounded step of both ends.
 pub fn step(decimal: bool, p: Survival, q: Failure, works: Ends, fails: Ends) -> Ends
     requires { ⌜ Steady (whole decimal) (p .0) (q .0) works fails ⌝ }
-    ensures { λ r. ⌜ Both (λ up. rounded up (whole decimal) (mixed (whole decimal) (p .0) (one up works) (one up fails))) r ⌝ }
+    ensures { λ r.
+        let u = whole decimal in
+        ⌜ Both (λ up. rounded up u (mixed u (p .0) (one up works) (one up fails))) r ⌝ }
 {
     let unit = units::whole(decimal);
     Ends {
@@ -97,7 +98,9 @@ pub fn step(decimal: bool, p: Survival, q: Failure, works: Ends, fails: Ends) ->
 // The same over a row of values, with one component's numbers for all of it.
 pub fn step_row(decimal: bool, odds: Odds, works: Ends, fails: Ends) -> Ends
     requires { ⌜ Prepared (whole decimal) odds × Within (whole decimal) works × Within (whole decimal) fails ⌝ }
-    ensures { λ r. ⌜ Both (λ up. rounded up (whole decimal) (mixed (whole decimal) (odds .p .0) (one up works) (one up fails))) r ⌝ }
+    ensures { λ r.
+        let u = whole decimal in
+        ⌜ Both (λ up. rounded up u (mixed u (odds .p .0) (one up works) (one up fails))) r ⌝ }
 {
     let unit = units::whole(decimal);
     Ends {
@@ -132,6 +135,14 @@ pub fn chance(survival: &[u32], i: usize) -> Survival
     Survival(wide(survival[i]))
 }
 
+// The value at hand, which is that of the memory asked for: the two hold the same number.
+pub fn at_hand(asked: usize, hand: usize, ends: Ends) -> Ends
+    requires { ⌜ asked ≡ hand ⌝ }
+    ensures { λ r. ⌜ r ≡ ends ⌝ }
+{
+    ends
+}
+
 // The value of a memory with no components left; of a dead one at any time.
 pub fn end_value(decimal: bool, works: bool) -> Ends
     ensures { λ r. ⌜ Both (λ up. cond works (whole decimal) 0) r ⌝ }
@@ -144,6 +155,18 @@ pub fn end_value(decimal: bool, works: bool) -> Ends
         };
     }
     Ends { low: 0, high: 0 }
+}
+
+// Sets the first `count` cells of a table to 0.
+pub fn zero(table: &mut [u64], count: usize)
+    requires { ⌜ count ≤ length (now table) ⌝ }
+    ensures { λ _. ⌜ now (table .exit) ≡ replicate count 0 ++ drop count (now (table .entry)) ⌝ }
+{
+    let mut i: usize = 0;
+    while i < count {
+        table[i] = 0;
+        i += 1;
+    }
 }
 
 pub fn lesser(a: usize, b: usize) -> usize

@@ -10,11 +10,10 @@ use lib.ListN.{length, getD, take, drop, length-map}
 use lib.Seq.{ext-getD, getD-take, length-take-le}
 use lib.Ieee.{Float}
 use borrow.Author.Tests.{lt-ltb, not-false}
-use Rattle.rules.specs.declared.Rule.{Rule}
-use Rattle.rules.specs.State.{unitOf}
+use Rattle.rules.specs.declared.Question.{Question}
 use Rattle.rules.specs.Boards.{figureBehind}
 use Rattle.rules.specs.Stretch.{stretch}
-use Rattle.rules.specs.Asked.{askedOf, readOf, boardsOf, boardSurvivalOf, roundedOf}
+use Rattle.rules.specs.Asked.{askedOf, unitIn, readOf, boardsOf, switchboardsOf, roundedOf}
 use Rattle.rules.specs.Refusal.{most, cells, badStretch}
 use Rattle.rules.specs.Doubles.{wholeOf, Planned, plannedRefusal}
 use Rattle.rules.proofs.Lists.{map-take, map-drop}
@@ -24,7 +23,7 @@ use Rattle.rules.proofs.Doubles.{whole-get, passed}
 use Rattle.places.specs.declared.Ends.{Ends}
 use Rattle.places.specs.Cells.{Kept}
 use Rattle.doubles.specs.Floats.{bits, bitsOf}
-use Rattle.figures.specs.Outcome.{Worked}
+use Rattle.stretches.specs.Outcome.{Worked}
 use Rattle.asked.proofs.Refused.{part-is}
 use Rattle.planning.specs.Outcome.{Filled}
 
@@ -65,12 +64,12 @@ module _ (up : Bool) (a b : ℕ) (xs : List Float) (inside : badStretch a b (len
           ∙ ap (λ bs. wholeOf up (getD bs i 0)) (floats-are a b (length xs) xs inside) ∙ sym (whole-get up (stretch a b (bitsOf xs)) i))
 
 -- the figures read the stretch alone
-pub worked-same : (version : ℕ) (rule : Rule) (a b : ℕ) (xs ys weights more boards boardSurvival : List ℕ) → stretch a b xs ≡ stretch a b ys → {t₀ t : List ℕ} {r : Ends}
-    → Worked (askedOf version rule a b xs weights more boards boardSurvival) t₀ t r → Worked (askedOf version rule a b ys weights more boards boardSurvival) t₀ t r
-worked-same version rule a b xs ys weights more boards boardSurvival same w =
-    let q = askedOf version rule a b xs weights more boards boardSurvival in
-    let part : (up : Bool) → roundedOf up q ≡ roundedOf up (askedOf version rule a b ys weights more boards boardSurvival)
-    = λ up. ap (λ ps. figureBehind up (unitOf version) rule ps (readOf q) (boardsOf q) (boardSurvivalOf q)) same in
+pub worked-same : (question : Question) (xs ys weights more boards switchboards : List ℕ) → stretch (question .a) (question .b) xs ≡ stretch (question .a) (question .b) ys
+    → {t₀ t : List ℕ} {r : Ends} → Worked (askedOf question xs weights more boards switchboards) t₀ t r → Worked (askedOf question ys weights more boards switchboards) t₀ t r
+worked-same question xs ys weights more boards switchboards same w =
+    let q = askedOf question xs weights more boards switchboards in
+    let part : (up : Bool) → roundedOf up q ≡ roundedOf up (askedOf question ys weights more boards switchboards)
+    = λ up. ap (λ ps. figureBehind up (unitIn q) (q .rule) ps (readOf q) (boardsOf q) (switchboardsOf q)) same in
     record { low = w .low ∙ part false; high = w .high ∙ part true; kept = w .kept }
 
 module _ (q : Planned) (table : List ℕ) (none : plannedRefusal q table ≡ 0) where

@@ -1,4 +1,4 @@
--- What the call leaves, the answer and the working table; and the whole numbers of a list's floats, as its two ratings begin with them.
+-- What the call answers and leaves of the working table, and what it leaves where the table is handed back clear; and the whole numbers of a list's floats, as its two ratings begin with them.
 use mathlib.Core.Path.{_≡_}
 use mathlib.Core.Bool.{Bool, false}
 use mathlib.Core.List.{List}
@@ -6,12 +6,11 @@ use Prim.Native.Nat.{ℕ, _+_, _≤_, _<_}
 use lib.ListN.{length, getD}
 use lib.Ieee.{Float}
 use Rattle.rules.specs.declared.Rating.{Rating}
-use Rattle.rules.specs.declared.Rating.the-variants.{Range}
 use Rattle.rules.specs.Refusal.{most}
 use Rattle.rules.specs.Answer.{Rates, tableAfter}
 use Rattle.rules.specs.Doubles.{noChance, wholeOf, Planned, lowIn, highIn, plannedRefusal}
 use Rattle.doubles.specs.Floats.{bitsOf}
-use Rattle.places.specs.Cells.{Kept}
+use Rattle.stretches.specs.Outcome.{Used}
 
 -- chances, and a place of 64 from which they have room
 pub record Room (from : ℕ) (floats : List Float) : Type 0 where
@@ -23,12 +22,12 @@ pub record Filled (up : Bool) (from : ℕ) (floats : List Float) (numbers : List
   pub long : length numbers ≡ most
   pub filled : (i : ℕ) → i < length floats → getD numbers (from + i) 0 ≡ wholeOf up (getD (bitsOf floats) i 0)
 
--- what is worked of a rating that is not refused, in a table of which no more is known than what lies past it
-pub record Found (q : Planned) (t₀ t : List ℕ) (r : Rating) : Type 0 where
-  pub range : r ≡ Range (lowIn q) (highIn q)
-  pub kept : Kept t₀ t
+-- the outcome of the rating: the table after a refusal as it was, after an answer as it was worked
+pub record Answered (q : Planned) (t₀ t : List ℕ) (r : Rating) : Type 0 where
+  pub answer : Rates r (plannedRefusal q t₀) (lowIn q) (highIn q)
+  pub table : Used (plannedRefusal q t₀) t₀ t
 
--- the outcome of the rating
+-- the outcome with the table handed back clear
 pub record Rated (q : Planned) (t₀ t : List ℕ) (r : Rating) : Type 0 where
   pub answer : Rates r (plannedRefusal q t₀) (lowIn q) (highIn q)
   pub table : t ≡ tableAfter (plannedRefusal q t₀) t₀

@@ -1,5 +1,5 @@
 -- Input longer than any sound file, 812 bytes, is never cut into a sound one: a front of 813 bytes or more has the whole's header and is no file
--- either, so the reader answers the same for both. A buffer that takes more than 812 bytes can be cut from no input that matters. Assumes nothing.
+-- either, so both are refused, and alike. A buffer that takes more than 812 bytes can be cut from no input that matters. Assumes nothing.
 use mathlib.Core.Path.{_≡_, refl, sym, ap, _∙_}
 use mathlib.Core.Bool.{Bool, true, false, not, _&&_, true≢false}
 use mathlib.Core.List.{List}
@@ -14,14 +14,11 @@ use Rattle.rules.specs.Refusal.{badSize}
 use Rattle.rules.specs.File.{versionField, zeroField, fansField, countField, survivalField, weightsField, systemsField, boardCountField, shortestHeader, headerLength, mostFans, mostSystems, survivalOffset, weightsOffset, systemsOffset, fileLength, numberAt, versionIn, fansIn, countIn, boardCountIn, boardsElsewhere, badLayout, badBoardsIn, fileRefusal}
 use Rattle.rules.proofs.EachKind.{within-true}
 use Rattle.rules.proofs.Accepted.{first-same}
-use Rattle.rules.proofs.Unless.{unless-some}
-use Rattle.deck.specs.declared.Read.{Read}
-use Rattle.deck.specs.Outcome.{Handed}
 use Rattle.ending.specs.Ending.{longest}
 use Rattle.layout.proofs.Versions.{header-bounds, fans-bound, without-boards, few-boards}
 use Rattle.deck.proofs.Sound.{sound, sound-few}
 use Rattle.ending.proofs.Asking.{same-number}
-use Rattle.printing.specs.Front.{Front, WholeRead}
+use Rattle.printing.specs.Front.{Front, Fronted}
 
 -- a length that differs is refused, whatever the offsets are
 long-layout : (bytes : List ℕ) → longest < length bytes → fansIn bytes ≤ mostFans → countIn bytes ≤ mostSystems → badBoardsIn bytes ≡ false → badLayout bytes ≡ true
@@ -77,30 +74,30 @@ module _ (bytes : List ℕ) (k : ℕ) (long : longest < k) (within : k ≤ lengt
       first-same 13 _ _ _ _ (laid ∙ sym (long-layout bytes (omega arith) (rw fans-same at n) (rw count-same at m) (sym boards-same ∙ counted)))
       (λ layout. absurd (true≢false (sym laid ∙ layout)))))))))
 
-  front-handed : (r : Read) → Handed front r → Handed bytes r
-  front-handed r is =
-      let refused = long-refused bytes (omega arith) in
-      record {
-        refusal = is .refusal ∙ same-refusal;
-        deck =
-            is .deck
-            ∙ unless-some (fileRefusal front) _ _ (λ z. refused (sym same-refusal ∙ z))
-            ∙ sym (unless-some (fileRefusal bytes) _ _ refused);
-      }
+  front-refused : fileRefusal front ≡ 0 → ⊥
+  front-refused = long-refused front (rw size long)
 
-module _ (buffer : List ℕ) (filled : ℕ) where
-  -- an input is read as its front in a buffer that takes more than the longest file
-  pub whole-read : (r : Read) → longest < length buffer → Handed (take filled buffer) r → WholeRead buffer filled r
-  whole-read r long is = record {
-    handed = λ input front.
+-- an input is read as its front in a buffer that takes more than the longest file
+module _ (buffer : List ℕ) (filled : ℕ) (long : longest < length buffer) where
+  abbrev file : List ℕ
+  file = take filled buffer
+
+  fits : (input : List ℕ) → Front input buffer filled → length input ≤ length buffer → file ≡ input
+  fits input front l = front .same ∙ take-all filled input (omega (arith, front .most))
+
+  pub fronted : Fronted buffer filled file
+  fronted = record {
+    is = refl;
+    refusal = λ input front.
         elim (decLe (length input) (length buffer)) [
-          | yes l ↦ rw (front .same ∙ take-all filled input (omega (arith, front .most))) at is
-          | no g ↦ front-handed input filled (omega (arith, front .most)) (omega (arith, front .most)) r (rw (front .same) at is)
+          | yes l ↦ ap fileRefusal (fits input front l)
+          | no g ↦ ap fileRefusal (front .same) ∙ same-refusal input filled (omega (arith, front .most)) (omega (arith, front .most))
+        ];
+    whole = λ input front none.
+        elim (decLe (length input) (length buffer)) [
+          | yes l ↦ fits input front l
+          | no g ↦
+              let accepted = rw (front .same) at none in
+              absurd (front-refused input filled (omega (arith, front .most)) (omega (arith, front .most)) accepted)
         ];
   }
-
-  -- the buffer's first bytes are an input of which it holds the front
-  pub front-itself : filled ≤ length buffer → Front (take filled buffer) buffer filled
-  front-itself h =
-      let size = length-take-le filled buffer h in
-      record { most = omega (arith, size); same = sym (take-all filled (take filled buffer) (omega (arith, size))) }

@@ -1,3 +1,4 @@
--- The laws of input that is cut, and of what is printed for it.
+-- The laws of input that is cut, of what is printed for it, and of lines one after another.
 pub mod Front
 pub mod Printed
+pub mod Lined

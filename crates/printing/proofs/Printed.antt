@@ -1,50 +1,58 @@
--- What stands at the front of a buffer is what is printed for the whole input: the line of a refused file, or what its deck's lines are.
--- Assumes nothing.
+-- What stands at the front of a buffer is what is printed for the whole input: the line of a refused file, or the lines of one that is not. Assumes nothing.
 use mathlib.Core.Path.{_≡_, sym, ap, _∙_}
 use mathlib.Core.List.{List}
-use Prim.Native.Nat.{ℕ, _≤_}
-use lib.ListN.{length, take}
+use Prim.Native.Nat.{ℕ, zero, suc}
+use native.Mathlib.Omega.{arith}
 use Rattle.rules.specs.File.{fileRefusal}
 use Rattle.rules.proofs.Unless.{unless-some, unless-none}
 use Rattle.text.specs.Added.{Added}
 use Rattle.text.proofs.Adding.{added-counts}
-use Rattle.deck.specs.declared.Read.{Read}
-use Rattle.deck.specs.Read.{keptDeck}
-use Rattle.deck.proofs.Kept.{read-none, read-deck}
-use Rattle.deck.proofs.Sound.{sound}
-use Rattle.systems.proofs.Kept.{kept-held}
+use Rattle.deck.specs.declared.Opened.{Opened}
+use Rattle.deck.specs.Outcome.{Opens}
+use Rattle.deck.proofs.Outcome.{opened-accepted}
 use Rattle.printing.specs.Lines.{fileText, printText}
-use Rattle.printing.specs.Front.{WholeRead, WholePrinted}
-use Rattle.printing.specs.Listable.{Listable}
-use Rattle.printing.proofs.Front.{front-itself}
+use Rattle.printing.specs.Front.{Front, Fronted, WholePrinted}
 
-module _ {buffer : List ℕ} {filled : ℕ} (r : Read) (read : WholeRead buffer filled r) where
-  -- the deck that was read can be listed
-  pub read-listable : r .refusal ≡ 0 → filled ≤ length buffer → Listable (r .deck)
-  unfolding keptDeck
-  read-listable none h =
-      let bytes = take filled buffer in
-      let is = read .handed bytes (front-itself buffer filled h) in
-      let accepted = read-none bytes r is none in
-      let s = sound bytes accepted in
-      rw (read-deck bytes r is none) (record { fans = s .most-fans; most = s .most-systems; held = λ k l. kept-held bytes k accepted l })
+-- by what opening a file answers
+module _ (body : List ℕ → List ℕ) {bytes : List ℕ} {r : Opened} (opens : Opens bytes r) {out after : List ℕ} {end : ℕ} where
+  pub refused-printed : (r .refusal ≡ 0 → ⊥) → Added (fileText (r .refusal)) out 0 after end → Added (printText body bytes) out 0 after end
+  unfolding printText
+  refused-printed some added =
+      let e = opens .refusal in
+      rw (unless-some (fileRefusal bytes) fileText (body bytes) (λ none. some (e ∙ none)), ← e) added
 
-  module _ (body : List ℕ → List ℕ) {out after : List ℕ} {end : ℕ} where
-    pub refused-printed : (r .refusal ≡ 0 → ⊥) → Added (fileText (r .refusal)) out 0 after end → WholePrinted body buffer filled after end
-    unfolding printText
-    refused-printed some added = record {
-      counts = added-counts added;
-      stands = λ input front.
-          let e = read .handed input front .refusal in
-          added .stands ∙ ap fileText e ∙ sym (unless-some (fileRefusal input) _ _ (λ z. some (e ∙ z)));
-    }
+  pub body-printed : r .refusal ≡ 0 → Added (body bytes) out 0 after end → Added (printText body bytes) out 0 after end
+  unfolding printText
+  body-printed none added = rw (unless-none (fileRefusal bytes) fileText (body bytes) (opened-accepted opens none)) added
 
-    pub deck-printed : {words : List ℕ} → r .refusal ≡ 0 → ((input : List ℕ) → r .deck ≡ keptDeck input → words ≡ body input)
-        → Added words out 0 after end → WholePrinted body buffer filled after end
-    unfolding printText
-    deck-printed none same added = record {
-      counts = added-counts added;
-      stands = λ input front.
-          let is = read .handed input front in
-          added .stands ∙ same input (read-deck input r is none) ∙ sym (unless-none (fileRefusal input) _ _ (read-none input r is none));
-    }
+-- a file that is read for the whole input prints as the input
+module _ (body : List ℕ → List ℕ) {buffer : List ℕ} {filled : ℕ} {file : List ℕ} (is : Fronted buffer filled file) where
+  same-text : (input : List ℕ) → Front input buffer filled → (r : ℕ) → fileRefusal file ≡ r → printText body file ≡ printText body input
+  unfolding printText
+  same-text input front zero none = ap (printText body) (is .whole input front none)
+  same-text input front (suc r) e =
+      let same = is .refusal input front in
+      let some : fileRefusal file ≡ 0 → ⊥ = λ none. omega (arith, sym e ∙ none) in
+      unless-some (fileRefusal file) _ _ some ∙ ap fileText same ∙ sym (unless-some (fileRefusal input) _ _ (λ none. some (same ∙ none)))
+
+  pub whole-printed : {out after : List ℕ} {end : ℕ} → Added (printText body file) out 0 after end → WholePrinted body buffer filled after end
+  whole-printed added = record {
+    counts = added-counts added;
+    stands = λ input front. added .stands ∙ same-text input front (fileRefusal file) (λ x. fileRefusal file);
+  }
+
+-- and it is opened as the input
+pub opened-whole : {buffer file : List ℕ} {filled : ℕ} {r : Opened} → Fronted buffer filled file → Opens file r → (input : List ℕ) → Front input buffer filled → Opens input r
+opened-whole {file} {r} is opens input front = go (fileRefusal file) (λ x. fileRefusal file)
+  where
+    same : fileRefusal file ≡ fileRefusal input
+    same = is .refusal input front
+
+    go : (number : ℕ) → fileRefusal file ≡ number → Opens input r
+    go zero none = rw (is .whole input front none) at opens
+    go (suc number) e =
+        let some : fileRefusal file ≡ 0 → ⊥ = λ none. omega (arith, sym e ∙ none) in
+        record {
+          refusal = opens .refusal ∙ same;
+          head = opens .head ∙ unless-some (fileRefusal file) _ _ some ∙ sym (unless-some (fileRefusal input) _ _ (λ none. some (same ∙ none)));
+        }

@@ -1,4 +1,3 @@
--- What is printed for a file, the buffer that holds the front of an input, and the decks whose systems can each be printed.
+-- What is printed for a file, and the buffer that holds the front of an input.
 pub mod Lines
 pub mod Front
-pub mod Listable

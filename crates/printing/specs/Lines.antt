@@ -1,6 +1,6 @@
 -- Document 01, "Deck file and printing": "A refused file prints only `file refused` and the number." What else is printed is each program's own.
-use mathlib.Core.List.{List, _++_}
-use Prim.Native.Nat.{ℕ, _+_}
+use mathlib.Core.List.{List, [], _++_}
+use Prim.Native.Nat.{ℕ, zero, suc, _+_}
 use lib.ListN.{length}
 use Rattle.rules.specs.Answer.{unless}
 use Rattle.rules.specs.File.{fileRefusal}
@@ -16,3 +16,8 @@ fileRoom = length (text "file") + refusedRoom
 -- all that a program prints for a file, by what it prints for one that is not refused
 unfoldable pub printText : (body : List ℕ → List ℕ) (bytes : List ℕ) → List ℕ
 printText body bytes = unless (fileRefusal bytes) fileText (body bytes)
+
+-- the lines of the first k things, counted from 0
+unfoldable pub linesText : (k : ℕ) → (ℕ → List ℕ) → List ℕ
+linesText zero line = []
+linesText (suc k) line = linesText k line ++ line k

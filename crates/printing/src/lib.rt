@@ -1,22 +1,32 @@
-// What the programs that print a deck file share: reading it where the buffer holds only the front of an input, and the line of a refused one.
+// What the programs that print a deck file share: the file in a buffer that holds only the front of an input, and the
+// line of a refused one.
 ghost use Prim.Native.Nat.{_≤_};
 ghost use lib.ListN.{length};
 ghost use Rattle.text.specs.Added.{Added};
 ghost use Rattle.printing.specs.Lines.{fileText, fileRoom};
-ghost use Rattle.printing.specs.Front.{WholeRead};
-use deck::Read;
+ghost use Rattle.printing.specs.Front.{Fronted, WholeRefused};
 use text::lines;
 
 // The buffer for the input. No sound file has more than 812 bytes: what is cut from a longer input changes nothing.
 pub const INPUT: usize = 1024;
 
-// The reader's answer for an input, of which the buffer holds the front: all of it, or as much as the buffer takes.
-pub fn read_front(input: &[u8; INPUT], filled: usize) -> Read
+// The file that an input is read as, where the buffer holds the input's front: all of it, or as much as the buffer
+// takes.
+pub fn front_of(input: &[u8; INPUT], filled: usize) -> &[u8]
     requires { ⌜ filled ≤ length (now input) ⌝ }
-    ensures { λ r. ⌜ WholeRead (now (input .entry)) filled r ⌝ }
+    ensures { λ r. ⌜ Fronted (now (input .entry)) filled (now r) ⌝ }
 {
     let buffer: &[u8] = input;
-    deck::read_deck(&buffer[..filled])
+    &buffer[..filled]
+}
+
+// Is the input that the buffer holds the front of refused?
+pub fn refused(input: &[u8; INPUT], filled: usize) -> bool
+    requires { ⌜ filled ≤ length (now input) ⌝ }
+    ensures { λ r. ⌜ WholeRefused (now (input .entry)) filled r ⌝ }
+{
+    let opened = deck::open(front_of(input, filled));
+    opened.refusal != 0
 }
 
 // A refused file's line, which is all that is printed for it.

@@ -9,14 +9,12 @@ ghost use Rattle.rules.specs.Below.{total, within};
 ghost use Rattle.rules.specs.Refusal.{most, badVersion, badKind, badSize, rangeOne, rangeTwo, ranged};
 ghost use Rattle.refusals.specs.Shared.{ratedRefusal, ruleRefusal};
 use rules::Rule;
+use rules::kind;
+use rules::limit;
+use rules::refusal;
 
-// The last version of the deck file.
-const LAST_VERSION: u64 = 3;
-
-// The most components of a list, and the heaviest total of those rated.
-const MOST: u64 = 64;
-
-const HEAVIEST: u64 = 120;
+// The most components of a list.
+const MOST: u64 = limit::FANS as u64;
 
 // Is x outside a range, whose ends belong to it?
 pub fn outside(low: u64, x: u64, high: u64) -> bool
@@ -32,15 +30,15 @@ pub fn outside(low: u64, x: u64, high: u64) -> bool
 pub fn version_out(version: u64) -> bool
     ensures { λ r. ⌜ r ≡ badVersion version ⌝ }
 {
-    outside(1, version, LAST_VERSION)
+    outside(rules::version::FIRST, version, rules::version::LAST)
 }
 
 // Refusal 1.
 pub fn kind_out(rule: Rule) -> bool
     ensures { λ r. ⌜ r ≡ badKind rule ⌝ }
 {
-    let kind = rule.kind;
-    outside(1, kind, 8)
+    let asked = rule.kind;
+    outside(1, asked, kind::LAST)
 }
 
 // Refusal 2.
@@ -78,29 +76,31 @@ fn one_out(k: u64, most: u64, second: u64) -> bool
 fn two_out(first: u64, r: u64, most: u64) -> bool
     ensures { λ a. ⌜ a ≡ not (rangeTwo first r most) ⌝ }
 {
-    if first != 2 {
+    if first != limit::NEAR {
         return true;
     }
-    outside(2, r, most)
+    outside(limit::NEAR, r, most)
 }
 
-// Refusal 6, over the total weight of the components rated, which only kind 2 asks for, and the further pairs, which only kind 8 does.
+// Refusal 6, over the total weight of the components rated, which only kind 2 asks for, and the further pairs, which
+// only kind 8 does.
 pub fn range_out(rule: Rule, n: u64, total: u64, more: &[u64]) -> bool
     ensures { λ r. ⌜ r ≡ not (ranged rule n total (now (more .entry))) ⌝ }
 {
-    let kind = rule.kind;
-    match kind {
-        1 | 4 | 5 => one_out(rule.first, n, rule.second),
-        2 => one_out(rule.first, total, rule.second),
-        3 => outside(rule.first, rule.second, n),
-        6 => two_out(rule.first, rule.second, MOST),
-        7 => two_out(rule.first, rule.second, n),
-        8 => pairs::pairs_out(rule.first, rule.second, n, more),
+    let asked = rule.kind;
+    match asked {
+        kind::NUMBER | kind::ROW | kind::ROW_ROUND => one_out(rule.first, n, rule.second),
+        kind::WEIGHT => one_out(rule.first, total, rule.second),
+        kind::BETWEEN => outside(rule.first, rule.second, n),
+        kind::NEAR => two_out(rule.first, rule.second, MOST),
+        kind::NEAR_ROUND => two_out(rule.first, rule.second, n),
+        kind::LACKING => pairs::pairs_out(rule.first, rule.second, n, more),
         _ => true,
     }
 }
 
-// Refusals 5 and 6 of a list of `whole` components with `listed` weights, of which n are rated, with the weights `rated`.
+// Refusals 5 and 6 of a list of `whole` components with `listed` weights, of which n are rated, with the weights
+// `rated`.
 pub fn rated_refusal(
     rule: Rule,
     whole: u64,
@@ -112,21 +112,21 @@ pub fn rated_refusal(
     requires { ⌜ (whole ≤ most) × (length (now rated) ≤ listed) ⌝ }
     ensures { λ r. ⌜ r ≡ ratedRefusal rule whole listed n (total (now (rated .entry))) (now (more .entry)) ⌝ }
 {
-    if rule.kind != 2 {
+    if rule.kind != kind::WEIGHT {
         if range_out(rule, n, 0, more) {
-            return 6;
+            return refusal::RANGE;
         }
         return 0;
     }
     if listed != whole {
-        return 5;
+        return refusal::WEIGHTS;
     }
     let total = total_of(rated);
-    if HEAVIEST < total {
-        return 5;
+    if limit::WEIGHT < total {
+        return refusal::WEIGHTS;
     }
     if range_out(rule, n, total, more) {
-        return 6;
+        return refusal::RANGE;
     }
     0
 }
@@ -136,10 +136,10 @@ pub fn rule_refusal(rule: Rule, n: u64, weights: &[u16], more: &[u64]) -> u64
     ensures { λ r. ⌜ r ≡ ruleRefusal rule n (now (weights .entry)) (now (more .entry)) ⌝ }
 {
     if kind_out(rule) {
-        return 1;
+        return refusal::KIND;
     }
     if size_out(n) {
-        return 2;
+        return refusal::SIZE;
     }
     rated_refusal(rule, n, weights.len() as u64, n, weights, more)
 }

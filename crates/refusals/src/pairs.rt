@@ -6,11 +6,7 @@ ghost use lib.ListN.{length};
 ghost use Rattle.rules.specs.Pairs.{pairOf, pairsIn, goodPair, inRange8, mostMore};
 ghost use Rattle.rules.specs.Refusal.{rangePairs};
 use crate::outside;
-
-// The longest window of kind 8, and the most numbers of further pairs.
-const LONGEST: u64 = 10;
-
-const MORE: usize = 6;
+use rules::limit;
 
 // Is a pair bad over n components?
 fn pair_out(k: u64, r: u64, n: u64) -> bool
@@ -19,7 +15,7 @@ fn pair_out(k: u64, r: u64, n: u64) -> bool
     if outside(1, k, r) {
         return true;
     }
-    if LONGEST < r {
+    if limit::WINDOW < r {
         return true;
     }
     n < r
@@ -47,7 +43,7 @@ pub fn pairs_out(first: u64, second: u64, n: u64, more: &[u64]) -> bool
     if more.len() % 2 != 0 {
         return true;
     }
-    if MORE < more.len() {
+    if limit::MORE < more.len() {
         return true;
     }
     if pair_out(first, second, n) {

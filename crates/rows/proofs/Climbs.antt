@@ -11,7 +11,8 @@ use Rattle.rules.specs.Figure.{rounded, mixed}
 use Rattle.memory.specs.declared.sum.Sum.{Sum}
 use Rattle.memory.specs.Sum.{sum}
 use Rattle.places.specs.declared.Ends.{Ends}
-use Rattle.places.specs.Cells.{half, Side, one, Both, cellAt, Place, Shelf, Written, Workable, Steady}
+use Rattle.places.specs.Cells.{Side, one, Both, cellAt, Place, Shelf, Written, Workable, Steady}
+use Rattle.places.specs.Map.{half}
 use Rattle.places.proofs.Cells.{both-as, room-kept, side-near, apart}
 use Rattle.places.proofs.Values.{Chance, step-steady, step-mixed, valued-suc}
 use Rattle.rows.specs.Kinds.{carryOf, summed}

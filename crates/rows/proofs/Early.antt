@@ -21,7 +21,7 @@ use Rattle.rules.proofs.Sums.{sum-add}
 use Rattle.rules.proofs.Tests.{by-test, by-both}
 use Rattle.memory.proofs.Sums.{sum-row1, sum-row3, sum-dead}
 use Rattle.memory.specs.Sum.{sum}
-use Rattle.places.specs.Cells.{half}
+use Rattle.places.specs.Map.{half}
 use Rattle.places.proofs.Values.{valued-dead}
 use Rattle.rows.specs.Kinds.{carryOf, loadOf, limitOf, gapOf, endOf}
 use Rattle.rows.specs.Level.{Asked, sumsValue}

@@ -15,7 +15,8 @@ use Rattle.rules.specs.Figure.{figure, value}
 use Rattle.rules.proofs.Rounding.{unchanged}
 use Rattle.memory.specs.Sum.{sum}
 use Rattle.places.specs.declared.Ends.{Ends}
-use Rattle.places.specs.Cells.{half, Side, Both, cellAt, Kept, Shelf, Written}
+use Rattle.places.specs.Cells.{Side, Both, cellAt, Kept, Shelf, Written}
+use Rattle.places.specs.Map.{half}
 use Rattle.places.proofs.Cells.{both-as, workable-kept, side-near, other-side, row-same, row-as}
 use Rattle.places.proofs.Values.{Chance, valued-suc}
 use Rattle.rows.specs.declared.Level.{Level}

@@ -8,7 +8,8 @@ use Rattle.rules.specs.declared.Rule.{Rule}
 use Rattle.rules.specs.Accepted.{Accepted}
 use Rattle.rules.specs.Refusal.{cells}
 use Rattle.memory.specs.Sum.{sum}
-use Rattle.places.specs.Cells.{far, Side, Kept, Shelf, Workable, valueOf}
+use Rattle.places.specs.Cells.{Side, Kept, Shelf, Workable, valueOf}
+use Rattle.places.specs.Map.{far}
 use Rattle.rows.specs.declared.Level.{Level}
 use Rattle.rows.specs.Kinds.{limitOf, gapOf, loadOf, endOf, summed}
 

@@ -1,5 +1,6 @@
-// Kinds 1 to 3: low and high of a list, worked in two rows of the lent table, a place for each sum that can still come. A row holds the values with
-// so many components left; a component more is a row on the other side, out of the row on this one.
+// Kinds 1 to 3: low and high of a list, worked in two rows of the lent table, a place for each sum that can still come.
+// A row holds the values with so many components left; a component more is a row on the other side, out of the row on
+// this one.
 mod kinds; // kinds.rt: what kinds 1 to 3 differ in
 mod row; // row.rt: the rows
 
@@ -8,7 +9,7 @@ ghost use Rattle.units.specs.Step.{whole};
 ghost use Rattle.places.specs.Cells.{Both, Kept};
 ghost use Rattle.rows.specs.Level.{Asked};
 use places::Ends;
-use places::HALF;
+use places::map::HALF;
 use rules::Rule;
 
 // At `from` stand the values with `left` components left of the sums that can still come, `reach` of them at the most.
@@ -21,7 +22,9 @@ struct Level {
 // Low and high of a list of kind 1, 2 or 3.
 pub fn rate(decimal: bool, rule: Rule, survival: &[u32], weights: &[u16], table: &mut [u64]) -> Ends
     requires { ⌜ Asked (whole decimal) rule (now survival) (now weights) (now table) ⌝ }
-    ensures figure { λ r. ⌜ Both (λ up. figure up (whole decimal) rule (now (survival .entry)) (now (weights .entry))) r ⌝ }
+    ensures figure { λ r.
+        let read = now (survival .entry) in
+        ⌜ Both (λ up. figure up (whole decimal) rule read (now (weights .entry))) r ⌝ }
     ensures kept { λ r. ⌜ Kept (now (table .entry)) (now (table .exit)) ⌝ }
 {
     let n = survival.len();

@@ -10,7 +10,7 @@ use crate::Level;
 use crate::kinds;
 use memory::sum::Sum;
 use places::Ends;
-use places::HALF;
+use places::map::HALF;
 use rules::Rule;
 use units::odds;
 
@@ -47,8 +47,8 @@ fn value(table: &[u64], from: usize, m: Sum) -> Ends
     places::read(table, from + m.sum)
 }
 
-// One component more. Where it weighs nothing every value stays as it is. Else the row on one side is worked out of the row on the other, so the
-// compiler works several places at a time.
+// One component more. Where it weighs nothing every value stays as it is. Else the row on one side is worked out of the
+// row on the other, so the compiler works several places at a time.
 pub fn turn(
     decimal: bool,
     rule: Rule,
@@ -57,8 +57,13 @@ pub fn turn(
     s: Level,
     table: &mut [u64],
 ) -> Level
-    requires { ⌜ Levelled (whole decimal) rule (now survival) (now weights) s (now table) × (s .left < length (now survival)) ⌝ }
-    ensures { λ r. ⌜ Raised (whole decimal) rule (now (survival .entry)) (now (weights .entry)) (suc (s .left)) (now (table .entry)) (now (table .exit)) r ⌝ }
+    requires { let level = Levelled (whole decimal) rule (now survival) (now weights) s (now table) in
+        ⌜ level × (s .left < length (now survival)) ⌝ }
+    ensures { λ r.
+        let read = now (survival .entry) in
+        let beside = now (weights .entry) in
+        let u = whole decimal in
+        ⌜ Raised u rule read beside (suc (s .left)) (now (table .entry)) (now (table .exit)) r ⌝ }
 {
     let left = s.left;
     let next = left + 1;

@@ -16,7 +16,7 @@ use Rattle.rules.specs.Below.{total, within}
 use Rattle.rules.specs.State.{besideOf}
 use Rattle.rules.specs.Boards.{hasBoards, boardsRead}
 use Rattle.rules.specs.Stretch.{stretch}
-use Rattle.rules.specs.Asked.{Asked, unitIn, lengthOf, sizeOf, partOf, weightsOf, readOf, boardsOf, boardSurvivalOf, lowOf, highOf, ThirdOf}
+use Rattle.rules.specs.Asked.{Asked, unitIn, lengthOf, sizeOf, partOf, weightsOf, readOf, boardsOf, switchboardsOf, lowOf, highOf, ThirdOf}
 use Rattle.rules.specs.Refusal.{most, mostBoards, badBoards, misplaced, someAbove, badKind, badSize, badStretch, heaviest, weightsOut, badWeights, rangeOne, rangeTwo, rangePairs, ranged, inRange, firstOf, after, figuresRefusal}
 use Rattle.rules.specs.Accepted.{Accepted, One, Two, Boarded, Ratable}
 use Rattle.rules.specs.Answer.{unless, figuresOf}
@@ -179,21 +179,21 @@ stretch-get a b xs i =
     (λ l. List·getD-eq-default (take m rest) 0 {n = i} (omega (arith, ltb-false i m l, length-take m rest)))
 
 -- 20, 21 and 4 not given: as many board numbers as fans, and boards that can be combined. A version without boards has none.
-pub boards-accepted : (version u n : ℕ) (listed boards boardSurvival : List ℕ) → badBoards version (length (boardsRead version boardSurvival)) ≡ false
-    → misplaced version n (length (boardsRead version boardSurvival)) listed (boardsRead version boards) ≡ false → someAbove u (boardsRead version boardSurvival) ≡ false
-    → (hasBoards version ≡ true → length listed ≡ n) × Boarded u (boardsRead version boards) (boardsRead version boardSurvival)
-boards-accepted version u n listed boards boardSurvival = go (hasBoards version)
+pub boards-accepted : (version u n : ℕ) (listed boards switchboards : List ℕ) → badBoards version (length (boardsRead version switchboards)) ≡ false
+    → misplaced version n (length (boardsRead version switchboards)) listed (boardsRead version boards) ≡ false → someAbove u (boardsRead version switchboards) ≡ false
+    → (hasBoards version ≡ true → length listed ≡ n) × Boarded u (boardsRead version boards) (boardsRead version switchboards)
+boards-accepted version u n listed boards switchboards = go (hasBoards version)
   where
-    go : (b : Bool) → b && not (within 1 (length (cond b boardSurvival [])) mostBoards) ≡ false
-        → b && (not (eqb (length listed) n) || someAbove (length (cond b boardSurvival [])) (cond b boards [])) ≡ false → someAbove u (cond b boardSurvival []) ≡ false
-        → (b ≡ true → length listed ≡ n) × Boarded u (cond b boards []) (cond b boardSurvival [])
+    go : (b : Bool) → b && not (within 1 (length (cond b switchboards [])) mostBoards) ≡ false
+        → b && (not (eqb (length listed) n) || someAbove (length (cond b switchboards [])) (cond b boards [])) ≡ false → someAbove u (cond b switchboards []) ≡ false
+        → (b ≡ true → length listed ≡ n) × Boarded u (cond b boards []) (cond b switchboards [])
     go true count list units =
         let h = neither (not (eqb (length listed) n)) _ list in (
           λ e. eqb-true (length listed) n (not-false _ (h .0)),
           record {
-            few = within-true 1 (length boardSurvival) mostBoards (not-false _ count) .1;
-            units = none-above u boardSurvival units;
-            placed = none-above (length boardSurvival) boards (h .1);
+            few = within-true 1 (length switchboards) mostBoards (not-false _ count) .1;
+            units = none-above u switchboards units;
+            placed = none-above (length switchboards) boards (h .1);
           },
         )
     go false count list units = (λ e. absurd (false≢true e), record { few = omega arith; units = λ i. omega arith; placed = λ i. omega arith })
@@ -230,14 +230,14 @@ module _ (q : Asked) (table : List ℕ) where
 
   -- and its boards can be combined
   pub figures-boarded : figuresRefusal q table ≡ 0
-      → (hasBoards (q .version) ≡ true → length (q .boards) ≡ lengthOf q) × Boarded (unitIn q) (boardsOf q) (boardSurvivalOf q)
+      → (hasBoards (q .version) ≡ true → length (q .boards) ≡ lengthOf q) × Boarded (unitIn q) (boardsOf q) (switchboardsOf q)
   unfolding figuresRefusal
   figures-boarded e =
       let t = none-first 2 _ _ (none-first 1 _ _ (none-first 0 _ _ (none-first 10 _ _ e .1) .1) .1) in
       let g = none-first 19 _ _ (t .1) in
       let p = none-first 20 _ _ (g .1) in
       let c = none-first 3 _ _ (p .1) in
-      boards-accepted (q .version) (unitIn q) (lengthOf q) (q .boards) (stretch (q .a) (q .b) (q .boards)) (q .boardSurvival) (g .0) (p .0)
+      boards-accepted (q .version) (unitIn q) (lengthOf q) (q .boards) (stretch (q .a) (q .b) (q .boards)) (q .switchboards) (g .0) (p .0)
       (neither (someAbove (unitIn q) (partOf q)) _ (c .0) .1)
 
   -- the third condition of every range that the figures answer, n the stretch's length
@@ -250,7 +250,7 @@ module _ (q : Asked) (table : List ℕ) where
       let low-is : lowOf q ≡ l = cc (v .1) in
       let high-is : highOf q ≡ h = cc (v .1) in
       rw (← low-is, ← high-is, ← size)
-      (third-boards (unitIn q) (unit-some (q .version)) (q .rule) (partOf q) (readOf q) (boardsOf q) (boardSurvivalOf q) (s .2 .units)
+      (third-boards (unitIn q) (unit-some (q .version)) (q .rule) (partOf q) (readOf q) (boardsOf q) (switchboardsOf q) (s .2 .units)
       (figures-boarded (v .0) .1 .units) (s .2 .accepted .size-low) (s .2 .accepted .in-range))
 
 -- a stretch from 1 to the end is the list

@@ -17,7 +17,7 @@ use Rattle.rules.specs.State.{unitOf, besideOf}
 use Rattle.rules.specs.Below.{total, within}
 use Rattle.rules.specs.Boards.{hasBoards, boardsRead, figureBehind, exactBehind}
 use Rattle.rules.specs.Stretch.{stretch}
-use Rattle.rules.specs.Asked.{Asked, unitIn, lengthOf, sizeOf, partOf, weightsOf, readOf, boardsOf, boardSurvivalOf, boardCount, roundedOf, exactOf}
+use Rattle.rules.specs.Asked.{Asked, unitIn, lengthOf, sizeOf, partOf, weightsOf, readOf, boardsOf, switchboardsOf, boardCount, roundedOf, exactOf}
 use Rattle.rules.specs.Alike.{Alike, alone, Paired}
 use Rattle.rules.specs.Refusal.{most, heaviest, firstOf, after, badVersion, badKind, badSize, badStretch, badBoards, misplaced, aboveUnit, someAbove, badWeights, weightsOut, inRange, shortTable, figuresRefusal}
 use Rattle.rules.specs.Answer.{unless, figuresOf}
@@ -35,7 +35,7 @@ module _ (q r : Asked) (e : Alike q r) where
       λ i.
       let version = e .version i in
       let n = e .as-many-fans i in
-      let own = boardsRead version (e .boardSurvival i) in
+      let own = boardsRead version (e .switchboards i) in
       let rated = boardsRead version (e .same-boards i) in
       firstOf
       ((11, badVersion version)
@@ -54,13 +54,13 @@ module _ (q r : Asked) (e : Alike q r) where
   alike-rounded up =
       λ i.
       figureBehind up (unitOf (e .version i)) (e .rule i) (e .same-fans i) (besideOf (e .rule i) (e .same-weights i) (e .more i)) (boardsRead (e .version i) (e .same-boards i))
-      (boardsRead (e .version i) (e .boardSurvival i))
+      (boardsRead (e .version i) (e .switchboards i))
 
   pub alike-exact : exactOf q ≡ exactOf r
   alike-exact =
       λ i.
       exactBehind (unitOf (e .version i)) (e .rule i) (e .same-fans i) (besideOf (e .rule i) (e .same-weights i) (e .more i)) (boardsRead (e .version i) (e .same-boards i))
-      (boardsRead (e .version i) (e .boardSurvival i))
+      (boardsRead (e .version i) (e .switchboards i))
 
   pub alike-figures : (table : List ℕ) → figuresOf q table ≡ figuresOf r table
   unfolding figuresOf
@@ -114,7 +114,7 @@ module _ (q r : Asked) (e : Alike q r) (fan : ℕ) where
     a = e .a;
     b = e .b;
     more = e .more;
-    boardSurvival = e .boardSurvival;
+    switchboards = e .switchboards;
     as-many-fans = length-set (q .survival) (fan - 1) p ∙ e .as-many-fans ∙ sym (length-set (r .survival) (fan - 1) p);
     as-many-weights = e .as-many-weights;
     as-many-boards = e .as-many-boards;
@@ -158,10 +158,10 @@ module _ (q : Asked) where
   -- "answers as a list of those components alone would, weights too": the figures and E of every stretch
   pub alone-rounded : (up : Bool) → roundedOf up (alone q) ≡ roundedOf up q
   alone-rounded up =
-      λ i. figureBehind up (unitIn q) (q .rule) (stretch-again (q .a) (q .b) (q .survival) i) (read-again i) (boards-again i) (boardSurvivalOf q)
+      λ i. figureBehind up (unitIn q) (q .rule) (stretch-again (q .a) (q .b) (q .survival) i) (read-again i) (boards-again i) (switchboardsOf q)
 
   pub alone-exact : exactOf (alone q) ≡ exactOf q
-  alone-exact = λ i. exactBehind (unitIn q) (q .rule) (stretch-again (q .a) (q .b) (q .survival) i) (read-again i) (boards-again i) (boardSurvivalOf q)
+  alone-exact = λ i. exactBehind (unitIn q) (q .rule) (stretch-again (q .a) (q .b) (q .survival) i) (read-again i) (boards-again i) (switchboardsOf q)
 
   module _ (paired : Paired q) (two : badSize (lengthOf q) ≡ false) (three : badStretch (q .a) (q .b) (lengthOf q) ≡ false) where
     inside : (1 ≤ q .a) × (q .a ≤ q .b) × (q .b ≤ lengthOf q)
@@ -216,7 +216,7 @@ module _ (q : Asked) where
         ∷ (3, (place-good ∙ sym three) i)
         ∷ (20, badBoards (q .version) (boardCount q))
         ∷ (21, placed-again i)
-        ∷ (4, aboveUnit (unitIn q) (stretch-again (q .a) (q .b) (q .survival) i) (boardSurvivalOf q))
+        ∷ (4, aboveUnit (unitIn q) (stretch-again (q .a) (q .b) (q .survival) i) (switchboardsOf q))
         ∷ (5, weighed-again i)
         ∷ (6, not (inRange (q .rule) (size-again i) (read-again i)))
         ∷ (7, shortTable table)

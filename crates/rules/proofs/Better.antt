@@ -13,6 +13,7 @@ use lib.IntN.{ℤ, pos}
 use lib.ListN.{length, getD, set, length-set, length-take, length-drop}
 use lib.Signed.{_≤ℤ_}
 use Rattle.rules.specs.declared.Rule.{Rule}
+use Rattle.rules.specs.declared.Question.{Question}
 use Rattle.rules.specs.declared.Rating.the-variants.{Range}
 use Rattle.rules.specs.declared.Worth.the-variants.{Ends}
 use Rattle.rules.specs.Below.{within}
@@ -23,7 +24,7 @@ use Rattle.rules.specs.Memory.{run, live, machineOf, Reading, reading, r
 use Rattle.rules.specs.Figure.{figureOf, figure, exactIf, exact}
 use Rattle.rules.specs.Boards.{figureBehind}
 use Rattle.rules.specs.Stretch.{stretch}
-use Rattle.rules.specs.Asked.{Asked, askedOf, unitIn, partsOf, partOf, readOf, boardsOf, boardSurvivalOf, roundedOf, lowOf, highOf}
+use Rattle.rules.specs.Asked.{Asked, questionIn, askedOf, unitIn, partsOf, partOf, readOf, boardsOf, switchboardsOf, roundedOf, lowOf, highOf}
 use Rattle.rules.specs.Refusal.{inRange, figuresRefusal}
 use Rattle.rules.specs.Answer.{figuresOf}
 use Rattle.rules.specs.Worth.{working, failing, worthOf}
@@ -69,9 +70,9 @@ set-better xs j p p' h = record { same-length = length-set xs j p ∙ sym (lengt
     go (x ∷ xs) (suc j) (suc i) = go xs j i
 
 -- a better list asked the same
-pub asked-better : (version : ℕ) (rule : Rule) (a b : ℕ) {xs ys : List ℕ} (weights more boards boardSurvival : List ℕ) → NoLower xs ys
-    → Better (askedOf version rule a b xs weights more boards boardSurvival) (askedOf version rule a b ys weights more boards boardSurvival)
-asked-better version rule a b weights more boards boardSurvival better = record {
+pub asked-better : (question : Question) {xs ys : List ℕ} (weights more boards switchboards : List ℕ) → NoLower xs ys
+    → Better (askedOf question xs weights more boards switchboards) (askedOf question ys weights more boards switchboards)
+asked-better question weights more boards switchboards better = record {
   version = refl;
   rule = refl;
   from = refl;
@@ -79,8 +80,8 @@ asked-better version rule a b weights more boards boardSurvival better = record 
   weights = refl;
   more = refl;
   boards = refl;
-  survival = stretch-better a b better;
-  boardSurvival = record { same-length = refl; no-lower = λ i. le-refl _ };
+  survival = stretch-better (question .a) (question .b) better;
+  switchboards = record { same-length = refl; no-lower = λ i. le-refl _ };
 }
 
 -- ---- what holds of every row that respects an order holds of the row of every kind of which it is claimed
@@ -154,11 +155,11 @@ module _ (q q' : Asked) (better : Better q q') (kind : rising (q .rule .kind) �
       go up =
           let read : readOf q ≡ readOf q' = rw (better .rule, better .weights, better .more, better .from, better .to) in
           let unit : unitIn q ≡ unitIn q' = ap unitOf (better .version) in
-          let behind : figureBehind up (unitIn q) (q .rule) (partOf q') (readOf q) (boardsOf q) (boardSurvivalOf q') ≡ roundedOf up q' =
-          λ x. figureBehind up (unit x) (better .rule x) (partOf q') (read x) (better .boards x) (boardSurvivalOf q') in
+          let behind : figureBehind up (unitIn q) (q .rule) (partOf q') (readOf q) (boardsOf q) (switchboardsOf q') ≡ roundedOf up q' =
+          λ x. figureBehind up (unit x) (better .rule x) (partOf q') (read x) (better .boards x) (switchboardsOf q') in
           rw (← behind)
-          (better-behind up (unitIn q) (unit-some (q .version)) (q .rule) kind (readOf q) (boardsOf q) (partOf q) (partOf q') (boardSurvivalOf q) (boardSurvivalOf q')
-          (better .survival) (better .boardSurvival) (λ i. rw unit (figures-ratable q' table none .2 .units i))
+          (better-behind up (unitIn q) (unit-some (q .version)) (q .rule) kind (readOf q) (boardsOf q) (partOf q) (partOf q') (switchboardsOf q) (switchboardsOf q')
+          (better .survival) (better .switchboards) (λ i. rw unit (figures-ratable q' table none .2 .units i))
           (λ i. rw unit (figures-boarded q' table none .1 .units i)))
 
   pub better-answers : (table table' : List ℕ) (l h l' h' : ℕ) → figuresOf q table ≡ Range l h → figuresOf q' table' ≡ Range l' h'
@@ -175,7 +176,7 @@ module _ (q : Asked) (table : List ℕ) (fan : ℕ) (kind : rising (q .rule .kin
   -- low with the fan sure to fail, low with it sure to work, high with it sure to work
   fails-works : figuresRefusal q table ≡ 0 → lowOf (failing fan q) ≤ highOf (working fan q)
   fails-works none =
-      let better = asked-better (q .version) (q .rule) (q .a) (q .b) (q .weights) (q .more) (q .boards) (q .boardSurvival) (set-better (q .survival) (fan - 1) 0 (unitIn q) zero-le) in
+      let better = asked-better (questionIn q) (q .weights) (q .more) (q .boards) (q .switchboards) (set-better (q .survival) (fan - 1) 0 (unitIn q) zero-le) in
       let third = sure-third q table fan (unitIn q) none (le-refl _) in
       le-trans (better-asked (failing fan q) (working fan q) better kind table (sure-accepted q table fan (unitIn q) none (le-refl _)) .0)
       (le-of-mul-le-mul-right (le-trans (third .above-low) (third .below-high)) (one-le-pow (partsOf q - 1) (unitIn q) (unit-some (q .version))))

@@ -66,8 +66,8 @@ combined-same up u (q ∷ qs) f f' h =
 
 -- ---- of a list
 
-module _ (u : ℕ) (pos : 0 < u) (rule : Rule) (survival beside boards boardSurvival : List ℕ) (units : (i : ℕ) → getD survival i 0 ≤ u)
-    (board-units : (i : ℕ) → getD boardSurvival i 0 ≤ u) where
+module _ (u : ℕ) (pos : 0 < u) (rule : Rule) (survival beside boards switchboards : List ℕ) (units : (i : ℕ) → getD survival i 0 ≤ u)
+    (board-units : (i : ℕ) → getD switchboards i 0 ≤ u) where
   abbrev n : ℕ
   n = length survival
 
@@ -76,13 +76,13 @@ module _ (u : ℕ) (pos : 0 < u) (rule : Rule) (survival beside boards boardSurv
 
   -- the third condition, over n + g parts
   pub third-boards : 1 ≤ n → inRange rule n beside ≡ true
-      → Third u (n + length boardSurvival)
-      (figureBehind false u rule survival beside boards boardSurvival)
-      (figureBehind true u rule survival beside boards boardSurvival)
-      (exactBehind u rule survival beside boards boardSurvival)
+      → Third u (n + length switchboards)
+      (figureBehind false u rule survival beside boards switchboards)
+      (figureBehind true u rule survival beside boards switchboards)
+      (exactBehind u rule survival beside boards switchboards)
   third-boards some range =
-      rw (exact-boards u rule survival beside boards (below-unit survival units) boardSurvival)
-      (third-combined u pos boardSurvival n _ _ _ some board-units each)
+      rw (exact-boards u rule survival beside boards (below-unit survival units) switchboards)
+      (third-combined u pos switchboards n _ _ _ some board-units each)
     where
       each : (out : ℕ) → Third u n (low u rule (list out) beside) (high u rule (list out) beside) (exact u rule (list out) beside)
       each out =
@@ -91,9 +91,9 @@ module _ (u : ℕ) (pos : 0 < u) (rule : Rule) (survival beside boards boardSurv
           (third pos rule (list out) beside (rw e some) (behind-units boards out survival units) (rw e range))
 
   -- within the unit
-  pub behind-within : (up : Bool) → figureBehind up u rule survival beside boards boardSurvival ≤ u
+  pub behind-within : (up : Bool) → figureBehind up u rule survival beside boards switchboards ≤ u
   behind-within up =
-      combined-le u pos up boardSurvival _ board-units
+      combined-le u pos up switchboards _ board-units
       (λ out. figure-within up pos rule (list out) beside (behind-units boards out survival units))
 
 -- ---- no boards

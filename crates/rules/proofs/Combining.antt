@@ -90,7 +90,7 @@ other-bit b a w c j h l ne =
     ]
 
 -- two sets of failed boards that lose the same fans
-behind-same : (boards : List ℕ) (out out' : ℕ) (survival : List ℕ) → ((i : ℕ) → i < length survival → lost boards out (suc i) ≡ lost boards out' (suc i))
+pub behind-same : (boards : List ℕ) (out out' : ℕ) (survival : List ℕ) → ((i : ℕ) → i < length survival → lost boards out (suc i) ≡ lost boards out' (suc i))
     → behind boards out survival ≡ behind boards out' survival
 unfolding behind numberOf
 behind-same boards out out' survival h =

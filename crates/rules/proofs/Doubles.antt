@@ -19,7 +19,7 @@ use Rattle.rules.specs.State.{S, unitOf}
 use Rattle.rules.specs.Figure.{rounded, low, high, exact, Third}
 use Rattle.rules.specs.Boards.{hasBoards}
 use Rattle.rules.specs.Stretch.{stretch}
-use Rattle.rules.specs.Asked.{askedOf, weightsOf, roundedOf}
+use Rattle.rules.specs.Asked.{questionOf, askedOf, weightsOf, roundedOf}
 use Rattle.rules.specs.Refusal.{cells, badKind, badSize, badStretch, badWeights, inRange, firstOf, figuresRefusal}
 use Rattle.rules.specs.Better.{rising}
 use Rattle.rules.specs.Doubles.{parts, spelt, own, isChance, wholeOf, onGrid, Planned, askedIn, lowIn, highIn, floatsOf, sizeIn, readIn, exactIn, noChance, someOff, offGrid, plannedRefusal, plannedRating, widest, Spanned, SpannedOf}
@@ -184,7 +184,7 @@ module _ (q : Planned) (table : List ℕ) (none : plannedRefusal q table ≡ 0) 
 
   -- a list of whole numbers that has the stretch's: the figures do not refuse it
   pub planned-accepted : (up : Bool) (xs : List ℕ) → length xs ≡ length (q .survival) → stretch (q .a) (q .b) xs ≡ map (wholeOf up) (floatsOf q)
-      → figuresRefusal (askedOf 1 (q .rule) (q .a) (q .b) xs (q .weights) (q .more) [] []) table ≡ 0
+      → figuresRefusal (askedOf (questionOf 1 (q .rule) (q .a) (q .b)) xs (q .weights) (q .more) [] []) table ≡ 0
   unfolding figuresRefusal firstOf unitOf
   planned-accepted up xs long part =
       let units = units (q .rule) (floatsOf q) (readIn q) (each-chance (floatsOf q) (passed .chances)) up in

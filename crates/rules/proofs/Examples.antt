@@ -24,7 +24,7 @@ use Rattle.rules.specs.Memory.{moved, ended, readingOf}
 use Rattle.rules.specs.Figure.{rounded, value, product, exactIf}
 use Rattle.rules.specs.Boards.{boardDown, behind, combined, figureBehind, fansDown, worksBehind, exactBehind}
 use Rattle.rules.specs.Stretch.{stretch}
-use Rattle.rules.specs.Asked.{askedOf}
+use Rattle.rules.specs.Asked.{questionOf, askedOf}
 use Rattle.rules.specs.Refusal.{cells, after, someAbove, weightsOut, ranged, firstOf, verdictRefusal, figuresRefusal}
 use Rattle.rules.specs.Answer.{unless, judgment, judgedOf, verdictOf, figuresOf}
 use Rattle.rules.specs.Worth.{worthOf}
@@ -44,7 +44,7 @@ pub data Example : Type 0 where
 unfoldable pub Holds : Example → Type 0
 Holds (counts rule n weights printed) = countsOf rule n weights ≡ printed
 Holds (verdict rule n w printed) = verdictOf rule n [] [] w ≡ printed
-Holds (figures rule survival printed) = figuresOf (askedOf 1 rule 1 (length survival) survival [] [] [] []) (replicate cells 0) ≡ printed
+Holds (figures rule survival printed) = figuresOf (askedOf (questionOf 1 rule 1 (length survival)) survival [] [] [] []) (replicate cells 0) ≡ printed
 
 unfoldable pub All : List Example → Type 0
 unfolding Holds
@@ -74,7 +74,7 @@ abbrev four : List ℕ
 four = 2 ^ 29 ∷ 2 ^ 28 ∷ 2 ^ 29 ∷ suc S ∷ []
 
 abbrev pub weighed : (rule : Rule) (a b : ℕ) (survival : List ℕ) (fan : ℕ) → Worth
-weighed rule a b survival fan = worthOf (askedOf 1 rule a b survival [] [] [] []) fan (replicate cells 0)
+weighed rule a b survival fan = worthOf (askedOf (questionOf 1 rule a b) survival [] [] [] []) fan (replicate cells 0)
 
 pub worths : (weighed (ruleOf 1 1 0) 2 3 four 2 ≡ Ends (pos (2 ^ 29)) (pos (2 ^ 29)))
     × (weighed (ruleOf 1 1 0) 2 3 four 3 ≡ Ends (pos (2 ^ 28)) (pos (2 ^ 28)))
@@ -113,14 +113,14 @@ writings = (refl, refl, refl, refl, refl, refl, refl, refl)
 -- request 08: a fan at 1/2 and two of 1 part in version 2, whose mix is rounded up by that unit; the unit itself and one part more; the versions that there are
 -- not, before a kind that there is not
 abbrev versionTwo : Rule → (survival : List ℕ) → Rating
-versionTwo rule survival = figuresOf (askedOf 2 rule 1 (length survival) survival [] [] [] []) (replicate cells 0)
+versionTwo rule survival = figuresOf (askedOf (questionOf 2 rule 1 (length survival)) survival [] [] [] []) (replicate cells 0)
 
 pub versions : (versionTwo (ruleOf 1 1 0) (500000000 ∷ []) ≡ Range 500000000 500000000)
     × (versionTwo (ruleOf 1 2 0) (1 ∷ 1 ∷ []) ≡ Range 1 2)
     × (versionTwo (ruleOf 1 1 0) (decimal ∷ []) ≡ Range decimal decimal)
     × (versionTwo (ruleOf 1 1 0) (suc decimal ∷ []) ≡ Refused 4)
-    × (figuresOf (askedOf 0 (ruleOf 9 1 0) 1 1 (1 ∷ []) [] [] [] []) [] ≡ Refused 11)
-    × (figuresOf (askedOf 4 (ruleOf 1 1 0) 1 1 (1 ∷ []) [] [] [] []) [] ≡ Refused 11)
+    × (figuresOf (askedOf (questionOf 0 (ruleOf 9 1 0) 1 1) (1 ∷ []) [] [] [] []) [] ≡ Refused 11)
+    × (figuresOf (askedOf (questionOf 4 (ruleOf 1 1 0) 1 1) (1 ∷ []) [] [] [] []) [] ≡ Refused 11)
     × (writingOf (typedOf 4 [] [] [] [] []) [] ≡ writing.Refused 11)
     × (bytesFor (typedOf 2 (decimal ∷ []) (7 ∷ []) [] [] (1 ∷ 1 ∷ 0 ∷ 1 ∷ 1 ∷ []))
     ≡ 2 ∷ 0 ∷ 0 ∷ 0 ∷ 1 ∷ 0 ∷ 1 ∷ 0 ∷ 20 ∷ 0 ∷ 0 ∷ 0 ∷ 24 ∷ 0 ∷ 0 ∷ 0 ∷ 26 ∷ 0 ∷ 0 ∷ 0
@@ -140,8 +140,8 @@ board-one-last = (refl, refl, refl)
 
 -- version 3: a fan at 1/2 behind a board at 1/2; the same lists with version 2, which reads nothing of boards; a fan on no board; a stretch beside a fan on a board that
 -- there is not. Then 20, 21 and 4, each before the next, and its worth: sure to work it may still lose its board.
-abbrev boarded : (version : ℕ) → Rule → (a b : ℕ) (survival boards boardSurvival : List ℕ) → Rating
-boarded version rule a b survival boards boardSurvival = figuresOf (askedOf version rule a b survival [] [] boards boardSurvival) (replicate cells 0)
+abbrev boarded : (version : ℕ) → Rule → (a b : ℕ) (survival boards switchboards : List ℕ) → Rating
+boarded version rule a b survival boards switchboards = figuresOf (askedOf (questionOf version rule a b) survival [] [] boards switchboards) (replicate cells 0)
 
 abbrev half : ℕ
 half = 500000000
@@ -157,7 +157,7 @@ pub behind-boards : (boarded 3 (ruleOf 1 1 0) 1 1 (half ∷ []) (1 ∷ []) (half
     × (boarded 3 (ruleOf 1 1 0) 1 1 (suc decimal ∷ []) (2 ∷ []) (half ∷ []) ≡ Refused 21)
     × (boarded 3 (ruleOf 1 1 0) 1 1 (suc decimal ∷ []) (1 ∷ 1 ∷ []) (half ∷ []) ≡ Refused 21)
     × (boarded 3 (ruleOf 2 1 0) 1 1 (half ∷ []) (1 ∷ []) (suc decimal ∷ []) ≡ Refused 4)
-    × (worthOf (askedOf 3 (ruleOf 1 1 0) 1 1 (half ∷ []) [] [] (1 ∷ []) (half ∷ [])) 1 (replicate cells 0) ≡ Ends (pos half) (pos half))
+    × (worthOf (askedOf (questionOf 3 (ruleOf 1 1 0) 1 1) (half ∷ []) [] [] (1 ∷ []) (half ∷ [])) 1 (replicate cells 0) ≡ Ends (pos half) (pos half))
 unfolding unitOf sumBelow held some listBelow total numberOf ones moved ended readingOf rounded value stretch boardDown behind combined someAbove weightsOut ranged firstOf after figuresRefusal unless figuresOf worthOf
 behind-boards = (refl, refl, refl, refl, refl, refl, refl, refl, refl, refl, refl, refl)
 

@@ -11,7 +11,7 @@ use Rattle.rules.specs.declared.Rule.{Rule}
 use Rattle.rules.specs.declared.Rating.the-variants as rating
 use Rattle.rules.specs.declared.Counting.the-variants as counting
 use Rattle.rules.specs.declared.Worth.the-variants as worth
-use Rattle.rules.specs.Asked.{Asked, unitIn, lengthOf, sizeOf, partOf, weightsOf, readOf, boardsOf, boardSurvivalOf, boardCount, lowOf, highOf}
+use Rattle.rules.specs.Asked.{Asked, unitIn, lengthOf, sizeOf, partOf, weightsOf, readOf, boardsOf, switchboardsOf, boardCount, lowOf, highOf}
 use Rattle.rules.specs.Count.{countOf, countsOf}
 use Rattle.rules.specs.Refusal.{cells, firstOf, after, badVersion, badKind, notCounted, badSize, badStretch, badBoards, misplaced, aboveUnit, badWeights, inRange, figuresRefusal, countRefusal}
 use Rattle.rules.specs.Answer.{unless, figuresOf, countingOf, cleared, roomAfter}
@@ -30,7 +30,7 @@ module _ (t u : List ℕ) (long : length t ≡ length u) where
       ∷ (3, badStretch (q .a) (q .b) (lengthOf q))
       ∷ (20, badBoards (q .version) (boardCount q))
       ∷ (21, misplaced (q .version) (lengthOf q) (boardCount q) (q .boards) (boardsOf q))
-      ∷ (4, aboveUnit (unitIn q) (partOf q) (boardSurvivalOf q))
+      ∷ (4, aboveUnit (unitIn q) (partOf q) (switchboardsOf q))
       ∷ (5, badWeights (q .rule) (lengthOf q) (q .weights) (weightsOf q))
       ∷ (6, not (inRange (q .rule) (sizeOf q) (readOf q)))
       ∷ (7, ltb (long i) cells)

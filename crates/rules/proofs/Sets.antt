@@ -25,8 +25,8 @@ use Rattle.rules.proofs.Lists.{below-length, below-get}
 use Rattle.rules.proofs.Lost.{exact-lost}
 
 -- a sum over every set of failed boards, each weighed by the product of the boards' P and Q
-unfoldable pub overSets : (u : ℕ) (boardSurvival : List ℕ) (f : ℕ → ℕ) → ℕ
-overSets u boardSurvival f = sumBelow (2 ^ length boardSurvival) (λ out. product u (numberOf boardSurvival) (length boardSurvival) out * f out)
+unfoldable pub overSets : (u : ℕ) (switchboards : List ℕ) (f : ℕ → ℕ) → ℕ
+overSets u switchboards f = sumBelow (2 ^ length switchboards) (λ out. product u (numberOf switchboards) (length switchboards) out * f out)
 
 -- ---- E, of any test: the parts above n and those below
 
@@ -90,17 +90,17 @@ module _ (u : ℕ) (rule : Rule) (survival beside boards : List ℕ) (units : (i
       ∙ exact-numbers _ u _ (numberOf (behind boards out survival)) n (λ i l. sym (behind-number boards out survival i l))
       ∙ rw (behind-length boards out survival)
 
-  pub exact-boards : (boardSurvival : List ℕ)
-      → exactBehind u rule survival beside boards boardSurvival ≡ overSets u boardSurvival (λ out. exact u rule (behind boards out survival) beside)
+  pub exact-boards : (switchboards : List ℕ)
+      → exactBehind u rule survival beside boards switchboards ≡ overSets u switchboards (λ out. exact u rule (behind boards out survival) beside)
   unfolding overSets
-  exact-boards boardSurvival =
-      let g = length boardSurvival in
-      let P = numberOf (survival ++ boardSurvival) in
+  exact-boards switchboards =
+      let g = length switchboards in
+      let P = numberOf (survival ++ switchboards) in
       exact-join u P n g (worksBehind rule n beside boards)
       ∙ sum-same (2 ^ g) _ _
       (λ out l. rw (
-        product-same u (λ b. P (n + b)) (numberOf boardSurvival) g out (λ i l. number-second survival boardSurvival i),
-        exact-numbers (λ w. worksBehind rule n beside boards (out * 2 ^ n + w)) u P (numberOf survival) n (number-first survival boardSurvival),
+        product-same u (λ b. P (n + b)) (numberOf switchboards) g out (λ i l. number-second survival switchboards i),
+        exact-numbers (λ w. worksBehind rule n beside boards (out * 2 ^ n + w)) u P (numberOf survival) n (number-first survival switchboards),
         exact-set out,
       ))
 

@@ -15,7 +15,7 @@ use Rattle.rules.specs.State.{numberOf, besideOf}
 use Rattle.rules.specs.Verdict.{someWindow, fails}
 use Rattle.rules.specs.Count.{countIf, countOf}
 use Rattle.rules.specs.Figure.{exact, exactIf}
-use Rattle.rules.specs.Asked.{Asked, unitIn, lengthOf, sizeOf, partOf, weightsOf, readOf, boardsOf, boardSurvivalOf, boardCount}
+use Rattle.rules.specs.Asked.{Asked, unitIn, lengthOf, sizeOf, partOf, weightsOf, readOf, boardsOf, switchboardsOf, boardCount}
 use Rattle.rules.specs.Refusal.{most, badVersion, badKind, badSize, badStretch, badBoards, misplaced, aboveUnit, badWeights, rangeTwo, ranged, inRange, notCounted, shortTable, shortRoom, highOne, firstOf, verdictRefusal, countRefusal, figuresRefusal}
 use Rattle.rules.proofs.EachKind.{within-true}
 use Rattle.rules.proofs.Tests.{both}
@@ -105,7 +105,7 @@ counts-pass rule n weights table room = eased 0 _ _ _ _ same (λ one. eased 14 _
 pub figures-pass : (q : Asked) (table : List ℕ)
     → firstOf ((11, badVersion (q .version)) ∷ (1, badKind (q .rule)) ∷ (2, badSize (lengthOf q)) ∷ (3, badStretch (q .a) (q .b) (lengthOf q))
     ∷ (20, badBoards (q .version) (boardCount q)) ∷ (21, misplaced (q .version) (lengthOf q) (boardCount q) (q .boards) (boardsOf q))
-    ∷ (4, aboveUnit (unitIn q) (partOf q) (boardSurvivalOf q))
+    ∷ (4, aboveUnit (unitIn q) (partOf q) (switchboardsOf q))
     ∷ (5, badWeights (q .rule) (lengthOf q) (q .weights) (weightsOf q)) ∷ (6, not (inRangeBefore (q .rule) (sizeOf q) (readOf q))) ∷ (7, shortTable table) ∷ []) ≡ 0
     → figuresRefusal q table ≡ 0
 unfolding figuresRefusal

@@ -15,7 +15,7 @@ use Rattle.rules.specs.declared.Worth.{Worth}
 use Rattle.rules.specs.declared.Worth.the-variants.{Ends, Refused}
 use Rattle.rules.specs.Figure.{Third}
 use Rattle.rules.specs.Stretch.{stretch}
-use Rattle.rules.specs.Asked.{Asked, unitIn, lengthOf, partsOf, partOf, weightsOf, readOf, boardsOf, boardSurvivalOf, boardCount, roundedOf, lowOf, highOf, ThirdOf}
+use Rattle.rules.specs.Asked.{Asked, unitIn, lengthOf, partsOf, partOf, weightsOf, readOf, boardsOf, switchboardsOf, boardCount, roundedOf, lowOf, highOf, ThirdOf}
 use Rattle.rules.specs.Refusal.{after, someAbove, badWeights, badSize, badStretch, misplaced, figuresRefusal}
 use Rattle.rules.specs.Answer.{unless, figuresOf}
 use Rattle.rules.specs.Worth.{sure, lowerOf, upperOf, Weighs, worthOf, Signed, Between, BetweenOf}
@@ -61,7 +61,7 @@ module _ (q : Asked) (table : List ℕ) (fan p : ℕ) (none : figuresRefusal q t
       first-same 3 _ _ _ _ (ap (badStretch (q .a) (q .b)) sure-length) (λ three.
       first-same 20 _ _ _ _ refl (λ twenty.
       first-same 21 _ _ _ _ (ap (λ n. misplaced (q .version) n (boardCount q) (q .boards) (boardsOf q)) sure-length) (λ placed.
-      first-same 4 _ _ _ _ (ap (λ b. b || someAbove (unitIn q) (boardSurvivalOf q)) (above-none _ _ sure-units ∙ sym (above-none _ _ (figures-ratable q table none .2 .units)))) (λ four.
+      first-same 4 _ _ _ _ (ap (λ b. b || someAbove (unitIn q) (switchboardsOf q)) (above-none _ _ sure-units ∙ sym (above-none _ _ (figures-ratable q table none .2 .units)))) (λ four.
       first-same 5 _ _ _ _ (ap (λ n. badWeights (q .rule) n (q .weights) (weightsOf q)) sure-length) (λ five. refl))))))))
 
   pub sure-accepted : figuresRefusal (sure fan p q) table ≡ 0
@@ -73,7 +73,7 @@ module _ (q : Asked) (table : List ℕ) (fan p : ℕ) (none : figuresRefusal q t
 
   pub sure-within : (up : Bool) → roundedOf up (sure fan p q) ≤ unitIn q
   sure-within =
-      behind-within (unitIn q) (unit-some (q .version)) (q .rule) (partOf (sure fan p q)) (readOf q) (boardsOf q) (boardSurvivalOf q) sure-units
+      behind-within (unitIn q) (unit-some (q .version)) (q .rule) (partOf (sure fan p q)) (readOf q) (boardsOf q) (switchboardsOf q) sure-units
       (figures-boarded q table none .1 .units)
 
 -- ---- the worth

@@ -5,7 +5,7 @@ use Prim.Native.Nat.{ℕ, _≤_}
 use native.Mathlib.Nat.{le-trans}
 use Rattle.rules.specs.declared.Rating.the-variants.{Refused}
 use Rattle.rules.specs.State.{S}
-use Rattle.rules.specs.Asked.{Asked, unitIn, partOf, readOf, boardsOf, boardSurvivalOf, roundedOf}
+use Rattle.rules.specs.Asked.{Asked, unitIn, partOf, readOf, boardsOf, switchboardsOf, roundedOf}
 use Rattle.rules.specs.Answer.{figuresOf}
 use Rattle.rules.specs.Within.{WithinUnit}
 use Rattle.rules.specs.File.{systemOf, badNumber, loadingOf}
@@ -24,7 +24,7 @@ figures-within q table =
     let within : (up : Bool) → roundedOf up q ≤ S =
     λ up.
     le-trans
-    (behind-within (unitIn q) (unit-some (q .version)) (q .rule) (partOf q) (readOf q) (boardsOf q) (boardSurvivalOf q) units (figures-boarded q table e .1 .units) up)
+    (behind-within (unitIn q) (unit-some (q .version)) (q .rule) (partOf q) (readOf q) (boardsOf q) (switchboardsOf q) units (figures-boarded q table e .1 .units) up)
     (unit-most (q .version)) in
     (within false, within true))
 

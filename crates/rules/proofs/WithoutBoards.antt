@@ -22,7 +22,7 @@ use Rattle.rules.specs.Asked.{Asked, unitIn, lengthOf, sizeOf, partOf, w
 use Rattle.rules.specs.Refusal.{lastVersion, badVersion, badKind, badSize, badStretch, someAbove, badWeights, inRange, shortTable, firstOf, after, figuresRefusal}
 use Rattle.rules.specs.Answer.{unless, figuresOf}
 use Rattle.rules.specs.Worth.{working, failing, badFan, worthOf}
-use Rattle.rules.specs.File.{Deck, numberAt, numbersFrom, allBytes, nthSystem, systemNumbers, systemsOf, headerLength, boardCountField, boardFans, boardsOffset, boardSurvivalOffset, systemsOffset, boardCountIn, headerOf, fileOf, versionIn, fansIn, countIn, badSystems, badLayout, deckIn, fileRefusal}
+use Rattle.rules.specs.File.{Deck, numberAt, numbersFrom, allBytes, nthSystem, systemNumbers, systemsOf, headerLength, boardCountField, boardFans, boardsOffset, switchboardsOffset, systemsOffset, boardCountIn, headerOf, fileOf, versionIn, fansIn, countIn, badSystems, badLayout, deckIn, fileRefusal}
 use Rattle.rules.specs.Writing.{Typed, unpaired, badFives, shortFor, bytesFor, writeRefusal}
 use Rattle.rules.proofs.Boards.{figure-none, exact-none}
 use Rattle.rules.proofs.Accepted.{first-same, first-after}
@@ -130,7 +130,7 @@ deckBefore bytes =
       survival = numbersFrom 4 bytes 20 n;
       weights = numbersFrom 2 bytes (20 + 4 * n) n;
       boards = [];
-      boardSurvival = [];
+      switchboards = [];
       systems = listBelow (countIn bytes) (nthSystem bytes (20 + 4 * n + 2 * n));
     }
 
@@ -166,7 +166,7 @@ module _ (bytes : List ℕ) (none : hasBoards (versionIn bytes) ≡ false) where
         survival = numbersFrom 4 bytes (header x) n;
         weights = numbersFrom 2 bytes (header x + 4 * n) n;
         boards = numbersFrom 1 bytes (boardsOffset version n) (fans x);
-        boardSurvival = numbersFrom 4 bytes (boardSurvivalOffset version n) (count x);
+        switchboards = numbersFrom 4 bytes (switchboardsOffset version n) (count x);
         systems = listBelow (countIn bytes) (nthSystem bytes (from x));
       }
 

@@ -30,10 +30,10 @@ pub record Two (first r most : ℕ) : Type 0 where
   pub high : r ≤ most
 
 -- the boards of a list that is rated: at most four, numbers within the unit, and no fan on one that there is not
-pub record Boarded (u : ℕ) (boards boardSurvival : List ℕ) : Type 0 where
-  pub few : length boardSurvival ≤ mostBoards
-  pub units : (i : ℕ) → getD boardSurvival i 0 ≤ u
-  pub placed : (i : ℕ) → getD boards i 0 ≤ length boardSurvival
+pub record Boarded (u : ℕ) (boards switchboards : List ℕ) : Type 0 where
+  pub few : length switchboards ≤ mostBoards
+  pub units : (i : ℕ) → getD switchboards i 0 ≤ u
+  pub placed : (i : ℕ) → getD boards i 0 ≤ length switchboards
 
 -- a list with an accepted rule, numbers within the unit, and a table to work in
 pub record Ratable (u : ℕ) (rule : Rule) (survival beside table : List ℕ) : Type 0 where

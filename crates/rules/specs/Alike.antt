@@ -3,7 +3,7 @@ use mathlib.Core.Path.{_≡_}
 use mathlib.Core.Bool.{true}
 use Rattle.rules.specs.Boards.{hasBoards}
 use Rattle.rules.specs.Stretch.{stretch}
-use Rattle.rules.specs.Asked.{Asked, askedOf, sizeOf, partOf, weightsOf}
+use Rattle.rules.specs.Asked.{Asked, questionOf, askedOf, sizeOf, partOf, weightsOf}
 use lib.ListN.{length}
 
 -- two questions about a stretch that differ at most in what stands outside it: its lists are as long, and have the same on the stretch
@@ -13,7 +13,7 @@ pub record Alike (q r : Asked) : Type 0 where
   pub a : q .a ≡ r .a
   pub b : q .b ≡ r .b
   pub more : q .more ≡ r .more
-  pub boardSurvival : q .boardSurvival ≡ r .boardSurvival
+  pub switchboards : q .switchboards ≡ r .switchboards
   pub as-many-fans : length (q .survival) ≡ length (r .survival)
   pub as-many-weights : length (q .weights) ≡ length (r .weights)
   pub as-many-boards : length (q .boards) ≡ length (r .boards)
@@ -23,7 +23,7 @@ pub record Alike (q r : Asked) : Type 0 where
 
 -- the stretch's components as a list by themselves, with their weights and boards
 abbrev pub alone : Asked → Asked
-alone q = askedOf (q .version) (q .rule) 1 (sizeOf q) (partOf q) (weightsOf q) (q .more) (stretch (q .a) (q .b) (q .boards)) (q .boardSurvival)
+alone q = askedOf (questionOf (q .version) (q .rule) 1 (sizeOf q)) (partOf q) (weightsOf q) (q .more) (stretch (q .a) (q .b) (q .boards)) (q .switchboards)
 
 -- weights and boards, where they are read, are as many as the components
 pub record Paired (q : Asked) : Type 0 where

@@ -5,6 +5,7 @@ use mathlib.Core.List.{List}
 use Prim.Native.Nat.{ℕ, suc, _+_, _-_}
 use lib.ListN.{length}
 use Rattle.rules.specs.declared.Rule.{Rule}
+use Rattle.rules.specs.declared.Question.{Question}
 use Rattle.rules.specs.State.{unitOf, besideOf}
 use Rattle.rules.specs.Figure.{Third}
 use Rattle.rules.specs.Boards.{boardsRead, figureBehind, exactBehind}
@@ -19,19 +20,26 @@ pub record Asked : Type 0 where
   pub weights : List ℕ
   pub more : List ℕ
   pub boards : List ℕ
-  pub boardSurvival : List ℕ
+  pub switchboards : List ℕ
 
-abbrev pub askedOf : (version : ℕ) → Rule → (a b : ℕ) (survival weights more boards boardSurvival : List ℕ) → Asked
-askedOf version rule a b survival weights more boards boardSurvival = record {
-  version = version;
-  rule = rule;
-  a = a;
-  b = b;
+-- a question by its numbers, that of what is asked, and what is asked by a question and lists
+abbrev pub questionOf : (version : ℕ) → Rule → (a b : ℕ) → Question
+questionOf version rule a b = record { version = version; rule = rule; a = a; b = b }
+
+abbrev pub questionIn : Asked → Question
+questionIn q = questionOf (q .version) (q .rule) (q .a) (q .b)
+
+abbrev pub askedOf : Question → (survival weights more boards switchboards : List ℕ) → Asked
+askedOf question survival weights more boards switchboards = record {
+  version = question .version;
+  rule = question .rule;
+  a = question .a;
+  b = question .b;
   survival = survival;
   weights = weights;
   more = more;
   boards = boards;
-  boardSurvival = boardSurvival;
+  switchboards = switchboards;
 }
 
 -- "Conditions two and three read S as the file's own unit"
@@ -60,15 +68,15 @@ readOf q = besideOf (q .rule) (weightsOf q) (q .more)
 abbrev pub boardsOf : Asked → List ℕ
 boardsOf q = boardsRead (q .version) (stretch (q .a) (q .b) (q .boards))
 
-abbrev pub boardSurvivalOf : Asked → List ℕ
-boardSurvivalOf q = boardsRead (q .version) (q .boardSurvival)
+abbrev pub switchboardsOf : Asked → List ℕ
+switchboardsOf q = boardsRead (q .version) (q .switchboards)
 
 abbrev pub boardCount : Asked → ℕ
-boardCount q = length (boardSurvivalOf q)
+boardCount q = length (switchboardsOf q)
 
 -- the figures, low with rounding down and high with rounding up, and E
 abbrev pub roundedOf : (up : Bool) → Asked → ℕ
-roundedOf up q = figureBehind up (unitIn q) (q .rule) (partOf q) (readOf q) (boardsOf q) (boardSurvivalOf q)
+roundedOf up q = figureBehind up (unitIn q) (q .rule) (partOf q) (readOf q) (boardsOf q) (switchboardsOf q)
 
 abbrev pub lowOf : Asked → ℕ
 lowOf q = roundedOf false q
@@ -77,7 +85,7 @@ abbrev pub highOf : Asked → ℕ
 highOf q = roundedOf true q
 
 abbrev pub exactOf : Asked → ℕ
-exactOf q = exactBehind (unitIn q) (q .rule) (partOf q) (readOf q) (boardsOf q) (boardSurvivalOf q)
+exactOf q = exactBehind (unitIn q) (q .rule) (partOf q) (readOf q) (boardsOf q) (switchboardsOf q)
 
 -- "Condition three then sums over n + g parts"; n is the stretch's length
 abbrev pub partsOf : Asked → ℕ

@@ -6,7 +6,7 @@ use Prim.Native.Nat.{ℕ, _≤_}
 use lib.Dec.{eqb}
 use lib.ListN.{length, getD}
 use Rattle.rules.specs.Below.{within}
-use Rattle.rules.specs.Asked.{Asked, partOf, boardsOf, boardSurvivalOf}
+use Rattle.rules.specs.Asked.{Asked, partOf, boardsOf, switchboardsOf}
 
 -- "no survival number is lower in the second list than in the first", and both have the same n
 pub record NoLower (xs ys : List ℕ) : Type 0 where
@@ -28,4 +28,4 @@ pub record Better (q q' : Asked) : Type 0 where
   pub more : q .more ≡ q' .more
   pub boards : boardsOf q ≡ boardsOf q'
   pub survival : NoLower (partOf q) (partOf q')
-  pub boardSurvival : NoLower (boardSurvivalOf q) (boardSurvivalOf q')
+  pub switchboards : NoLower (switchboardsOf q) (switchboardsOf q')

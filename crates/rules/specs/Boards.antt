@@ -1,5 +1,5 @@
 -- Document 02, request 11, "Fans behind switchboards": which versions have boards, the fans that fail with theirs, and low, high and E of a rule over fans and
--- boards. `boards` are the fans' board numbers, `boardSurvival` the boards' survival numbers. A set of failed boards is a word, as a state is: bit b - 1 is one
+-- boards. `boards` are the fans' board numbers, `switchboards` the boards' survival numbers. A set of failed boards is a word, as a state is: bit b - 1 is one
 -- where board b has failed.
 use mathlib.Core.Bool.{Bool, false, cond, _||_}
 use mathlib.Core.List.{List, [], _∷_, _++_}
@@ -35,14 +35,14 @@ behind boards out survival = listBelow (length survival) (λ i. cond (lost board
 
 -- "Then the boards are combined by the same rounded step, one rounding each, board 1 last": f is the figure for each set of failed boards. Board 1 is the lowest
 -- bit of a set: the sets without it and those with it are combined over the other boards, and its own step is the last.
-unfoldable pub combined : (up : Bool) (u : ℕ) (boardSurvival : List ℕ) (f : ℕ → ℕ) → ℕ
+unfoldable pub combined : (up : Bool) (u : ℕ) (switchboards : List ℕ) (f : ℕ → ℕ) → ℕ
 combined up u [] f = f 0
 combined up u (q ∷ qs) f = rounded up u (mixed u q (combined up u qs (λ out. f (out * 2))) (combined up u qs (λ out. f (out * 2 + 1))))
 
 -- "For each set of failed boards the figures are worked with those fans' survival 0": low with rounding down, high with rounding up
-abbrev pub figureBehind : (up : Bool) (u : ℕ) → Rule → (survival beside boards boardSurvival : List ℕ) → ℕ
-figureBehind up u rule survival beside boards boardSurvival =
-    combined up u boardSurvival (λ out. figure up u rule (behind boards out survival) beside)
+abbrev pub figureBehind : (up : Bool) (u : ℕ) → Rule → (survival beside boards switchboards : List ℕ) → ℕ
+figureBehind up u rule survival beside boards switchboards =
+    combined up u switchboards (λ out. figure up u rule (behind boards out survival) beside)
 
 -- "A failed board fails its fans": the state of the fans i down to 1, where w are those that have failed of themselves and `gone` those on a failed board
 unfoldable pub fansDown : (gone : ℕ → Bool) (i w : ℕ) → ℕ
@@ -54,6 +54,6 @@ unfoldable pub worksBehind : Rule → (n : ℕ) (beside boards : List ℕ) (w : 
 worksBehind rule n beside boards w = works rule n beside (fansDown (lost boards (w / 2 ^ n)) n (w % 2 ^ n))
 
 -- E "sums over n + g parts": the fans 1 to n, then the boards 1 to g
-abbrev pub exactBehind : (u : ℕ) → Rule → (survival beside boards boardSurvival : List ℕ) → ℕ
-exactBehind u rule survival beside boards boardSurvival =
-    exactIf (worksBehind rule (length survival) beside boards) u (numberOf (survival ++ boardSurvival)) (length survival + length boardSurvival)
+abbrev pub exactBehind : (u : ℕ) → Rule → (survival beside boards switchboards : List ℕ) → ℕ
+exactBehind u rule survival beside boards switchboards =
+    exactIf (worksBehind rule (length survival) beside boards) u (numberOf (survival ++ switchboards)) (length survival + length switchboards)

@@ -12,7 +12,7 @@ use Rattle.rules.specs.Below.{some}
 use Rattle.rules.specs.State.{S}
 use Rattle.rules.specs.Figure.{rounded, exact}
 use Rattle.rules.specs.Stretch.{stretch}
-use Rattle.rules.specs.Asked.{Asked, askedOf, sizeOf, weightsOf, readOf, lowOf, highOf}
+use Rattle.rules.specs.Asked.{Asked, questionOf, askedOf, sizeOf, weightsOf, readOf, lowOf, highOf}
 use Rattle.rules.specs.Refusal.{badKind, badSize, badStretch, badWeights, inRange, shortTable, firstOf}
 use Rattle.rules.specs.Answer.{unless}
 use Rattle.rules.specs.File.{versionIn, shortFile, loadingOf}
@@ -74,7 +74,7 @@ plannedOf rule a b survival weights more = record { rule = rule; a = a; b = b; s
 
 -- the same asked in whole numbers of version 1's unit, 2^30: of the lower list, and of the upper
 abbrev pub askedIn : (up : Bool) → Planned → Asked
-askedIn up q = askedOf 1 (q .rule) (q .a) (q .b) (map (wholeOf up) (q .survival)) (q .weights) (q .more) [] []
+askedIn up q = askedOf (questionOf 1 (q .rule) (q .a) (q .b)) (map (wholeOf up) (q .survival)) (q .weights) (q .more) [] []
 
 -- "Low comes from the lower list and high from the upper"
 abbrev pub lowIn : Planned → ℕ

@@ -11,7 +11,7 @@ use Rattle.rules.specs.declared.Worth.{Worth}
 use Rattle.rules.specs.declared.Worth.the-variants as worth
 use Rattle.rules.specs.Below.{within, listBelow}
 use Rattle.rules.specs.Boards.{hasBoards, boardsRead}
-use Rattle.rules.specs.Asked.{Asked, askedOf}
+use Rattle.rules.specs.Asked.{Asked, questionOf, askedOf}
 use Rattle.rules.specs.Refusal.{most, cells, firstOf, badVersion, badSize, badBoards, misplaced}
 use Rattle.rules.specs.Answer.{unless, figuresOf}
 use Rattle.rules.specs.Worth.{worthOf}
@@ -22,7 +22,7 @@ pub record Deck : Type 0 where
   pub survival : List ℕ
   pub weights : List ℕ
   pub boards : List ℕ
-  pub boardSurvival : List ℕ
+  pub switchboards : List ℕ
   pub systems : List System
 
 -- "Little-endian": the bytes of a number, lowest first, and the number that so many bytes from a place on spell
@@ -118,11 +118,11 @@ weightsOffset version n = survivalOffset version + survivalBytes * n
 abbrev pub boardsOffset : (version n : ℕ) → ℕ
 boardsOffset version n = weightsOffset version n + weightBytes * n
 
-abbrev pub boardSurvivalOffset : (version n : ℕ) → ℕ
-boardSurvivalOffset version n = boardsOffset version n + boardBytes * boardFans version n
+abbrev pub switchboardsOffset : (version n : ℕ) → ℕ
+switchboardsOffset version n = boardsOffset version n + boardBytes * boardFans version n
 
 abbrev pub systemsOffset : (version n g : ℕ) → ℕ
-systemsOffset version n g = boardSurvivalOffset version n + survivalBytes * g
+systemsOffset version n g = switchboardsOffset version n + survivalBytes * g
 
 abbrev pub fileLength : (version n g m : ℕ) → ℕ
 fileLength version n g m = systemsOffset version n g + systemBytes * m
@@ -157,11 +157,11 @@ systemsOf numbers = listBelow (length numbers / perSystem) (λ s. fiveOf (λ i. 
 -- the layout
 unfoldable pub fileOf : Deck → List ℕ
 fileOf d =
-    headerOf (d .version) (length (d .survival)) (length (d .boardSurvival)) (length (d .systems))
+    headerOf (d .version) (length (d .survival)) (length (d .switchboards)) (length (d .systems))
     ++ allBytes survivalBytes (d .survival)
     ++ allBytes weightBytes (d .weights)
     ++ allBytes boardBytes (d .boards)
-    ++ allBytes survivalBytes (d .boardSurvival)
+    ++ allBytes survivalBytes (d .switchboards)
     ++ allBytes 2 (systemNumbers (d .systems))
 
 -- the version, n, m and g as a file has them
@@ -204,7 +204,7 @@ deckIn bytes =
       survival = numbersFrom survivalBytes bytes (survivalOffset version) n;
       weights = numbersFrom weightBytes bytes (weightsOffset version n) n;
       boards = numbersFrom boardBytes bytes (boardsOffset version n) (boardFans version n);
-      boardSurvival = numbersFrom survivalBytes bytes (boardSurvivalOffset version n) (boardCountIn bytes);
+      switchboards = numbersFrom survivalBytes bytes (switchboardsOffset version n) (boardCountIn bytes);
       systems = listBelow (countIn bytes) (systemIn bytes);
     }
 
@@ -266,7 +266,7 @@ fileRefusal bytes =
 
 -- what a system asks of its deck; request 05: "a deck file carries a single pair in first and second"
 abbrev pub askedBy : Deck → System → Asked
-askedBy d s = askedOf (d .version) (s .rule) (s .a) (s .b) (d .survival) (d .weights) [] (d .boards) (d .boardSurvival)
+askedBy d s = askedOf (questionOf (d .version) (s .rule) (s .a) (s .b)) (d .survival) (d .weights) [] (d .boards) (d .switchboards)
 
 -- a system's own answer, over a working table that the caller brings
 unfoldable pub systemOf : Deck → System → Rating

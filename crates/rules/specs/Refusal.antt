@@ -9,7 +9,7 @@ use Rattle.rules.specs.Below.{some, total, within, rowOf}
 use Rattle.rules.specs.State.{besideOf}
 use Rattle.rules.specs.Pairs.{pairsOf, inRange8, badMore}
 use Rattle.rules.specs.Boards.{hasBoards}
-use Rattle.rules.specs.Asked.{Asked, unitIn, lengthOf, sizeOf, partOf, weightsOf, readOf, boardsOf, boardSurvivalOf, boardCount}
+use Rattle.rules.specs.Asked.{Asked, unitIn, lengthOf, sizeOf, partOf, weightsOf, readOf, boardsOf, switchboardsOf, boardCount}
 
 -- 11: since request 11, "for versions not 1..3"
 abbrev pub lastVersion : ℕ
@@ -53,8 +53,8 @@ abbrev pub misplaced : (version n g : ℕ) (boards rated : List ℕ) → Bool
 misplaced version n g boards rated = hasBoards version && (not (eqb (length boards) n) || someAbove g rated)
 
 -- 4: a P read is above the unit; request 08: "4 against the file's unit"; request 11: "4 for any board's survival number too"
-abbrev pub aboveUnit : (u : ℕ) (survival boardSurvival : List ℕ) → Bool
-aboveUnit u survival boardSurvival = someAbove u survival || someAbove u boardSurvival
+abbrev pub aboveUnit : (u : ℕ) (survival switchboards : List ℕ) → Bool
+aboveUnit u survival switchboards = someAbove u survival || someAbove u switchboards
 
 -- 5: kind 2: weights' length is not n, or the total over the components rated is above 120
 abbrev pub heaviest : ℕ
@@ -154,7 +154,7 @@ figuresRefusal q table =
     ∷ (3, badStretch (q .a) (q .b) (lengthOf q))
     ∷ (20, badBoards (q .version) (boardCount q))
     ∷ (21, misplaced (q .version) (lengthOf q) (boardCount q) (q .boards) (boardsOf q))
-    ∷ (4, aboveUnit (unitIn q) (partOf q) (boardSurvivalOf q))
+    ∷ (4, aboveUnit (unitIn q) (partOf q) (switchboardsOf q))
     ∷ (5, badWeights (q .rule) (lengthOf q) (q .weights) (weightsOf q))
     ∷ (6, not (inRange (q .rule) (sizeOf q) (readOf q)))
     ∷ (7, shortTable table)

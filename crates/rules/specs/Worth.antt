@@ -10,7 +10,7 @@ use lib.Signed.{_≤ℤ_}
 use Rattle.rules.specs.declared.Worth.{Worth}
 use Rattle.rules.specs.declared.Worth.the-variants.{Ends, Refused}
 use Rattle.rules.specs.Below.{within}
-use Rattle.rules.specs.Asked.{Asked, askedOf, unitIn, partsOf, lowOf, highOf, exactOf}
+use Rattle.rules.specs.Asked.{Asked, questionIn, askedOf, unitIn, partsOf, lowOf, highOf, exactOf}
 use Rattle.rules.specs.Refusal.{figuresRefusal, after}
 use Rattle.rules.specs.Answer.{unless, Given}
 
@@ -18,7 +18,7 @@ use Rattle.rules.specs.Answer.{unless, Given}
 -- board", so that the boards stay as they are
 abbrev pub sure : (fan p : ℕ) → Asked → Asked
 sure fan p q =
-    askedOf (q .version) (q .rule) (q .a) (q .b) (set (q .survival) (fan - 1) p) (q .weights) (q .more) (q .boards) (q .boardSurvival)
+    askedOf (questionIn q) (set (q .survival) (fan - 1) p) (q .weights) (q .more) (q .boards) (q .switchboards)
 
 abbrev pub working : (fan : ℕ) → Asked → Asked
 working fan q = sure fan (unitIn q) q

@@ -19,16 +19,16 @@ pub record Typed : Type 0 where
   pub survival : List ℕ
   pub weights : List ℕ
   pub boards : List ℕ
-  pub boardSurvival : List ℕ
+  pub switchboards : List ℕ
   pub numbers : List ℕ
 
-abbrev pub typedOf : (version : ℕ) (survival weights boards boardSurvival numbers : List ℕ) → Typed
-typedOf version survival weights boards boardSurvival numbers = record {
+abbrev pub typedOf : (version : ℕ) (survival weights boards switchboards numbers : List ℕ) → Typed
+typedOf version survival weights boards switchboards numbers = record {
   version = version;
   survival = survival;
   weights = weights;
   boards = boards;
-  boardSurvival = boardSurvival;
+  switchboards = switchboards;
   numbers = numbers;
 }
 
@@ -39,7 +39,7 @@ deckOf t = record {
   survival = t .survival;
   weights = t .weights;
   boards = boardsRead (t .version) (t .boards);
-  boardSurvival = boardsRead (t .version) (t .boardSurvival);
+  switchboards = boardsRead (t .version) (t .switchboards);
   systems = systemsOf (t .numbers);
 }
 
@@ -47,7 +47,7 @@ abbrev pub bytesFor : Typed → List ℕ
 bytesFor t = fileOf (deckOf t)
 
 abbrev pub typedFrom : Deck → Typed
-typedFrom d = typedOf (d .version) (d .survival) (d .weights) (d .boards) (d .boardSurvival) (systemNumbers (d .systems))
+typedFrom d = typedOf (d .version) (d .survival) (d .weights) (d .boards) (d .switchboards) (systemNumbers (d .systems))
 
 -- "weights' length not n as 5"
 abbrev pub unpaired : Typed → Bool
@@ -70,8 +70,8 @@ writeRefusal t room =
     ∷ (2, badSize (length (t .survival)))
     ∷ (5, unpaired t)
     ∷ (12, badFives (length (t .numbers)))
-    ∷ (20, badBoards (t .version) (length (t .boardSurvival)))
-    ∷ (21, misplaced (t .version) (length (t .survival)) (length (t .boardSurvival)) (t .boards) (t .boards))
+    ∷ (20, badBoards (t .version) (length (t .switchboards)))
+    ∷ (21, misplaced (t .version) (length (t .survival)) (length (t .switchboards)) (t .boards) (t .boards))
     ∷ (16, shortFor t room)
     ∷ [])
 

@@ -1,4 +1,9 @@
-// The words that every call shares: a rule, a system of a deck, and what each call answers. They hold no code.
+// The words that every call shares: a rule, a system of a deck, what each call answers, and the documents' numbers.
+// They hold no code.
+pub mod kind; // kind.rt: the kinds of a rule
+pub mod limit; // limit.rt: the most and the least of everything
+pub mod refusal; // refusal.rt: the refusal numbers
+pub mod version; // version.rt: the file's versions and their units
 
 // Document 01, "The seven verdicts": the rule carries two numbers, "first" and "second".
 pub struct Rule {
@@ -23,8 +28,16 @@ pub struct System {
     pub b: u64,
 }
 
-// The verdict on one state. Where the system fails a place is named: the lowest component at which a failing window starts, or 0 where the rule has no
-// windows.
+// What is asked of a rating beside its lists: the version, which says the unit, the rule, and the stretch from a to b.
+pub struct Question {
+    pub version: u64,
+    pub rule: Rule,
+    pub a: u64,
+    pub b: u64,
+}
+
+// The verdict on one state. Where the system fails a place is named: the lowest component at which a failing window
+// starts, or 0 where the rule has no windows.
 pub enum Verdict {
     Works,
     Fails(u64),
@@ -55,7 +68,8 @@ pub enum Writing {
     Refused(u64),
 }
 
-// Whether a deck file was mended: how many bytes were written, how many of the file's were changed, and how many were cut.
+// Whether a deck file was mended: how many bytes were written, how many of the file's were changed, and how many were
+// cut.
 pub enum Mending {
     Mended { size: u64, changed: u64, cut: u64 },
     Refused(u64),

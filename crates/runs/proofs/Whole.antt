@@ -1,6 +1,6 @@
 -- What comes out is document 01's: the memory with no run and no lead is the line's start; the open lead, a component at a time, is the ring's.
 -- Assumes nothing.
-use mathlib.Core.Path.{_≡_, refl, sym, ap, _∙_}
+use mathlib.Core.Path.{_≡_, refl, sym, ap, subst, _∙_}
 use mathlib.Core.Bool.{Bool}
 use mathlib.Core.List.{List}
 use Prim.Native.Nat.{ℕ, suc, _+_, _-_, _^_, _≤_, _<_}
@@ -13,6 +13,7 @@ use Rattle.rules.specs.Memory.{machineOf, row4, row5}
 use Rattle.rules.specs.Figure.{rounded, mixed, figureOf}
 use Rattle.rules.proofs.Dead.{row-value}
 use Rattle.memory.specs.declared.run.Lead.{Lead}
+use Rattle.memory.specs.declared.run.Run.{Run}
 use Rattle.memory.specs.Run.{run, lead, leadFailed, running}
 use Rattle.memory.specs.Open.{leadOpen}
 use Rattle.memory.proofs.Runs.{run-row4, run-row5}
@@ -23,6 +24,10 @@ use Rattle.places.specs.Cells.{Both, Place, Kept, Steady, cellAt, one, valueOf}
 use Rattle.places.proofs.Cells.{both-as, room-kept, workable-kept, kept-none, kept-trans}
 use Rattle.places.proofs.Values.{Chance, valued-suc, step-steady, step-mixed}
 use Rattle.runs.specs.Runs.{Asked, Fillable, Filled}
+
+-- the memory by another name
+pub filled-as : {u k upto : ℕ} {m m' : Run} {survival t₀ t : List ℕ} → m ≡ m' → Filled u k m upto survival t₀ t → Filled u k m' upto survival t₀ t
+filled-as {u} {k} {upto} {survival = survival} {t₀} {t} e = subst (λ m. Filled u k m upto survival t₀ t) e
 
 -- what stands where a memory is filled in
 pub filled-at : {u k t upto : ℕ} {survival t₀ t₁ : List ℕ} → Filled u k (run t 0) upto survival t₀ t₁ → {e : Ends} → Both (λ up. cellAt t₁ up upto) e

@@ -1,13 +1,14 @@
 // Kinds 4 and 5: low and high where k components in a row must not all fail.
 //
-// A component that works brings back the memory with no run, so of one lead only that memory is kept: its value with i components left stands at
-// place i. Each value comes of the earlier ones by one run taken back. The table is all that a ring uses: one lead at a time, each written over the last.
+// A component that works brings back the memory with no run, so of one lead only that memory is kept: its value with i
+// components left stands at place i. Each value comes of the earlier ones by one run taken back. The table is all that
+// a ring uses: one lead at a time, each written over the last.
 ghost use mathlib.Core.Path.{_≡_};
-ghost use Prim.Native.Nat.{suc, _-_, _<_, min};
+ghost use Prim.Native.Nat.{suc, _-_, min};
 ghost use Rattle.rules.specs.Memory.{row4, row5};
 ghost use Rattle.rules.specs.Figure.{figureOf};
 ghost use Rattle.units.specs.Step.{whole};
-ghost use Rattle.memory.specs.Run.{run, running};
+ghost use Rattle.memory.specs.Run.{running};
 ghost use Rattle.places.specs.Cells.{Both, Kept, Written, valueOf};
 ghost use Rattle.runs.specs.Runs.{Decidable, Falling, Fillable, Filled, Asked};
 use memory::run::Lead;
@@ -22,28 +23,14 @@ fn place(m: Run, left: usize) -> usize
     left + m.run
 }
 
-// The value at hand, which is that of the memory asked for.
-fn value(m: Run, hand: Run, ends: Ends) -> Ends
-    requires { ⌜ m ≡ hand ⌝ }
-    ensures { λ r. ⌜ r ≡ ends ⌝ }
-{
-    ends
-}
-
-// The same of the open lead.
-fn open_value(m: Lead, hand: Lead, ends: Ends) -> Ends
-    requires { ⌜ m ≡ hand ⌝ }
-    ensures { λ r. ⌜ r ≡ ends ⌝ }
-{
-    ends
-}
-
-// A memory with no run works at the end, and its value stays the same as far as even the failure of all that is left cannot bring the lead to k. The
-// answer is how far.
+// A memory with no run works at the end, and its value stays the same as far as even the failure of all that is left
+// cannot bring the lead to k. The answer is how far.
 fn decide(decimal: bool, k: usize, free: Run, upto: usize, table: &mut [u64]) -> usize
     requires { ⌜ Decidable k free upto (now table) ⌝ }
     ensures far { λ r. ⌜ r ≡ min upto (k - 1 - free .lead) ⌝ }
-    ensures written { λ r. ⌜ Written (λ up i. whole decimal) (suc (min upto (k - 1 - free .lead))) 0 (now (table .entry)) (now (table .exit)) ⌝ }
+    ensures written { λ r.
+        let count = suc (min upto (k - 1 - free .lead)) in
+        ⌜ Written (λ up i. whole decimal) count 0 (now (table .entry)) (now (table .exit)) ⌝ }
 {
     let last = places::lesser(upto, k - 1 - free.lead);
     let ends = places::end_value(decimal, free.works(k));
@@ -55,8 +42,8 @@ fn decide(decimal: bool, k: usize, free: Run, upto: usize, table: &mut [u64]) ->
     last
 }
 
-// The value of a memory with no run with `upto` left: back over a run that ends dead, or past the last component and too long with its lead.
-// Any component of the run may work instead.
+// The value of a memory with no run with `upto` left: back over a run that ends dead, or past the last component and
+// too long with its lead. Any component of the run may work instead.
 fn back(decimal: bool, k: usize, free: Run, upto: usize, survival: &[u32], table: &[u64]) -> Ends
     requires { ⌜ Falling (whole decimal) k free upto (now survival) (now table) ⌝ }
     ensures { λ r. ⌜ Both (λ up. valueOf (whole decimal) (running k) (now (survival .entry)) free up upto) r ⌝ }
@@ -75,7 +62,7 @@ fn back(decimal: bool, k: usize, free: Run, upto: usize, survival: &[u32], table
             p,
             p.failure(decimal),
             places::read(table, place(m.worked(), i)),
-            value(m.failed(), hand, ends),
+            places::at_hand(m.failed().run, hand.run, ends),
         );
         hand = m;
         i += 1;
@@ -86,7 +73,9 @@ fn back(decimal: bool, k: usize, free: Run, upto: usize, survival: &[u32], table
 // The values of a memory with no run, with 0 to `upto` components left.
 fn fill(decimal: bool, k: usize, free: Run, upto: usize, survival: &[u32], table: &mut [u64])
     requires { ⌜ Fillable (whole decimal) k free upto (now survival) (now table) ⌝ }
-    ensures { λ r. ⌜ Filled (whole decimal) k free upto (now (survival .entry)) (now (table .entry)) (now (table .exit)) ⌝ }
+    ensures { λ r.
+        let read = now (survival .entry) in
+        ⌜ Filled (whole decimal) k free upto read (now (table .entry)) (now (table .exit)) ⌝ }
 {
     let mut left = decide(decimal, k, free, upto, table);
     while left < upto {
@@ -128,7 +117,7 @@ pub fn ring(decimal: bool, k: usize, survival: &[u32], table: &mut [u64]) -> End
             p,
             p.failure(decimal),
             places::read(table, place(free, i)),
-            open_value(m.failed(), hand, opened),
+            places::at_hand(m.failed().lead, hand.lead, opened),
         );
         hand = m;
         i += 1;

@@ -4,8 +4,9 @@ use mathlib.Core.List.{List}
 use Prim.Native.Nat.{ℕ, _≤_}
 use lib.ListN.{length, take}
 use Rattle.ending.specs.Ending.{asks, longest}
-use Rattle.program.specs.declared.Input.{Input}
-use Rattle.program.specs.declared.Input.the-variants.{Filled, Failed}
+use Rattle.shell.specs.Edges.{labelRoom}
+use Rattle.season.specs.declared.reading.Got.{Got}
+use Rattle.season.specs.declared.reading.Season.{Season}
 use Rattle.totals.specs.declared.Totals.{Totals}
 use Rattle.totals.specs.Season.{totalsOf}
 
@@ -14,12 +15,16 @@ pub record Taken (file : List ℕ) (n : ℕ) : Type 0 where
   pub fits : n ≤ longest
   pub asked : n ≤ asks (take n file)
 
-abbrev pub FileRead : (file : List ℕ) → Input → Type 0
-FileRead file (Filled n) = Taken file n
-FileRead file Failed = Unit {0}
+pub record FileRead (file : List ℕ) (r : Got) : Type 0 where
+  pub taken : Taken file (r .filled)
+  pub labelled : r .source .end ≤ labelRoom
 
 -- the totals are those of so many files, the files that were read
 pub record Totalled (n : ℕ) (t : Totals) : Type 0 where
   pub files : List (List ℕ)
   pub many : length files ≡ n
   pub is : t ≡ totalsOf files
+
+pub record SeasonRead (r : Season) : Type 0 where
+  pub totalled : Totalled (r .files) (r .totals)
+  pub labelled : r .source .end ≤ labelRoom

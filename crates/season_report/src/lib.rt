@@ -3,8 +3,11 @@ ghost use Prim.Native.Nat.{_+_, _≤_};
 ghost use lib.ListN.{length};
 ghost use Rattle.text.specs.Added.{Added};
 ghost use Rattle.totals.specs.Season.{lastKind};
-ghost use Rattle.season_report.specs.Lines.{oneText, oneRoom, twoText, twoRoom, headText, headRoom, answersText, answersRoom, lowestText, lowestRoom};
-ghost use Rattle.season_report.specs.Lines.{widthsText, widthsRoom, kindText, kindRoom, kindsText, kindsRoom, reportText, outputRoom, Printed};
+ghost use Rattle.season_report.specs.Lines.{oneText, oneRoom, twoText, twoRoom, headText, headRoom, answersText};
+ghost use Rattle.season_report.specs.Lines.{answersRoom, lowestText, lowestRoom};
+ghost use Rattle.season_report.specs.Lines.{widthsText, widthsRoom, kindText, kindRoom, kindsText, kindsRoom};
+ghost use Rattle.season_report.specs.Lines.{reportText, outputRoom, Printed};
+use rules::version;
 use text::lines;
 use totals::KINDS;
 use totals::Totals;
@@ -15,11 +18,6 @@ use totals::tally::Widths;
 
 // Room for all lines.
 pub const OUTPUT: usize = 8192;
-
-// The units that widths are added up in.
-const BINARY: u64 = 1073741824;
-
-const DECIMAL: u64 = 1000000000;
 
 // The end of a line: one named number more.
 fn put_one(name: &[u8], n: u64, out: &mut [u8], at: usize) -> usize
@@ -33,7 +31,8 @@ fn put_one(name: &[u8], n: u64, out: &mut [u8], at: usize) -> usize
 // Or two.
 fn put_two(first: &[u8], a: u64, second: &[u8], b: u64, out: &mut [u8], at: usize) -> usize
     requires { ⌜ at + twoRoom (now first) (now second) ≤ length (now out) ⌝ }
-    ensures { λ r. ⌜ Added (twoText (now (first .entry)) a (now (second .entry)) b) (now (out .entry)) at (now (out .exit)) r ⌝ }
+    ensures { λ r. ⌜ Added (twoText (now (first .entry)) a (now (second .entry)) b) (now (out .entry)) at
+        (now (out .exit)) r ⌝ }
 {
     let end = lines::put_pair(first, a, second, b, out, at);
     text::put(out, end, b"\n")
@@ -82,8 +81,15 @@ fn put_widths(kind: u64, widths: Widths, out: &mut [u8], at: usize) -> usize
     ensures { λ r. ⌜ Added (widthsText kind widths) (now (out .entry)) at (now (out .exit)) r ⌝ }
 {
     let unit = lines::put_pair(b"kind ", kind, b" widths ", widths.binary, out, at);
-    let last = lines::put_pair(b" unit ", BINARY, b" widths ", widths.decimal, out, unit);
-    put_one(b" unit ", DECIMAL, out, last)
+    let last = lines::put_pair(
+        b" unit ",
+        version::BINARY,
+        b" widths ",
+        widths.decimal,
+        out,
+        unit,
+    );
+    put_one(b" unit ", version::DECIMAL, out, last)
 }
 
 // A kind's lines.

@@ -4,7 +4,7 @@ use mathlib.Core.List.{List, []}
 use Prim.Native.Nat.{ℕ, zero, suc, _+_, _-_, _/_, _%_, _^_}
 use lib.Bits.{bitOr}
 use lib.Dec.{eqb}
-use lib.ListN.{length, getD}
+use lib.ListN.{length}
 use Rattle.rules.specs.declared.System.{System}
 use Rattle.rules.specs.declared.Verdict.{Verdict}
 use Rattle.rules.specs.declared.Verdict.the-variants.{Works, Fails, Refused}
@@ -12,12 +12,8 @@ use Rattle.rules.specs.State.{numberOf}
 use Rattle.rules.specs.Boards.{fansDown}
 use Rattle.rules.specs.Stretch.{stretch}
 use Rattle.rules.specs.Answer.{unless, verdictOf}
-use Rattle.rules.specs.File as file
-use Rattle.rules.specs.File.{deckIn, systemIn}
+use Rattle.rules.specs.File.{Deck, deckIn, systemIn}
 use Rattle.asked.specs.Parts.{placeRefusal}
-use Rattle.deck.specs.declared.Deck.{Deck}
-use Rattle.arrays.specs.Padded.{noSystem}
-use Rattle.systems.specs.Arrays.{deckOf}
 
 -- the state with a fan failed too
 unfoldable pub fanFailed : (state fan : ℕ) → ℕ
@@ -49,13 +45,9 @@ partVerdict s n weights state =
     unless (placeRefusal (s .rule) a b n) Refused
     (onDeck a (verdictOf (s .rule) (suc b - a) (stretch a b weights) [] (stateIn a b state)))
 
-abbrev pub systemVerdict : file.Deck → System → (state : ℕ) → Verdict
+abbrev pub systemVerdict : Deck → System → (state : ℕ) → Verdict
 systemVerdict d s state = partVerdict s (length (d .survival)) (d .weights) state
 
 -- that of a file's system, counted from 0
 abbrev pub verdictIn : (bytes : List ℕ) (s state : ℕ) → Verdict
 verdictIn bytes s state = systemVerdict (deckIn bytes) (systemIn bytes s) state
-
--- and of the system at a place of a reader's array
-unfoldable pub verdictAt : Deck → (s state : ℕ) → Verdict
-verdictAt d s state = systemVerdict (deckOf d) (getD (d .systems) s noSystem) state

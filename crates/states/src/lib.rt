@@ -1,4 +1,5 @@
-// The verdict on a state of a deck, system by system: the fans that have failed, what a stretch sees of them, and the place on the deck.
+// The verdict on a state of a deck, system by system: the fans that have failed, what a stretch sees of them, and the
+// place on the deck.
 ghost use mathlib.Core.List.{[]};
 ghost use mathlib.Core.Bool.{cond, _||_};
 ghost use mathlib.Core.Path.{_≡_};
@@ -7,10 +8,10 @@ ghost use lib.Dec.{eqb};
 ghost use lib.ListN.{length};
 ghost use Rattle.rules.specs.State.{down};
 ghost use Rattle.rules.specs.Refusal.{most};
-ghost use Rattle.systems.specs.Arrays.{Held};
-ghost use Rattle.states.specs.States.{fanFailed, boardFailed, stateIn, deckPlace, onDeck, partVerdict, verdictAt};
+ghost use Rattle.deck.specs.Outcome.{Placed};
+ghost use Rattle.states.specs.States.{fanFailed, boardFailed, stateIn, deckPlace, onDeck, partVerdict, verdictIn};
 ghost use Rattle.states.specs.Placed.{FewPlaces};
-use deck::Deck;
+use deck::Head;
 use rules::NO_MORE;
 use rules::System;
 use rules::Verdict;
@@ -123,13 +124,13 @@ fn judge_part(system: System, weights: &[u16], state: u64) -> Verdict
     on_deck(a, verdict)
 }
 
-// The verdict of the system at a place of a deck, counted from 0, on a state of the deck.
-pub fn state_system(deck: Deck, s: usize, state: u64) -> Verdict
-    requires { ⌜ Held deck s ⌝ }
-    ensures { λ r. ⌜ r ≡ verdictAt deck s state ⌝ }
+// The verdict of the system at a place of a file that is not refused, counted from 0, on a state of the deck.
+pub fn state_system(file: &[u8], head: Head, s: usize, state: u64) -> Verdict
+    requires { ⌜ Placed (now file) head s ⌝ }
+    ensures { λ r. ⌜ r ≡ verdictIn (now (file .entry)) s state ⌝ }
 {
-    let n = deck.fans as usize;
-    let weights = deck.weights;
-    let system = deck.systems[s];
+    let n = head.fans;
+    let weights = deck::weights_in(file, head);
+    let system = deck::system_in(file, head, s);
     judge_part(system, &weights[..n], state)
 }

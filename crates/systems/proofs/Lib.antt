@@ -1,4 +1,3 @@
--- The laws of the deck that the reader hands on: its systems answer as the file's, within the unit.
-pub mod Kept
+-- The laws of a file's answers: the refusal before a system's own, and the figures within the unit.
 pub mod Figures
 pub mod Answers

@@ -1,3 +1,2 @@
--- What the figures of a system cite: the deck that a reader's arrays hold, and a file's refusal before a system's own.
-pub mod Arrays
+-- What the figures of a system cite: a file's refusal before a system's own.
 pub mod Opened

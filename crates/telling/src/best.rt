@@ -4,9 +4,9 @@ ghost use lib.ListN.{length};
 ghost use Rattle.forms.specs.Within.{Within};
 ghost use Rattle.drawn.specs.Drawn.{mostDrawn};
 use crate::fitted;
-use drawn::FANS;
 use drawn::Shape;
 use drawn::Worths;
+use rules::limit::FANS;
 
 // So many are named.
 const NAMED: u64 = 5;

@@ -1,4 +1,5 @@
-// A system's chance: low and high in percent and in parts, drawn on the whole, and the gap between them on the most that it can be.
+// A system's chance: low and high in percent and in parts, drawn on the whole, and the gap between them on the most
+// that it can be.
 ghost use Prim.Native.Nat.{_≤_};
 ghost use lib.ListN.{length};
 ghost use Rattle.rules.specs.State.{S};

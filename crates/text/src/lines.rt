@@ -10,7 +10,8 @@ ghost use Rattle.text.specs.Added.{Added};
 // Two named numbers.
 pub fn put_pair(first: &[u8], a: u64, second: &[u8], b: u64, out: &mut [u8], at: usize) -> usize
     requires { ⌜ at + pairRoom (now first) (now second) ≤ length (now out) ⌝ }
-    ensures { λ r. ⌜ Added (pairText (now (first .entry)) a (now (second .entry)) b) (now (out .entry)) at (now (out .exit)) r ⌝ }
+    ensures { λ r. ⌜ Added (pairText (now (first .entry)) a (now (second .entry)) b) (now (out .entry)) at
+        (now (out .exit)) r ⌝ }
 {
     let middle = crate::put_named(first, a, out, at);
     crate::put_named(second, b, out, middle)
@@ -50,7 +51,8 @@ pub fn put_signed_pair(
     at: usize,
 ) -> usize
     requires { ⌜ at + signedPairRoom (now first) (now second) ≤ length (now out) ⌝ }
-    ensures { λ r. ⌜ Added (signedPair (now (first .entry)) a (now (second .entry)) b) (now (out .entry)) at (now (out .exit)) r ⌝ }
+    ensures { λ r. ⌜ Added (signedPair (now (first .entry)) a (now (second .entry)) b) (now (out .entry)) at
+        (now (out .exit)) r ⌝ }
 {
     let middle = put_signed(first, a, out, at);
     put_signed(second, b, out, middle)

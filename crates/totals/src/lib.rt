@@ -11,8 +11,8 @@ ghost use Rattle.totals.specs.Room.{mostAnswers, Room, Fair};
 use rules::Rating;
 use tally::Tally;
 
-// The kinds, 1 to 8.
-pub const KINDS: usize = 8;
+// The kinds of a rule.
+pub const KINDS: usize = rules::kind::LAST as usize;
 
 // The decks read; the files refused, and the refusal; the systems of no kind; and each kind's totals.
 pub struct Totals {

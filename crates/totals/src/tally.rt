@@ -7,11 +7,7 @@ ghost use Rattle.rules.specs.State.{S};
 ghost use Rattle.totals.specs.Plus.{oneIf, refusalsPlus, lowestPlus, widthsPlus, tallyPlus, noTally};
 ghost use Rattle.totals.specs.Room.{mostAnswers, RoomRefusals, RoomLowest, RoomWidths, RoomTally, Fair};
 use rules::Rating;
-
-// The units that widths are added up in.
-const BINARY: u64 = 1073741824;
-
-const DECIMAL: u64 = 1000000000;
+use rules::version;
 
 // Systems refused, by each number.
 pub struct Refusals {
@@ -71,7 +67,8 @@ impl Refusals {
 }
 
 impl Lowest {
-    // The first in reading order stays on a tie; lows over two units are compared as fractions, each times the other's unit.
+    // The first in reading order stays on a tie; lows over two units are compared as fractions, each times the other's
+    // unit.
     fn plus(self, next: Lowest) -> Lowest
         requires held { ⌜ RoomLowest self ⌝ }
         requires more { ⌜ RoomLowest next ⌝ }
@@ -94,8 +91,8 @@ impl Widths {
         ensures { λ r. ⌜ r ≡ widthsPlus self unit width ⌝ }
     {
         Widths {
-            binary: self.binary + width_in(unit, BINARY, width),
-            decimal: self.decimal + width_in(unit, DECIMAL, width),
+            binary: self.binary + width_in(unit, version::BINARY, width),
+            decimal: self.decimal + width_in(unit, version::DECIMAL, width),
         }
     }
 }

@@ -3,26 +3,25 @@ ghost use Prim.Native.Nat.{_+_, _<_, _≤_};
 ghost use mathlib.Core.List.{[]};
 ghost use Rattle.rules.specs.File.{mostFans};
 ghost use Rattle.typed_lists.specs.Lists.{Fanned, MoreFans};
-
-pub const MOST_FANS: usize = 64;
+use rules::limit;
 
 // So many of each list's entries count, from its front.
 pub struct Fans {
     pub count: usize,
-    pub survival: [u32; MOST_FANS],
-    pub weights: [u16; MOST_FANS],
-    pub boards: [u8; MOST_FANS],
-    pub lines: [u64; MOST_FANS],
+    pub survival: [u32; limit::FANS],
+    pub weights: [u16; limit::FANS],
+    pub boards: [u8; limit::FANS],
+    pub lines: [u64; limit::FANS],
 }
 
 // Those of an empty text.
 pub fn no_fans() -> Fans
     ensures { λ r. ⌜ Fanned r [] [] [] [] ⌝ }
 {
-    let survival = [0u32; MOST_FANS];
-    let weights = [0u16; MOST_FANS];
-    let boards = [0u8; MOST_FANS];
-    let lines = [0u64; MOST_FANS];
+    let survival = [0u32; limit::FANS];
+    let weights = [0u16; limit::FANS];
+    let boards = [0u8; limit::FANS];
+    let lines = [0u64; limit::FANS];
     Fans {
         count: 0,
         survival,

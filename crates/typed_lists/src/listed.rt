@@ -5,14 +5,13 @@ ghost use mathlib.Core.List.{[]};
 ghost use Rattle.rules.specs.File.{mostSystems, perSystem};
 ghost use Rattle.typing.specs.Reads.{Within};
 ghost use Rattle.typed_lists.specs.Lists.{Ruled, MoreSystems, typedAt, TypedNumbers};
+use rules::limit;
 use typing::line::SETS;
-
-pub const MOST_SYSTEMS: usize = 32;
 
 // Of a listed system kind, first, second, a, b and whether a stretch was given; of a typed one the first five.
 const PER_LISTED: usize = 6;
 
-const LISTED: usize = 192;
+const LISTED: usize = PER_LISTED * limit::SYSTEMS;
 
 const A: usize = 3;
 
@@ -22,7 +21,7 @@ const GIVEN: usize = 5;
 
 pub const PER_SYSTEM: usize = 5;
 
-pub const NUMBERS: usize = 160;
+pub const NUMBERS: usize = PER_SYSTEM * limit::SYSTEMS;
 
 // So many systems, from the numbers' front.
 pub struct Systems {

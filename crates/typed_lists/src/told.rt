@@ -14,7 +14,8 @@ pub struct Told {
 // One fault more: what is told then.
 pub fn plus(told: Told, line: u64, word: &[u8], wanted: u64, named: u64, out: &mut [u8]) -> Told
     requires { ⌜ Roomy told (now out) ⌝ }
-    ensures { λ r. ⌜ MoreTold told (now (out .entry)) r (now (out .exit)) (faultAt line (now (word .entry)) wanted named ∷ []) ⌝ }
+    ensures { λ r. ⌜ MoreTold told (now (out .entry)) r (now (out .exit))
+        (faultAt line (now (word .entry)) wanted named ∷ []) ⌝ }
 {
     if told.count >= MOST_TOLD {
         return told;

@@ -72,15 +72,15 @@ module _ (s : Listed) (k : Kept s) (none : lastFaults s ≡ []) where
   noSystems = missing (s .lines) (eqb (length (s .systems)) 0) noSystem
 
   abbrev noBoards : List Fault
-  noBoards = missing (s .lines) (eqb (s .version) 3 && eqb (length (s .boardSurvival)) 0) noBoard
+  noBoards = missing (s .lines) (eqb (s .version) 3 && eqb (length (s .switchboards)) 0) noBoard
 
   abbrev elsewhere : List Fault
-  elsewhere = cond (eqb (length (s .boardSurvival)) 0) [] (unplaced (length (s .boardSurvival)) 0 (s .boards) (s .fanLines))
+  elsewhere = cond (eqb (length (s .switchboards)) 0) [] (unplaced (length (s .switchboards)) 0 (s .boards) (s .fanLines))
 
   record Whole : Type 0 where
     fans : eqb (length (s .survival)) 0 ≡ false
     systems : eqb (length (s .systems)) 0 ≡ false
-    boards : eqb (s .version) 3 && eqb (length (s .boardSurvival)) 0 ≡ false
+    boards : eqb (s .version) 3 && eqb (length (s .switchboards)) 0 ≡ false
     placed : elsewhere ≡ []
 
   whole : Whole
@@ -91,7 +91,7 @@ module _ (s : Listed) (k : Kept s) (none : lastFaults s ≡ []) where
       record {
         fans = none-missing (s .lines) (eqb (length (s .survival)) 0) noFan (d .0);
         systems = none-missing (s .lines) (eqb (length (s .systems)) 0) noSystem (d .1);
-        boards = none-missing (s .lines) (eqb (s .version) 3 && eqb (length (s .boardSurvival)) 0) noBoard (b .1);
+        boards = none-missing (s .lines) (eqb (s .version) 3 && eqb (length (s .switchboards)) 0) noBoard (b .1);
         placed = a .1;
       }
 
@@ -109,22 +109,22 @@ module _ (s : Listed) (k : Kept s) (none : lastFaults s ≡ []) where
       let q : m * 5 / 5 ≡ m = omega arith in
       rw (fives (length (s .survival)) (s .systems), r, q, le-leb 1 m l, le-leb m mostSystems (k .systems))
 
-  boarded : badBoards (s .version) (length (s .boardSurvival)) ≡ false
+  boarded : badBoards (s .version) (length (s .switchboards)) ≡ false
   boarded = go (eqb (s .version) 3) (whole .boards)
     where
       g : ℕ
-      g = length (s .boardSurvival)
+      g = length (s .switchboards)
 
       go : (b : Bool) → b && eqb g 0 ≡ false → b && not (within 1 g mostBoards) ≡ false
       go true e = in-range g mostBoards e (k .boards)
       go false e = refl
 
-  where-fans-stand : misplaced (s .version) (length (s .survival)) (length (s .boardSurvival)) (s .boards) (s .boards) ≡ false
+  where-fans-stand : misplaced (s .version) (length (s .survival)) (length (s .switchboards)) (s .boards) (s .boards) ≡ false
   unfolding someAbove
   where-fans-stand = go (eqb (s .version) 3) (whole .boards)
     where
       g : ℕ
-      g = length (s .boardSurvival)
+      g = length (s .switchboards)
 
       above : eqb g 0 ≡ false → some (λ i. ltb g (getD (s .boards) i 0)) (length (s .boards)) ≡ false
       above e =

@@ -31,7 +31,7 @@ pub record Kept (s : Listed) : Type 0 where
   pub placed : length (s .boards) ≡ length (s .survival)
   pub lined : length (s .fanLines) ≡ length (s .survival)
   pub numbered : Numbered (s .fanLines)
-  pub boards : length (s .boardSurvival) ≤ mostBoards
+  pub boards : length (s .switchboards) ≤ mostBoards
   pub systems : length (s .systems) ≤ mostSystems
 
 kept-nothing : Kept nothing
@@ -87,7 +87,7 @@ module _ (s : Listed) (k : Kept s) where
     systems = k .systems;
   }
 
-  kept-board : (parts : ℕ) → length (s .boardSurvival) + 1 ≤ mostBoards → Kept (withBoard s parts)
+  kept-board : (parts : ℕ) → length (s .switchboards) + 1 ≤ mostBoards → Kept (withBoard s parts)
   kept-board parts h = record {
     fans = k .fans;
     weighed = k .weighed;
@@ -123,7 +123,7 @@ kept-added s k l first set =
     (kept-cond (eqb (getD set ofThing 0) someFans) _ _
     (kept-or s k (length (s .survival) + getD set ofNumber 0) mostFans manyFans first _ (kept-fans s k (getD set ofNumber 0) (getD set ofParts 0) (getD set ofWeight 0) (getD set ofBoard 0) l))
     (kept-cond (eqb (getD set ofThing 0) aBoard) _ _
-    (kept-or s k (length (s .boardSurvival) + 1) mostBoards manyBoards first _ (kept-board s k (getD set ofParts 0)))
+    (kept-or s k (length (s .switchboards) + 1) mostBoards manyBoards first _ (kept-board s k (getD set ofParts 0)))
     (kept-or s k (length (s .systems) + 1) mostSystems manySystems first _ (kept-system s k set))))
 
 kept-wordy : (s : Listed) → Kept s → (line : List ℕ) (words : List (List ℕ)) → Kept (wordy s line words)

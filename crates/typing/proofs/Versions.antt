@@ -166,12 +166,12 @@ module _ (s : Listed) (v : InRange (s .version)) where
           → InRange
           (cond a (versioned s (getD set ofNumber 0))
           (cond b (orTold (length (s .survival) + getD set ofNumber 0) mostFans manyFans first s (withFans s (getD set ofNumber 0) (getD set ofParts 0) (getD set ofWeight 0) (getD set ofBoard 0)))
-          (cond d (orTold (length (s .boardSurvival) + 1) mostBoards manyBoards first s (withBoard s (getD set ofParts 0)))
+          (cond d (orTold (length (s .switchboards) + 1) mostBoards manyBoards first s (withBoard s (getD set ofParts 0)))
           (orTold (length (s .systems) + 1) mostSystems manySystems first s (withSystem s set)))) .version)
       go true e b d = h (eqb-true (getD set ofThing 0) aVersion e)
       go false e true d =
           or-told (length (s .survival) + getD set ofNumber 0) mostFans manyFans (withFans s (getD set ofNumber 0) (getD set ofParts 0) (getD set ofWeight 0) (getD set ofBoard 0)) v
-      go false e false true = or-told (length (s .boardSurvival) + 1) mostBoards manyBoards (withBoard s (getD set ofParts 0)) v
+      go false e false true = or-told (length (s .switchboards) + 1) mostBoards manyBoards (withBoard s (getD set ofParts 0)) v
       go false e false false = or-told (length (s .systems) + 1) mostSystems manySystems (withSystem s set) v
 
 version-wordy : (s : Listed) → InRange (s .version) → (line : List ℕ) (words : List (List ℕ)) → InRange (wordy s line words .version)

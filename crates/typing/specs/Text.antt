@@ -60,7 +60,7 @@ pub record Listed : Type 0 where
   pub weights : List ℕ
   pub boards : List ℕ
   pub fanLines : List ℕ
-  pub boardSurvival : List ℕ
+  pub switchboards : List ℕ
   pub systems : List (List ℕ)
   pub faults : List Fault
 
@@ -74,7 +74,7 @@ nothing = record {
   weights = [];
   boards = [];
   fanLines = [];
-  boardSurvival = [];
+  switchboards = [];
   systems = [];
   faults = [];
 }
@@ -88,7 +88,7 @@ told s f = record {
   weights = s .weights;
   boards = s .boards;
   fanLines = s .fanLines;
-  boardSurvival = s .boardSurvival;
+  switchboards = s .switchboards;
   systems = s .systems;
   faults = s .faults ++ (f ∷ []);
 }
@@ -103,7 +103,7 @@ counted s begun = record {
   weights = s .weights;
   boards = s .boards;
   fanLines = s .fanLines;
-  boardSurvival = s .boardSurvival;
+  switchboards = s .switchboards;
   systems = s .systems;
   faults = s .faults;
 }
@@ -117,7 +117,7 @@ versioned s version = record {
   weights = s .weights;
   boards = s .boards;
   fanLines = s .fanLines;
-  boardSurvival = s .boardSurvival;
+  switchboards = s .switchboards;
   systems = s .systems;
   faults = s .faults;
 }
@@ -131,7 +131,7 @@ withFans s count parts weight board = record {
   weights = s .weights ++ replicate count weight;
   boards = s .boards ++ replicate count board;
   fanLines = s .fanLines ++ replicate count (s .lines);
-  boardSurvival = s .boardSurvival;
+  switchboards = s .switchboards;
   systems = s .systems;
   faults = s .faults;
 }
@@ -145,7 +145,7 @@ withBoard s parts = record {
   weights = s .weights;
   boards = s .boards;
   fanLines = s .fanLines;
-  boardSurvival = s .boardSurvival ++ (parts ∷ []);
+  switchboards = s .switchboards ++ (parts ∷ []);
   systems = s .systems;
   faults = s .faults;
 }
@@ -159,7 +159,7 @@ withSystem s set = record {
   weights = s .weights;
   boards = s .boards;
   fanLines = s .fanLines;
-  boardSurvival = s .boardSurvival;
+  switchboards = s .switchboards;
   systems = s .systems ++ (set ∷ []);
   faults = s .faults;
 }
@@ -174,7 +174,7 @@ addedFans s first set =
     (withFans s (getD set ofNumber 0) (getD set ofParts 0) (getD set ofWeight 0) (getD set ofBoard 0))
 
 abbrev pub addedBoard : Listed → (first set : List ℕ) → Listed
-addedBoard s first set = orTold (length (s .boardSurvival) + 1) mostBoards manyBoards first s (withBoard s (getD set ofParts 0))
+addedBoard s first set = orTold (length (s .switchboards) + 1) mostBoards manyBoards first s (withBoard s (getD set ofParts 0))
 
 abbrev pub addedSystem : Listed → (first set : List ℕ) → Listed
 addedSystem s first set = orTold (length (s .systems) + 1) mostSystems manySystems first s (withSystem s set)
@@ -215,8 +215,8 @@ abbrev pub lastFaults : Listed → List Fault
 lastFaults s =
     missing (s .lines) (eqb (length (s .survival)) 0) noFan
     ++ missing (s .lines) (eqb (length (s .systems)) 0) noSystem
-    ++ missing (s .lines) (eqb (s .version) 3 && eqb (length (s .boardSurvival)) 0) noBoard
-    ++ cond (eqb (length (s .boardSurvival)) 0) [] (unplaced (length (s .boardSurvival)) 0 (s .boards) (s .fanLines))
+    ++ missing (s .lines) (eqb (s .version) 3 && eqb (length (s .switchboards)) 0) noBoard
+    ++ cond (eqb (length (s .switchboards)) 0) [] (unplaced (length (s .switchboards)) 0 (s .boards) (s .fanLines))
 
 abbrev pub listed : (text : List ℕ) → Listed
 listed text = withLines nothing (linesOf text)
@@ -237,7 +237,7 @@ numbersOf n (set ∷ systems) = fiveOf n set ++ numbersOf n systems
 -- the deck that is typed
 abbrev pub typedBy : Listed → Typed
 typedBy s =
-    typedOf (s .version) (s .survival) (s .weights) (s .boards) (s .boardSurvival) (numbersOf (length (s .survival)) (s .systems))
+    typedOf (s .version) (s .survival) (s .weights) (s .boards) (s .switchboards) (numbersOf (length (s .survival)) (s .systems))
 
 unfoldable pub typedText : (text : List ℕ) → Typed
 typedText text = typedBy (listed text)

@@ -3,6 +3,7 @@ ghost use mathlib.Core.Path.{_≡_};
 ghost use Prim.Native.Nat.{_<_, _≤_};
 ghost use Rattle.typing.specs.Grammar.{reading, grammar};
 ghost use Rattle.typing.specs.Line.{rows, takes, rowFor, valueBy};
+use rules::version;
 
 // Seven numbers a row: place, way of reading, least, most, what is set, to what, and where it leads.
 pub const ROWS: usize = 67;
@@ -17,11 +18,6 @@ pub const WITH_BOARDS: u64 = 1;
 pub const AS_NUMBER: u64 = 2;
 
 pub const AS_PARTS: u64 = 3;
-
-// The version that has boards; in another one a word of theirs is read as one that is longer than all.
-const BOARDS_VERSION: u64 = 3;
-
-const LONGER: u64 = 74051159531521793;
 
 // The table, for a caller to lend: a use of the constant copies it to the stack, so it is used once for many words.
 pub fn table() -> [u64; ENTRIES]
@@ -41,8 +37,9 @@ pub fn reading(version: u64, way: u64, word: &[u8]) -> u64
         return crate::numbers::whole(word);
     }
     if way == WITH_BOARDS {
-        if version != BOARDS_VERSION {
-            return LONGER;
+        // a word of boards is read as one that is longer than all
+        if version != version::BOARDED {
+            return crate::numbers::LONGER;
         }
         return crate::numbers::letters(word);
     }

@@ -51,7 +51,8 @@ fn step(
     before: [u64; SETS],
 ) -> Stepped
     requires { ⌜ (now table ≡ grammar) × (place ≤ 63) ⌝ }
-    ensures { λ r. ⌜ (r .place ≡ placeAfter version place (now (word .entry))) × (r .set ≡ setAfter version place (now (word .entry)) before) ⌝ }
+    ensures { λ r. ⌜ (r .place ≡ placeAfter version place (now (word .entry))) ×
+        (r .set ≡ setAfter version place (now (word .entry)) before) ⌝ }
 {
     let row = grammar::row_for(table, version, place, word);
     if row == grammar::ROWS {

@@ -5,9 +5,10 @@ ghost use Prim.Native.Nat.{_^_, _≤_};
 ghost use lib.ListN.{length};
 ghost use Rattle.typing.specs.Numbers.{withLetter, lettersOf, none, digit, withDigit, whole};
 ghost use Rattle.typing.specs.Numbers.{most, pointIn, joined, fraction, share, parts};
+use rules::version;
 
 // The number of all words that are longer than seven letters, 257^7; and 257^6, from which on a word has seven.
-const LONGER: u64 = 74051159531521793;
+pub const LONGER: u64 = 74051159531521793;
 
 const SEVEN: u64 = 288136807515649;
 
@@ -15,8 +16,6 @@ const SEVEN: u64 = 288136807515649;
 const NONE: u64 = 4294967296;
 
 const POINT: u8 = 46;
-
-const BILLION: u64 = 1000000000;
 
 const MOST_DIGITS: usize = 9;
 
@@ -117,7 +116,7 @@ fn joined(before: u64, behind: u64, digits: usize) -> u64
     requires { ⌜ (before ≤ none) × (behind ≤ none) × (digits ≤ most) ⌝ }
     ensures { λ r. ⌜ r ≡ joined before behind digits ⌝ }
 {
-    before * BILLION + behind * tens(MOST_DIGITS - digits)
+    before * version::DECIMAL + behind * tens(MOST_DIGITS - digits)
 }
 
 // A decimal from 0 to 1, in billionths.
@@ -137,7 +136,7 @@ fn fraction(word: &[u8]) -> u64
     let before = whole(&word[..at]);
     let behind = whole(&word[from..]);
     let value = joined(before, behind, digits);
-    if value > BILLION {
+    if value > version::DECIMAL {
         return NONE;
     }
     value
@@ -152,8 +151,8 @@ fn share(version: u64, billionths: u64) -> u64
         return NONE;
     }
     let all = billionths * units::whole(units::is_decimal(version));
-    let below = all / BILLION;
-    if all % BILLION == 0 {
+    let below = all / version::DECIMAL;
+    if all % version::DECIMAL == 0 {
         return below;
     }
     NONE + 1 + below

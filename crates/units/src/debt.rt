@@ -1,5 +1,6 @@
-// The rounded step of a component that must work: nothing is left of the value where it fails. One value after another is worked so, each by other numbers,
-// whose shares are made once and kept. It is the same step: its contract is `round_down`'s and `round_up`'s with 0 where the component fails.
+// The rounded step of a component that must work: nothing is left of the value where it fails. One value after another
+// is worked so, each by other numbers, whose shares are made once and kept. It is the same step: its contract is
+// `round_down`'s and `round_up`'s with 0 where the component fails.
 ghost use mathlib.Core.Path.{_≡_};
 ghost use mathlib.Core.Bool.{true, false};
 ghost use Rattle.rules.specs.Figure.{rounded, mixed};

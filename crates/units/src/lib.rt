@@ -1,4 +1,5 @@
-// The unit, a component's two numbers, and the one rounded step that every figure is made of, for any unit from 1 to 2^30.
+// The unit, a component's two numbers, and the one rounded step that every figure is made of, for any unit from 1 to
+// 2^30.
 pub mod debt; // debt.rt: the step of a component that must work, by its shares
 pub mod odds; // odds.rt: the step over a whole row of values, by P's share
 mod share; // share.rt: a number's share of the unit
@@ -10,16 +11,12 @@ ghost use Rattle.rules.specs.State.{S, unitOf, failure};
 ghost use Rattle.rules.specs.Figure.{rounded, mixed};
 ghost use Rattle.units.specs.Share.{Dealt, byShares, digit};
 ghost use Rattle.units.specs.Step.{AnyUnit, Parts, whole};
+use rules::version::BINARY;
+use rules::version::DECIMAL;
+use rules::version::FIRST;
 
-// Version 1's unit, and that of the later versions.
-const BINARY: u64 = 1073741824;
-
-const DECIMAL: u64 = 1000000000;
-
-const FIRST: u64 = 1;
-
-// Which unit survival numbers are parts of is handed on as a plain Bool: the compiler then knows it at each call, which it does not for a struct.
-// Has a version the decimal unit?
+// Has a version the decimal unit? Which unit survival numbers are parts of is handed on as a plain Bool: the compiler
+// then knows it at each call, which it does not for a struct.
 pub fn is_decimal(version: u64) -> bool
     ensures { λ r. ⌜ whole r ≡ unitOf version ⌝ }
 {
@@ -33,7 +30,8 @@ pub fn whole(decimal: bool) -> u64
     if decimal { DECIMAL } else { BINARY }
 }
 
-// A number over a unit, rounded down. The two units that files have divide by a constant each: a shift, or a multiplication, and no division.
+// A number over a unit, rounded down. The two units that files have divide by a constant each: a shift, or a
+// multiplication, and no division.
 pub fn over(unit: u64, x: u64) -> u64
     requires { ⌜ 1 ≤ unit ⌝ }
     ensures { λ r. ⌜ r ≡ x / unit ⌝ }

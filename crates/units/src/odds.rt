@@ -1,5 +1,6 @@
-// The rounded step over a whole row of values, with one component's numbers for all of it. A division works one value at a time; a row multiplies by P's
-// share of the unit instead, which the compiler does for two values at once. It is the same step: its contract is `round_down`'s and `round_up`'s.
+// The rounded step over a whole row of values, with one component's numbers for all of it. A division works one value
+// at a time; a row multiplies by P's share of the unit instead, which the compiler does for two values at once. It is
+// the same step: its contract is `round_down`'s and `round_up`'s.
 ghost use mathlib.Core.Path.{_≡_};
 ghost use mathlib.Core.Bool.{true, false};
 ghost use Prim.Native.Nat.{_≤_};
@@ -12,7 +13,8 @@ use crate::SurvivalShare;
 use crate::share::DIGIT;
 use crate::share::UPPER_PARTS;
 
-// What rounds up: all parts but 2^32, more than rounding adds to a share of both values and no more than a part of the unit.
+// What rounds up: all parts but 2^32, more than rounding adds to a share of both values and no more than a part of the
+// unit.
 const ROUND_UP: u64 = 4611686014132420608;
 
 // P and Q, and P's share.
@@ -34,8 +36,8 @@ pub fn prepare(decimal: bool, p: Survival) -> Odds
 }
 
 impl Odds {
-    // The mix by P's share, with `round` parts more: P works + Q fails is P (works + unit - fails) + unit (fails - P), so that P's share of how far the two
-    // values are apart does for both.
+    // The mix by P's share, with `round` parts more: P works + Q fails is P (works + unit - fails) + unit (fails - P),
+    // so that P's share of how far the two values are apart does for both.
     fn shared(self, unit: u64, round: u64, works: u64, fails: u64) -> u64
         requires { ⌜ Mixable unit self round works fails ⌝ }
         ensures { λ r. ⌜ r ≡ mixedShares unit self round works fails ⌝ }

@@ -1,5 +1,5 @@
-// A number's share of a unit: what it is of the unit, in parts of 2^62 and rounded up. A value times a share is the product over the unit, with no
-// division.
+// A number's share of a unit: what it is of the unit, in parts of 2^62 and rounded up. A value times a share is the
+// product over the unit, with no division.
 ghost use mathlib.Core.Path.{_≡_};
 ghost use Prim.Native.Nat.{_*_, _/_, _≤_};
 ghost use Rattle.rules.specs.State.{S};

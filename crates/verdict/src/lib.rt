@@ -15,6 +15,8 @@ ghost use Rattle.rules.specs.Answer.{judgment, judgedOf};
 ghost use Rattle.verdict.specs.Outcome.{Judged};
 use rules::Rule;
 use rules::Verdict;
+use rules::kind;
+use rules::limit;
 
 // The number failed.
 fn ones_of(w: u64) -> u64
@@ -40,7 +42,8 @@ fn ones_in(w: u64, a: u64, width: u64) -> u64
     ones_of((w >> a) & mask)
 }
 
-// The ones of a window: those up to n, and where it runs past n those from 1 on. The word twice over would not fit 64 bits.
+// The ones of a window: those up to n, and where it runs past n those from 1 on. The word twice over would not fit 64
+// bits.
 fn held_from(n: u64, a: u64, w: u64, width: u64) -> u64
     requires { ⌜ (a < n) × (1 ≤ width) × (width ≤ n) × (n ≤ most) × (w < 2 ^ n) ⌝ }
     ensures { λ r. ⌜ r ≡ heldIn n a w width ⌝ }
@@ -139,16 +142,16 @@ fn judge(rule: Rule, n: u64, weights: &[u16], more: &[u64], w: u64) -> Verdict
     requires { ⌜ (Accepted rule n (besideOf rule (now weights) (now more))) × (w < 2 ^ n) ⌝ }
     ensures { λ r. ⌜ r ≡ judgedOf rule n (now (weights .entry)) (now (more .entry)) w ⌝ }
 {
-    let kind = rule.kind;
+    let asked = rule.kind;
     let failed = ones_of(w);
-    match kind {
-        1 => judge_sum(rule.first <= failed),
-        2 => judge_sum(rule.first <= weighed(n, weights, w)),
-        3 => judge_sum(!refusals::outside(rule.first, failed, rule.second)),
-        4 => judge_windows(false, n, rule.first, rule.first, w),
-        5 => judge_windows(true, n, rule.first, rule.first, w),
-        6 => judge_windows(false, n, fitting(rule.second, n), 2, w),
-        7 => judge_windows(true, n, rule.second, 2, w),
+    match asked {
+        kind::NUMBER => judge_sum(rule.first <= failed),
+        kind::WEIGHT => judge_sum(rule.first <= weighed(n, weights, w)),
+        kind::BETWEEN => judge_sum(!refusals::outside(rule.first, failed, rule.second)),
+        kind::ROW => judge_windows(false, n, rule.first, rule.first, w),
+        kind::ROW_ROUND => judge_windows(true, n, rule.first, rule.first, w),
+        kind::NEAR => judge_windows(false, n, fitting(rule.second, n), limit::NEAR, w),
+        kind::NEAR_ROUND => judge_windows(true, n, rule.second, limit::NEAR, w),
         _ => pairs::judge_pairs(rule.first, rule.second, more, n, w),
     }
 }
@@ -162,7 +165,7 @@ pub fn verdict_on(rule: Rule, n: u64, weights: &[u16], more: &[u64], state: u64)
         return Verdict::Refused(refusal);
     }
     if high_one(n, state) {
-        return Verdict::Refused(9);
+        return Verdict::Refused(rules::refusal::STATE);
     }
     judge(rule, n, weights, more, state)
 }

@@ -69,7 +69,9 @@ fn first_lacking(k: u64, r: u64, more: &[u64], n: u64, w: u64) -> u64
 pub fn judge_pairs(k: u64, r: u64, more: &[u64], n: u64, w: u64) -> Verdict
     requires few { ⌜ length (now more) ≤ mostMore ⌝ }
     requires pairs { ⌜ Judgeable n w (pairsOf k r (now more)) ⌝ }
-    ensures { λ v. ⌜ v ≡ judgment (fails8 (pairsOf k r (now (more .entry))) n w) (firstLacking (pairsOf k r (now (more .entry))) n w) ⌝ }
+    ensures { λ v.
+        let all = pairsOf k r (now (more .entry)) in
+        ⌜ v ≡ judgment (fails8 all n w) (firstLacking all n w) ⌝ }
 {
     let a = first_lacking(k, r, more, n, w);
     if a < n {

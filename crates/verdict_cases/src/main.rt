@@ -1,6 +1,6 @@
-// Runs the cases of standard input and writes a verdict a line. All of the input is words of 64 bits, lowest byte first: the number of
-// cases, then each case: kind, first, second, n, state, the number of weights, the weights, how many numbers the further pairs have, these. A case
-// that is cut short ends the run.
+// Runs the cases of standard input and writes a verdict a line. All of the input is words of 64 bits, lowest byte
+// first: the number of cases, then each case: kind, first, second, n, state, the number of weights, the weights, how
+// many numbers the further pairs have, these. A case that is cut short ends the run.
 ghost use Prim.Native.Nat.{_+_, _≤_};
 ghost use lib.ListN.{length};
 ghost use Rattle.io.specs.Counts.{Counts};
@@ -29,7 +29,8 @@ fn asked(bytes: &[u8], at: usize, weights: &[u16], more: &[u64]) -> Verdict
     verdict::verdict_on(rule, n, weights, more, state)
 }
 
-// The same, with the lists read from the case: it has so many words up to its weights, then so many of the further pairs' list.
+// The same, with the lists read from the case: it has so many words up to its weights, then so many of the further
+// pairs' list.
 fn judged(bytes: &[u8], at: usize, size: usize, list: usize) -> Verdict
     requires case { ⌜ Within (now bytes) at headWords size ⌝ }
     requires further { ⌜ Within (now bytes) (at + size) 1 list ⌝ }

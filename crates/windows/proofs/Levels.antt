@@ -1,7 +1,7 @@
 -- A component more: what follows a pattern that lives stands on the side that is read, so the rounded step of what stands there is the definition's
 -- own; each pattern that lives is in one of the lists, and what is worked for one list is not touched for another. Assumes nothing.
 use mathlib.Core.Path.{_≡_, refl, sym, ap, subst, _∙_}
-use mathlib.Core.Bool.{Bool, true, false, cond, true≢false, false≢true}
+use mathlib.Core.Bool.{Bool, true, false, cond, _&&_, _||_, true≢false, false≢true}
 use mathlib.Core.Logic.{_⊎_, inl, inr, ⊎-elim}
 use mathlib.Core.List.{List}
 use Prim.Native.Nat.{ℕ, suc, _+_, _-_, _*_, _%_, _^_, _≤_, _<_}
@@ -9,9 +9,9 @@ use native.Mathlib.Omega.{arith}
 use native.Mathlib.Nat.{mod-lt, mod-eq-of-lt, add-mod-left, mod-le, add-zero}
 use native.Mathlib.Decide.{decLt}
 use lib.Dec.{eqb}
-use lib.ListN.{length}
+use lib.ListN.{length, getD}
 use lib.Pow.{pow-pos}
-use borrow.Author.Tests.{eqb-true}
+use borrow.Author.Tests.{eqb-true, eq-eqb}
 use Rattle.rules.specs.declared.Pair.{Pair}
 use Rattle.rules.specs.Below.{held}
 use Rattle.rules.specs.State.{numberOf}
@@ -21,38 +21,50 @@ use Rattle.rules.proofs.Tests.{both}
 use Rattle.rules.proofs.Windows.{held-le}
 use Rattle.memory.specs.Pattern.{oldestOf, dies, lives, patterned}
 use Rattle.memory.proofs.Patterns.{lives-here, lives-worked, lives-failed, lives-low, dies-older}
-use Rattle.places.specs.Cells.{far, half, Side, cellAt, Workable, valueOf}
+use Rattle.places.specs.Cells.{cellAt, valueOf}
+use Rattle.places.specs.Map.{far, half}
 use Rattle.places.proofs.Cells.{kept-trans, workable-kept, side-near, other-side, apart}
-use Rattle.places.proofs.Values.{Chance, valued-le, valued-suc}
+use Rattle.places.proofs.Values.{valued-le, valued-suc}
 use Rattle.windows.specs.declared.Level.{Level}
-use Rattle.windows.specs.Groups.{freeAt, splitAt, boundAt, aloneAt, listAt, Group, free, split, bound, alone, listOf, groupOf, grouped, countAt, entryAt, Listed, Lists, Listables, TrimmedAll}
-use Rattle.windows.specs.Row.{stepOf, Ready, Handed, Worked, patternValue, reachOf, Held, Levelled, Midway, Swept}
+use Rattle.windows.specs.Groups.{listAt, worseOf, listOf, groupOf, grouped, countAt, entryAt, flagOf, Listed, Listables, TrimmedAll}
+use Rattle.windows.specs.Row.{stepOf, Ready, Handed, Worked, patternValue, reachOf, Levelled, Midway, Swept}
 use Rattle.windows.proofs.Lists.{held-order, listed-still}
 use Rattle.windows.proofs.Sorting.{begins}
 
--- what a list says of its patterns
-record Flagged (d o a must older alone : Bool) : Type 0 where
+-- what a list says of its patterns: of a pattern itself, of its older one, and of that one where it is dead
+record Flagged (d o a must worse : Bool) : Type 0 where
   young : d ≡ must
-  old : o ≡ older
-  gone : alone ≡ true → a ≡ true
+  old : o ≡ (must || worse)
+  gone : (must && worse) ≡ true → a ≡ true
 
-by-list : (d o a : Bool) (must older alone : Bool) (at : ℕ) → Group must older alone at → listAt d o a ≡ at → (d ≡ true → o ≡ true) → Flagged d o a must older alone
-by-list true o true must older lone at free e h = absurd (omega arith)
-by-list true o true must older lone at split e h = absurd (omega arith)
-by-list true o true must older lone at bound e h = absurd (omega arith)
-by-list true o true must older lone at alone e h = record { young = refl; old = h refl; gone = λ e. refl }
-by-list true o false must older lone at free e h = absurd (omega arith)
-by-list true o false must older lone at split e h = absurd (omega arith)
-by-list true o false must older lone at bound e h = record { young = refl; old = h refl; gone = λ e. absurd (false≢true e) }
-by-list true o false must older lone at alone e h = absurd (omega arith)
-by-list false true a must older lone at free e h = absurd (omega arith)
-by-list false true a must older lone at split e h = record { young = refl; old = refl; gone = λ e. absurd (false≢true e) }
-by-list false true a must older lone at bound e h = absurd (omega arith)
-by-list false true a must older lone at alone e h = absurd (omega arith)
-by-list false false a must older lone at free e h = record { young = refl; old = refl; gone = λ e. absurd (false≢true e) }
-by-list false false a must older lone at split e h = absurd (omega arith)
-by-list false false a must older lone at bound e h = absurd (omega arith)
-by-list false false a must older lone at alone e h = absurd (omega arith)
+-- no two lists begin at one place
+list-is : (must worse : Bool) → listAt must worse ≡ 3000 + 600 * flagOf must + 300 * flagOf worse
+list-is false false = refl
+list-is false true = refl
+list-is true false = refl
+list-is true true = refl
+
+flag-same : (a b : Bool) → flagOf a ≡ flagOf b → a ≡ b
+flag-same false false e = refl
+flag-same false true e = absurd (omega arith)
+flag-same true false e = absurd (omega arith)
+flag-same true true e = refl
+
+flag-small : (a : Bool) → flagOf a ≤ 1
+flag-small false = omega arith
+flag-small true = omega arith
+
+same-list : (must x y : Bool) → listAt must x ≡ listAt must y → x ≡ y
+same-list must x y e = flag-same x y (omega (arith, list-is must x, list-is must y))
+
+no-list : (x y : Bool) → listAt true x ≡ listAt false y → ⊥
+no-list x y e = omega (arith, list-is true x, list-is false y, flag-small y)
+
+by-list : (d o a must worse : Bool) → listAt d (cond d a o) ≡ listAt must worse → (d ≡ true → o ≡ true) → Flagged d o a must worse
+by-list true o a true worse e h = record { young = refl; old = h refl; gone = λ g. same-list true a worse e ∙ g }
+by-list true o a false worse e h = absurd (no-list a worse e)
+by-list false o a true worse e h = absurd (no-list worse o (sym e))
+by-list false o a false worse e h = record { young = refl; old = same-list false o worse e; gone = λ g. absurd (false≢true g) }
 
 grouped-lives : (ps : List Pair) (at x : ℕ) → grouped ps at x ≡ true → (lives ps x ≡ true) × (groupOf ps x ≡ at)
 unfolding grouped
@@ -90,12 +102,12 @@ module _ (ps : List Pair) (oldest : ℕ) (bit : oldest ≡ oldestOf ps) where
   older-dies : (x : ℕ) → x < oldest → dies ps x ≡ true → dies ps (oldest + x) ≡ true
   older-dies x l = rw bit (dies-older ps (longest ps - 2) x (rw bit at l))
 
-  flags : (must older alone : Bool) (at : ℕ) → Group must older alone at → (x : ℕ) → x < oldest → grouped ps at x ≡ true
-      → Flagged (dies ps x) (dies ps (oldest + x)) (lackingIn ps (oldest + x)) must older alone
+  flags : (must worse : Bool) (x : ℕ) → x < oldest → grouped ps (listAt must worse) x ≡ true
+      → Flagged (dies ps x) (dies ps (oldest + x)) (lackingIn ps (oldest + x)) must worse
   unfolding groupOf
-  flags must older lone at g x l e =
-      let q : listOf ps (dies ps x) (oldestOf ps + x) ≡ at = grouped-lives ps at x e .1 in
-      by-list (dies ps x) (dies ps (oldest + x)) (lackingIn ps (oldest + x)) must older lone at g (rw (← bit) at q) (older-dies x l)
+  flags must worse x l e =
+      let q : listOf ps (dies ps x) (oldestOf ps + x) ≡ listAt must worse = grouped-lives ps (listAt must worse) x e .1 in
+      by-list (dies ps x) (dies ps (oldest + x)) (lackingIn ps (oldest + x)) must worse (rw (← bit) at q) (older-dies x l)
 
   module _ (none : lackingIn ps 0 ≡ false) (most : oldest ≤ 256) where
     lives-cut : (m : ℕ) → m < 1024 → lives ps m ≡ true → lives ps (m % oldest) ≡ true
@@ -112,7 +124,7 @@ pub record Made (u : ℕ) (ps : List Pair) (oldest : ℕ) (survival : List ℕ) 
   pub is : (up : Bool) (m : ℕ) → m < 2 * oldest → grouped ps at (m % oldest) ≡ true → lives ps m ≡ true → m % oldest < reachOf oldest (length survival) (suc i)
       → cellAt t up (half - from + m) ≡ patternValue u ps survival (suc i) up m
 
-module _ {u : ℕ} {ps : List Pair} {oldest : ℕ} {survival : List ℕ} {i from p q : ℕ} {t : List ℕ} (y : Midway u ps oldest survival i from p q t) where
+module _ {u : ℕ} {ps : List Pair} {oldest : ℕ} {survival : List ℕ} {i from p : ℕ} {t : List ℕ} (y : Midway u ps oldest survival i from p t) where
   abbrev n : ℕ
   n = length survival
 
@@ -157,42 +169,34 @@ module _ {u : ℕ} {ps : List Pair} {oldest : ℕ} {survival : List ℕ} {i from
       go false d = refl
 
   -- what a list hands over
-  module _ (must older lone : Bool) (at : ℕ) (g : Group must older lone at) where
+  module _ (must worse : Bool) where
+    abbrev at : ℕ
+    at = listAt must worse
+
     abbrev li : Listed (grouped ps at) (reachOf oldest n (suc i)) at t
-    li = y .lists .list must older lone at g
+    li = y .lists .list must worse
 
     count-few : countAt t at ≤ 256
     count-few = omega (arith, li .size, held-le (grouped ps at) (reachOf oldest n (suc i)), y .most)
 
-    order : must ≡ true → older ≡ true
-    order = go must older lone at g
-      where
-        go : (m o l : Bool) (a : ℕ) → Group m o l a → m ≡ true → o ≡ true
-        go m o l a free e = e
-        go m o l a split e = refl
-        go m o l a bound e = refl
-        go m o l a alone e = refl
-
-    ready : (x : ℕ) → grouped ps at x ≡ true → x < reachOf oldest n (suc i) → Ready u must older p q oldest from x t
+    ready : (x : ℕ) → grouped ps at x ≡ true → x < reachOf oldest n (suc i) → Ready u must worse p oldest from x t
     ready x m l =
         let e = grouped-lives ps at x m .0 in
-        let f = flags ps oldest (y .bit) must older lone at g x (low x l e) m in
+        let f = flags ps oldest (y .bit) must worse x (low x l e) m in
         record {
           narrow = y .list .narrow;
           survival = rw (y .read) (y .list .units i);
-          rest = y .rest;
           side = y .side;
           most = y .most;
           young = low x l e;
-          order = order;
           room = y .list .room;
           works = λ up. rw (works-is x l e up) (valued-le (y .list .whole) K survival (y .list .units) i (live (2 * x)) up);
           fails = λ d up. rw (fails-is x l e (f .young ∙ d) up) (valued-le (y .list .whole) K survival (y .list .units) i (live (2 * x + 1)) up);
         }
 
-    pub handed : Handed u must older at p q oldest from t
+    pub handed : Handed u must worse p oldest from t
     handed =
-        let b = begins must older lone at g in
+        let b = begins must worse in
         record {
           behind = omega (arith, b .is);
           low = omega (arith, b .is, b .few, count-few);
@@ -200,12 +204,12 @@ module _ {u : ℕ} {ps : List Pair} {oldest : ℕ} {survival : List ℕ} {i from
           each = λ j l. let v = li .entry j l in ready (entryAt t at j) (v .member) (v .low);
         }
 
-    module _ {t' : List ℕ} (w : Worked u must older lone at p oldest from t t') where
+    module _ {t' : List ℕ} (w : Worked u must worse p oldest from t t') where
       entry-low : (j : ℕ) → j < countAt t at → entryAt t at j < oldest
       entry-low j l = omega (arith, li .entry j l .low)
 
       -- the side that is read, and the lists, are as they were
-      pub midway-still : Midway u ps oldest survival i from p q t'
+      pub midway-still : Midway u ps oldest survival i from p t'
       midway-still = record {
         bit = y .bit;
         none = y .none;
@@ -214,8 +218,7 @@ module _ {u : ℕ} {ps : List Pair} {oldest : ℕ} {survival : List ℕ} {i from
         more = y .more;
         side = y .side;
         read = y .read;
-        rest = y .rest;
-        lists = record { list = λ m o k a h. let b = begins m o k a h in listed-still _ (y .lists .list m o k a h) (λ c l r. w .behind c (omega (arith, b .is))) };
+        lists = record { list = λ m k. let b = begins m k in listed-still _ (y .lists .list m k) (λ c l r. w .behind c (omega (arith, b .is))) };
         row = record { is = λ up m l e r. still up m l ∙ y .row .is up m l e r };
       }
         where
@@ -238,7 +241,7 @@ module _ {u : ℕ} {ps : List Pair} {oldest : ℕ} {survival : List ℕ} {i from
           young x e r up =
               let alive = grouped-lives ps at x e .0 in
               let lo = low x r alive in
-              let f = flags ps oldest (y .bit) must older lone at g x lo e in
+              let f = flags ps oldest (y .bit) must worse x lo e in
               let j : held (grouped ps at) x < countAt t at = omega (arith, li .size, held-order (grouped ps at) x _ e r) in
               let a = rw (li .is x r e) at (w .young up (held (grouped ps at) x) j) in
               a ∙ (rw (f .young) at (step-is x r alive x (young-is oldest x lo) (λ d. d) up))
@@ -248,16 +251,16 @@ module _ {u : ℕ} {ps : List Pair} {oldest : ℕ} {survival : List ℕ} {i from
           old x e r v up =
               let alive = grouped-lives ps at x e .0 in
               let lo = low x r alive in
-              let f = flags ps oldest (y .bit) must older lone at g x lo e in
+              let f = flags ps oldest (y .bit) must worse x lo e in
               let j : held (grouped ps at) x < countAt t at = omega (arith, li .size, held-order (grouped ps at) x _ e r) in
               let here = lives-here ps (y .none) (oldest + x) (omega (arith, y .most)) v in
               let b = rw (li .is x r e) at (w .old (here-not f here) up (held (grouped ps at) x) j) in
               b ∙ (rw (f .old) at (step-is x r alive (oldest + x) (older-is oldest x lo) (spare x lo) up))
             where
-              here-not : {d o a m k : Bool} → Flagged d o a m k lone → a ≡ false → lone ≡ false
-              here-not f h = go lone refl
+              here-not : {d o a : Bool} → Flagged d o a must worse → a ≡ false → (must && worse) ≡ false
+              here-not f h = go (must && worse) refl
                 where
-                  go : (b : Bool) → lone ≡ b → b ≡ false
+                  go : (b : Bool) → (must && worse) ≡ b → b ≡ false
                   go true q = absurd (true≢false (sym (f .gone q) ∙ h))
                   go false q = refl
 
@@ -287,7 +290,7 @@ module _ {u : ℕ} {ps : List Pair} {oldest : ℕ} {survival : List ℕ} {i from
               clash (entryAt t at j) (rw r at e) (li .entry j s .member)
 
   -- with all lists worked, all that live have their values
-  pub raised : {t' : List ℕ} → Midway u ps oldest survival i from p q t' → ((must older alone : Bool) (at : ℕ) → Group must older alone at → Made u ps oldest survival i from at t')
+  pub raised : {t' : List ℕ} → Midway u ps oldest survival i from p t' → ((must worse : Bool) → Made u ps oldest survival i from (listAt must worse) t')
       → Levelled u ps oldest survival (record { left = suc i; from = half - from }) t'
   unfolding groupOf grouped
   raised {t'} z all = record {
@@ -300,30 +303,24 @@ module _ {u : ℕ} {ps : List Pair} {oldest : ℕ} {survival : List ℕ} {i from
     row = record {
       is = λ up m l v r.
           let e = lives-cut ps oldest (y .bit) (y .none) (y .most) m (omega (arith, y .most)) v in
-          go up m l e v r (dies ps (m % oldest)) refl (dies ps (oldestOf ps + m % oldest)) refl (lackingIn ps (oldestOf ps + m % oldest)) refl;
+          let x = m % oldest in
+          let list : grouped ps (listAt (dies ps x) (worseOf ps (dies ps x) (oldestOf ps + x))) x ≡ true = rw e (eq-eqb (groupOf ps x) (groupOf ps x) refl) in
+          all (dies ps x) (worseOf ps (dies ps x) (oldestOf ps + x)) .is up m l list v r;
     };
   }
-    where
-      go : (up : Bool) (m : ℕ) → m < 2 * oldest → lives ps (m % oldest) ≡ true → lives ps m ≡ true → m % oldest < reachOf oldest n (suc i)
-          → (d : Bool) → dies ps (m % oldest) ≡ d → (o : Bool) → dies ps (oldestOf ps + m % oldest) ≡ o → (a : Bool) → lackingIn ps (oldestOf ps + m % oldest) ≡ a
-          → cellAt t' up (half - from + m) ≡ patternValue u ps survival (suc i) up m
-      go up m l e v r true d o h true k = all _ _ _ _ alone .is up m l (rw (e, d, k) refl) v r
-      go up m l e v r true d o h false k = all _ _ _ _ bound .is up m l (rw (e, d, k) refl) v r
-      go up m l e v r false d true h a k = all _ _ _ _ split .is up m l (rw (e, d, h) refl) v r
-      go up m l e v r false d false h a k = all _ _ _ _ free .is up m l (rw (e, d, h) refl) v r
 
 -- the lists cut to what can still be reached
 module _ {u : ℕ} {ps : List Pair} {oldest : ℕ} {survival : List ℕ} {s : Level} {t : List ℕ} (y : Levelled u ps oldest survival s t) (more : s .left < length survival) where
   pub listables : Listables oldest t
   listables = record {
     most = y .most;
-    list = λ must older lone at g. let li = y .lists .list must older lone at g in omega (arith, li .size, held-le (grouped ps at) (reachOf oldest (length survival) (s .left)), y .most);
+    list = λ must worse. let li = y .lists .list must worse in omega (arith, li .size, held-le (grouped ps (listAt must worse)) (reachOf oldest (length survival) (s .left)), y .most);
     room = y .list .room;
   }
 
-  pub midway : {reach p q : ℕ} {t' : List ℕ} → reach ≡ 2 ^ (length survival - suc (s .left)) → TrimmedAll reach oldest t t' → Chance u survival (s .left) p q
-      → Midway u ps oldest survival (s .left) (s .from) p q t'
-  midway {reach} {p} {q} {t'} e r chance =
+  pub midway : {reach p : ℕ} {t' : List ℕ} → reach ≡ 2 ^ (length survival - suc (s .left)) → TrimmedAll reach oldest t t' → p ≡ getD survival (s .left) 0
+      → Midway u ps oldest survival (s .left) (s .from) p t'
+  midway {reach} {p} {t'} e r read =
       let n = length survival in
       let k : n - s .left ≡ suc (n - suc (s .left)) = omega arith in
       let w : 2 ^ (n - s .left) ≡ 2 ^ suc (n - suc (s .left)) = ap (λ z. 2 ^ z) k in
@@ -334,8 +331,7 @@ module _ {u : ℕ} {ps : List Pair} {oldest : ℕ} {survival : List ℕ} {s : Le
         list = workable-kept (r .kept) (y .list);
         more = more;
         side = y .side;
-        read = chance .read;
-        rest = chance .rest;
+        read = read;
         lists = rw e at (r .lists ps (reachOf oldest n (s .left)) (y .lists) (omega (arith, e, w)) (omega arith));
         row = record { is = λ up m l v h. cell up m l ∙ y .row .is up m l v h };
       }
@@ -345,44 +341,42 @@ module _ {u : ℕ} {ps : List Pair} {oldest : ℕ} {survival : List ℕ} {s : Le
       cell true m l = r .places (far + (s .from + m)) (omega (arith, side-near (y .side), y .most))
 
 -- the lists worked one after the other
-module _ {u : ℕ} {ps : List Pair} {oldest : ℕ} {survival : List ℕ} {i from p q : ℕ} {t : List ℕ} (y : Midway u ps oldest survival i from p q t) {t₁ : List ℕ}
-    (f : Worked u false false false freeAt p oldest from t t₁) where
-  abbrev y₁ : Midway u ps oldest survival i from p q t₁
-  y₁ = midway-still y _ _ _ _ free f
+module _ {u : ℕ} {ps : List Pair} {oldest : ℕ} {survival : List ℕ} {i from p : ℕ} {t : List ℕ} (y : Midway u ps oldest survival i from p t) {t₁ : List ℕ}
+    (f : Worked u false false p oldest from t t₁) where
+  abbrev y₁ : Midway u ps oldest survival i from p t₁
+  y₁ = midway-still y _ _ f
 
-  pub handed-second : Handed u false true splitAt p q oldest from t₁
-  handed-second = handed y₁ _ _ _ _ split
+  pub handed-second : Handed u false true p oldest from t₁
+  handed-second = handed y₁ _ _
 
-  module _ {t₂ : List ℕ} (s : Worked u false true false splitAt p oldest from t₁ t₂) where
-    abbrev y₂ : Midway u ps oldest survival i from p q t₂
-    y₂ = midway-still y₁ _ _ _ _ split s
+  module _ {t₂ : List ℕ} (s : Worked u false true p oldest from t₁ t₂) where
+    abbrev y₂ : Midway u ps oldest survival i from p t₂
+    y₂ = midway-still y₁ _ _ s
 
-    pub handed-third : Handed u true true boundAt p q oldest from t₂
-    handed-third = handed y₂ _ _ _ _ bound
+    pub handed-third : Handed u true false p oldest from t₂
+    handed-third = handed y₂ _ _
 
-    module _ {t₃ : List ℕ} (b : Worked u true true false boundAt p oldest from t₂ t₃) where
-      abbrev y₃ : Midway u ps oldest survival i from p q t₃
-      y₃ = midway-still y₂ _ _ _ _ bound b
+    module _ {t₃ : List ℕ} (b : Worked u true false p oldest from t₂ t₃) where
+      abbrev y₃ : Midway u ps oldest survival i from p t₃
+      y₃ = midway-still y₂ _ _ b
 
-      pub handed-fourth : Handed u true true aloneAt p q oldest from t₃
-      handed-fourth = handed y₃ _ _ _ _ alone
+      pub handed-fourth : Handed u true true p oldest from t₃
+      handed-fourth = handed y₃ _ _
 
-      pub risen : {t₄ : List ℕ} → Worked u true true true aloneAt p oldest from t₃ t₄ → Levelled u ps oldest survival (record { left = suc i; from = half - from }) t₄
-      risen {t₄} o = raised y (midway-still y₃ _ _ _ _ alone o) all
+      pub risen : {t₄ : List ℕ} → Worked u true true p oldest from t₃ t₄ → Levelled u ps oldest survival (record { left = suc i; from = half - from }) t₄
+      risen {t₄} o = raised y (midway-still y₃ _ _ o) all
         where
-          all : (must older lone : Bool) (at : ℕ) → Group must older lone at → Made u ps oldest survival i from at t₄
-          all must older lone at free =
-              made-still y₃ _ _ _ _ alone o (λ e. omega arith) (made-still y₂ _ _ _ _ bound b (λ e. omega arith)
-              (made-still y₁ _ _ _ _ split s (λ e. omega arith) (made y _ _ _ _ free f)))
-          all must older lone at split =
-              made-still y₃ _ _ _ _ alone o (λ e. omega arith) (made-still y₂ _ _ _ _ bound b (λ e. omega arith) (made y₁ _ _ _ _ split s))
-          all must older lone at bound = made-still y₃ _ _ _ _ alone o (λ e. omega arith) (made y₂ _ _ _ _ bound b)
-          all must older lone at alone = made y₃ _ _ _ _ alone o
+          all : (must worse : Bool) → Made u ps oldest survival i from (listAt must worse) t₄
+          all false false =
+              made-still y₃ _ _ o (λ e. omega arith) (made-still y₂ _ _ b (λ e. omega arith)
+              (made-still y₁ _ _ s (λ e. omega arith) (made y _ _ f)))
+          all false true = made-still y₃ _ _ o (λ e. omega arith) (made-still y₂ _ _ b (λ e. omega arith) (made y₁ _ _ s))
+          all true false = made-still y₃ _ _ o (λ e. omega arith) (made y₂ _ _ b)
+          all true true = made y₃ _ _ o
 
 -- and so whatever pairs and list they are of
-pub all-swept : {u oldest from p q : ℕ} {t t₁ t₂ t₃ t₄ : List ℕ} → Worked u false false false freeAt p oldest from t t₁
-    → Worked u false true false splitAt p oldest from t₁ t₂ → Worked u true true false boundAt p oldest from t₂ t₃
-    → Worked u true true true aloneAt p oldest from t₃ t₄ → Swept u oldest from p q t t₄
+pub all-swept : {u oldest from p : ℕ} {t t₁ t₂ t₃ t₄ : List ℕ} → Worked u false false p oldest from t t₁ → Worked u false true p oldest from t₁ t₂
+    → Worked u true false p oldest from t₂ t₃ → Worked u true true p oldest from t₃ t₄ → Swept u oldest from p t t₄
 all-swept f s b o = record {
   level = λ ps survival i y. risen y f s b o;
   kept = kept-trans (kept-trans (f .kept) (s .kept)) (kept-trans (b .kept) (o .kept));

@@ -16,10 +16,11 @@ use Rattle.rules.specs.Refusal.{cells}
 use Rattle.rules.proofs.Windows.{held-le}
 use Rattle.memory.specs.Pattern.{pattern, oldestOf, dies, lives}
 use Rattle.memory.proofs.Patterns.{lives-none, lives-worked, lives-failed}
-use Rattle.places.specs.Cells.{far, Kept}
+use Rattle.places.specs.Cells.{Kept}
+use Rattle.places.specs.Map.{far, marks, freeAt, splitAt, boundAt, aloneAt}
 use Rattle.places.proofs.Cells.{kept-none, kept-trans, room-kept}
 use Rattle.windows.specs.Asked.{Judged}
-use Rattle.windows.specs.Groups.{marks, freeAt, splitAt, boundAt, aloneAt, listAt, Group, free, split, bound, alone, listOf, groupOf, grouped, countAt, Listed, Lists, flagOf, Marked, Listable, Appended, Markable, MarkedTwo, Sortable, Sorting, Placed, Trimmed, Listables, TrimmedAll}
+use Rattle.windows.specs.Groups.{listAt, worseOf, listOf, groupOf, grouped, countAt, Listed, Lists, flagOf, Marked, Listable, Appended, Markable, MarkedTwo, Sortable, Sorting, Placed, Trimmed, Listables, TrimmedAll}
 use Rattle.windows.proofs.Lists.{listed-none, listed-more, listed-still, listed-skip, listed-trim}
 use Rattle.windows.proofs.Stores.{stored}
 
@@ -29,51 +30,39 @@ pub record Begins (at : ℕ) : Type 0 where
   pub few : k ≤ 3
   pub is : at ≡ 3000 + 300 * k
 
-pub begins : (must older alone : Bool) (at : ℕ) → Group must older alone at → Begins at
-begins must older lone at free = record { k = 0; few = omega arith; is = refl }
-begins must older lone at split = record { k = 1; few = omega arith; is = refl }
-begins must older lone at bound = record { k = 2; few = omega arith; is = refl }
-begins must older lone at alone = record { k = 3; few = omega arith; is = refl }
-
-list-begins : (must older alone : Bool) → Begins (listAt must older alone)
-list-begins true older true = record { k = 3; few = omega arith; is = refl }
-list-begins true older false = record { k = 2; few = omega arith; is = refl }
-list-begins false true lone = record { k = 1; few = omega arith; is = refl }
-list-begins false false lone = record { k = 0; few = omega arith; is = refl }
+pub begins : (must worse : Bool) → Begins (listAt must worse)
+begins false false = record { k = 0; few = omega arith; is = refl }
+begins false true = record { k = 1; few = omega arith; is = refl }
+begins true false = record { k = 2; few = omega arith; is = refl }
+begins true true = record { k = 3; few = omega arith; is = refl }
 
 -- cells of one list are none of another's
 apart-lists : {at at' : ℕ} → Begins at → Begins at' → (at ≡ at' → ⊥) → (c j : ℕ) → at ≤ c → c ≤ at + 256 → j ≤ 256 → c ≡ at' + j → ⊥
 apart-lists a b n c j low high small e = omega (arith, a .is, b .is, a .few, b .few, n)
 
 module _ (ps : List Pair) {x : ℕ} {t : List ℕ} (l : Lists ps x t) (small : x < 256) where
-  few-of : (at : ℕ) → Listed (grouped ps at) x at t → countAt t at ≤ x
-  few-of at li = omega (arith, li .size, held-le (grouped ps at) x)
+  few-at : (must worse : Bool) → countAt t (listAt must worse) ≤ x
+  few-at must worse = omega (arith, l .list must worse .size, held-le (grouped ps (listAt must worse)) x)
 
-  few-at : (must older alone : Bool) → countAt t (listAt must older alone) ≤ x
-  few-at true older true = few-of _ (l .list _ _ _ _ alone)
-  few-at true older false = few-of _ (l .list _ _ _ _ bound)
-  few-at false true lone = few-of _ (l .list _ _ _ _ split)
-  few-at false false lone = few-of _ (l .list _ _ _ _ free)
-
-  listable : (must older alone : Bool) → cells ≤ length t → Listable (listAt must older alone) t
-  listable must older lone room = let b = list-begins must older lone in record { low = omega (arith, b .is, b .few, few-at must older lone); room = room }
+  listable : (must worse : Bool) → cells ≤ length t → Listable (listAt must worse) t
+  listable must worse room = let b = begins must worse in record { low = omega (arith, b .is, b .few, few-at must worse); room = room }
 
   -- lists whose cells are as they were
   pub lists-still : {t' : List ℕ} → ((c : ℕ) → 3000 ≤ c → getD t' c 0 ≡ getD t c 0) → Lists ps x t'
-  lists-still same = record { list = λ must older lone at g. let b = begins must older lone at g in listed-still _ (l .list must older lone at g) (λ c low high. same c (omega (arith, b .is))) }
+  lists-still same = record { list = λ must worse. let b = begins must worse in listed-still _ (l .list must worse) (λ c low high. same c (omega (arith, b .is))) }
 
   -- a pattern that does not live
   pub lists-skip : lives ps x ≡ false → Lists ps (suc x) t
   unfolding grouped
-  lists-skip e = record { list = λ must older lone at g. listed-skip (grouped ps at) (rw e) (l .list must older lone at g) }
+  lists-skip e = record { list = λ must worse. listed-skip (grouped ps (listAt must worse)) (rw e) (l .list must worse) }
 
   -- one that does
   pub lists-more : {t' : List ℕ} → lives ps x ≡ true → Appended (groupOf ps x) x t t' → Lists ps (suc x) t'
   unfolding groupOf grouped
-  lists-more {t'} e a = record { list = λ must older lone at g. go at (begins must older lone at g) (l .list must older lone at g) (ℕ-discrete (groupOf ps x) at) }
+  lists-more {t'} e a = record { list = λ must worse. go (listAt must worse) (begins must worse) (l .list must worse) (ℕ-discrete (groupOf ps x) (listAt must worse)) }
     where
       from : Begins (groupOf ps x)
-      from = list-begins (dies ps x) (dies ps (oldestOf ps + x)) (lackingIn ps (oldestOf ps + x))
+      from = begins (dies ps x) (worseOf ps (dies ps x) (oldestOf ps + x))
 
       go : (at : ℕ) → Begins at → Listed (grouped ps at) x at t → Dec (groupOf ps x ≡ at) → Listed (grouped ps at) (suc x) at t'
       go at b li (yes q) = listed-more (grouped ps at) li (rw (e, q, eq-eqb at at refl)) (λ c low high. refl) (rw q at a)
@@ -81,7 +70,7 @@ module _ (ps : List Pair) {x : ℕ} {t : List ℕ} (l : Lists ps x t) (small : x
           let no' : (at ≡ groupOf ps x → ⊥) = λ q. n (sym q) in
           let still = listed-still _ li (λ c low high. a .other c
           (λ q. apart-lists b from no' c 0 low (omega arith) (omega arith) (omega arith))
-          (λ q. apart-lists b from no' c (1 + countAt t (groupOf ps x)) low (omega arith) (omega (arith, few-at (dies ps x) (dies ps (oldestOf ps + x)) (lackingIn ps (oldestOf ps + x)))) (omega arith))) in
+          (λ q. apart-lists b from no' c (1 + countAt t (groupOf ps x)) low (omega arith) (omega (arith, few-at (dies ps x) (worseOf ps (dies ps x) (oldestOf ps + x)))) (omega arith))) in
           listed-skip (grouped ps at) (rw (e, ne-eqb (groupOf ps x) at n)) still
 
 module _ (ps : List Pair) (none : lackingIn ps 0 ≡ false) {x : ℕ} {t : List ℕ} (m : Marked ps x t) (small : x < 256) where
@@ -157,11 +146,11 @@ begun {first} {second} {oldest} {more} {t} y =
     }
   where
     none-yet : {t' : List ℕ} (ps : List Pair) → countAt t' freeAt ≡ 0 → countAt t' splitAt ≡ 0 → countAt t' boundAt ≡ 0 → countAt t' aloneAt ≡ 0
-        → (must older alone : Bool) (at : ℕ) → Group must older alone at → Listed (grouped ps at) 0 at t'
-    none-yet ps f s b o must older lone at free = listed-none _ f
-    none-yet ps f s b o must older lone at split = listed-none _ s
-    none-yet ps f s b o must older lone at bound = listed-none _ b
-    none-yet ps f s b o must older lone at alone = listed-none _ o
+        → (must worse : Bool) → Listed (grouped ps (listAt must worse)) 0 (listAt must worse) t'
+    none-yet ps f s b o false false = listed-none _ f
+    none-yet ps f s b o false true = listed-none _ s
+    none-yet ps f s b o true false = listed-none _ b
+    none-yet ps f s b o true true = listed-none _ o
 
 module _ {first second oldest x : ℕ} {more t : List ℕ} (y : Sorting first second more oldest x t) where
   abbrev ps : List Pair
@@ -203,13 +192,13 @@ module _ {first second oldest x : ℕ} {more t : List ℕ} (y : Sorting first se
     still = lists-still ps (y .lists) small (mark-behind d)
 
     pub append-ready : Listable (listOf ps must (oldest + x)) t'
-    append-ready = listable ps still small must (dies ps (oldest + x)) (lackingIn ps (oldest + x)) (room-kept (d .kept) (y .by .room))
+    append-ready = listable ps still small must (worseOf ps must (oldest + x)) (room-kept (d .kept) (y .by .room))
 
     pub placed-living : {t'' : List ℕ} → Appended (listOf ps must (oldest + x)) x t' t'' → Placed first second more (x + 1) t t''
     unfolding groupOf
     placed-living {t''} a =
         let d' : MarkedTwo x (lives ps x) (lives ps x && not (dies ps x)) t t' = rw (here, ← is) d in
-        let b = list-begins must (dies ps (oldest + x)) (lackingIn ps (oldest + x)) in
+        let b = begins must (worseOf ps must (oldest + x)) in
         let a' : Appended (groupOf ps x) x t' t'' = rw (is, y .by .bit) at a in
         rw (add-one x) (record {
           lists = lists-more ps still small here a';
@@ -228,39 +217,39 @@ module _ {reach oldest : ℕ} {t₀ t₁ t₂ t₃ t₄ : List ℕ} (y : Listabl
     kept = kept-trans (kept-trans (f .kept) (s .kept)) (kept-trans (b .kept) (o .kept));
   }
     where
-      cut : (ps : List Pair) (prev : ℕ) → Lists ps prev t₀ → reach ≤ prev → prev ≤ 256 → (must older alone : Bool) (at : ℕ) → Group must older alone at
-          → Listed (grouped ps at) reach at t₄
-      cut ps prev l low high must older lone at free =
-          listed-still _ (listed-trim _ (l .list _ _ _ _ free) low f)
+      cut : (ps : List Pair) (prev : ℕ) → Lists ps prev t₀ → reach ≤ prev → prev ≤ 256
+          → (must worse : Bool) → Listed (grouped ps (listAt must worse)) reach (listAt must worse) t₄
+      cut ps prev l low high false false =
+          listed-still _ (listed-trim _ (l .list false false) low f)
           (λ c h k. o .other c (λ q. omega arith) ∙ b .other c (λ q. omega arith) ∙ s .other c (λ q. omega arith))
-      cut ps prev l low high must older lone at split =
-          listed-still _ (listed-trim _ (listed-still _ (l .list _ _ _ _ split) (λ c h k. f .other c (λ q. omega arith))) low s)
+      cut ps prev l low high false true =
+          listed-still _ (listed-trim _ (listed-still _ (l .list false true) (λ c h k. f .other c (λ q. omega arith))) low s)
           (λ c h k. o .other c (λ q. omega arith) ∙ b .other c (λ q. omega arith))
-      cut ps prev l low high must older lone at bound =
-          listed-still _ (listed-trim _ (listed-still _ (l .list _ _ _ _ bound) (λ c h k. s .other c (λ q. omega arith) ∙ f .other c (λ q. omega arith))) low b)
+      cut ps prev l low high true false =
+          listed-still _ (listed-trim _ (listed-still _ (l .list true false) (λ c h k. s .other c (λ q. omega arith) ∙ f .other c (λ q. omega arith))) low b)
           (λ c h k. o .other c (λ q. omega arith))
-      cut ps prev l low high must older lone at alone =
-          listed-trim _ (listed-still _ (l .list _ _ _ _ alone) (λ c h k. b .other c (λ q. omega arith) ∙ s .other c (λ q. omega arith) ∙ f .other c (λ q. omega arith))) low o
+      cut ps prev l low high true true =
+          listed-trim _ (listed-still _ (l .list true true) (λ c h k. b .other c (λ q. omega arith) ∙ s .other c (λ q. omega arith) ∙ f .other c (λ q. omega arith))) low o
 
 -- room in each of the lists, as the others are cut
 module _ {oldest : ℕ} {t₀ : List ℕ} (y : Listables oldest t₀) where
   pub room-first : Listable freeAt t₀
-  room-first = record { low = omega (arith, y .list _ _ _ _ free); room = y .room }
+  room-first = record { low = omega (arith, y .list false false); room = y .room }
 
   module _ {reach : ℕ} {t₁ : List ℕ} (f : Trimmed freeAt reach t₀ t₁) where
     pub room-second : Listable splitAt t₁
-    room-second = record { low = rw (f .other splitAt (λ q. omega arith)) (omega (arith, y .list _ _ _ _ split)); room = room-kept (f .kept) (y .room) }
+    room-second = record { low = rw (f .other splitAt (λ q. omega arith)) (omega (arith, y .list false true)); room = room-kept (f .kept) (y .room) }
 
     module _ {t₂ : List ℕ} (s : Trimmed splitAt reach t₁ t₂) where
       pub room-third : Listable boundAt t₂
       room-third = record {
-        low = rw (s .other boundAt (λ q. omega arith), f .other boundAt (λ q. omega arith)) (omega (arith, y .list _ _ _ _ bound));
+        low = rw (s .other boundAt (λ q. omega arith), f .other boundAt (λ q. omega arith)) (omega (arith, y .list true false));
         room = room-kept (s .kept) (room-kept (f .kept) (y .room));
       }
 
       pub room-fourth : {t₃ : List ℕ} → Trimmed boundAt reach t₂ t₃ → Listable aloneAt t₃
       room-fourth b = record {
-        low = rw (b .other aloneAt (λ q. omega arith), s .other aloneAt (λ q. omega arith), f .other aloneAt (λ q. omega arith)) (omega (arith, y .list _ _ _ _ alone));
+        low = rw (b .other aloneAt (λ q. omega arith), s .other aloneAt (λ q. omega arith), f .other aloneAt (λ q. omega arith)) (omega (arith, y .list true true));
         room = room-kept (b .kept) (room-kept (s .kept) (room-kept (f .kept) (y .room)));
       }
 

@@ -16,7 +16,8 @@ use Rattle.rules.specs.Pairs.{pairsOf}
 use Rattle.memory.specs.Pattern.{oldestOf, patterned}
 use Rattle.memory.proofs.Patterns.{none-lacking, pattern-row8, lives-none}
 use Rattle.places.specs.declared.Ends.{Ends}
-use Rattle.places.specs.Cells.{far, Both, Place, cellAt, Kept, Written}
+use Rattle.places.specs.Cells.{Both, Place, cellAt, Kept, Written}
+use Rattle.places.specs.Map.{far}
 use Rattle.places.proofs.Cells.{both-as, kept-trans, room-kept, workable-kept, side-near}
 use Rattle.windows.specs.declared.Level.{Level}
 use Rattle.windows.specs.Asked.{Asked, farthest}

@@ -12,37 +12,20 @@ use Rattle.rules.specs.Memory.{lackingIn}
 use Rattle.rules.specs.Pairs.{pairsOf}
 use Rattle.rules.specs.Refusal.{cells}
 use Rattle.memory.specs.Pattern.{oldestOf, dies, lives}
-use Rattle.places.specs.Cells.{far, Kept}
+use Rattle.places.specs.Cells.{Kept}
+use Rattle.places.specs.Map.{far, marks, freeAt, splitAt, boundAt, aloneAt}
 use Rattle.windows.specs.Asked.{Windows}
 
-abbrev pub marks : ℕ
-marks = 2400
+-- the list of the patterns that must work or not, and whose older ones are worse off or not
+abbrev pub listAt : (must worse : Bool) → ℕ
+listAt must worse = cond must (cond worse aloneAt boundAt) (cond worse splitAt freeAt)
 
-abbrev pub freeAt : ℕ
-freeAt = 3000
-
-abbrev pub splitAt : ℕ
-splitAt = 3300
-
-abbrev pub boundAt : ℕ
-boundAt = 3600
-
-abbrev pub aloneAt : ℕ
-aloneAt = 3900
-
--- the list of a pattern, by whether it must work, whether its older one must, and whether that one has too few working already
-abbrev pub listAt : (must older alone : Bool) → ℕ
-listAt must older alone = cond must (cond alone aloneAt boundAt) (cond older splitAt freeAt)
-
--- the four lists, which of the two must work there, and whether the pattern is alone
-pub data Group : (must older alone : Bool) (at : ℕ) → Type 0 where
-  free : Group false false false freeAt
-  split : Group false true false splitAt
-  bound : Group true true false boundAt
-  alone : Group true true true aloneAt
+-- an older one that is worse off must work where the pattern may fail, and has too few working already where that must work
+abbrev pub worseOf : List Pair → (must : Bool) (old : ℕ) → Bool
+worseOf ps must old = cond must (lackingIn ps old) (dies ps old)
 
 abbrev pub listOf : List Pair → (must : Bool) (old : ℕ) → ℕ
-listOf ps must old = listAt must (dies ps old) (lackingIn ps old)
+listOf ps must old = listAt must (worseOf ps must old)
 
 unfoldable pub groupOf : List Pair → ℕ → ℕ
 groupOf ps x = listOf ps (dies ps x) (oldestOf ps + x)
@@ -69,7 +52,7 @@ pub record Listed (C : ℕ → Bool) (reach at : ℕ) (t : List ℕ) : Type 0 wh
   pub entry : (j : ℕ) → j < countAt t at → Entry C reach j (entryAt t at j)
 
 pub record Lists (ps : List Pair) (reach : ℕ) (t : List ℕ) : Type 0 where
-  pub list : (must older alone : Bool) (at : ℕ) → Group must older alone at → Listed (grouped ps at) reach at t
+  pub list : (must worse : Bool) → Listed (grouped ps (listAt must worse)) reach (listAt must worse) t
 
 -- the marks of the patterns below `upto` and of those that follow them
 abbrev pub flagOf : Bool → ℕ
@@ -140,7 +123,7 @@ pub record Trimmed (at reach : ℕ) (t₀ t : List ℕ) : Type 0 where
 -- the lists, with room
 pub record Listables (oldest : ℕ) (t : List ℕ) : Type 0 where
   pub most : oldest ≤ 256
-  pub list : (must older alone : Bool) (at : ℕ) → Group must older alone at → countAt t at ≤ 256
+  pub list : (must worse : Bool) → countAt t (listAt must worse) ≤ 256
   pub room : cells ≤ length t
 
 pub record TrimmedAll (reach oldest : ℕ) (t₀ t : List ℕ) : Type 0 where

@@ -1,24 +1,36 @@
-// The patterns that live, in four lists behind the places: those of which the older one may fail too, those of which it must work, those that must work
-// themselves, and of these the ones whose older one is dead. A list begins with how many it holds.
+// The patterns that live, in four lists behind the places: those of which the older one may fail too, those of which it
+// must work, those that must work themselves, and of these the ones whose older one is dead. A list begins with how
+// many it holds.
 ghost use mathlib.Core.Path.{_≡_};
 ghost use Prim.Native.Nat.{_+_, _<_};
 ghost use Rattle.rules.specs.Pairs.{pairsOf};
 ghost use Rattle.windows.specs.Asked.{Judged};
-ghost use Rattle.windows.specs.Groups.{Appended, Cut, Listable, Listables, Markable, MarkedTwo, Placed, Sortable, Sorted, Sorting, Trimmed, TrimmedAll, flagOf, listOf};
+ghost use Rattle.windows.specs.Groups.{Appended, Cut, Listable, Listables, Markable, MarkedTwo, Placed};
+ghost use Rattle.windows.specs.Groups.{Sortable, Sorted, Sorting, Trimmed, TrimmedAll, flagOf, listAt, listOf};
 use crate::pairs;
 use memory::pattern::Pattern;
+use places::map::ALONE;
+use places::map::BOUND;
+use places::map::FREE;
+use places::map::MARKS;
+use places::map::SPLIT;
 
-// Where the lists begin.
-pub const FREE: usize = 3000;
-
-pub const SPLIT: usize = 3300;
-
-pub const BOUND: usize = 3600;
-
-pub const ALONE: usize = 3900;
-
-// From here on stands 1 for each pattern that lives, and 0 for each other.
-const MARKS: usize = 2400;
+// The list of the patterns that must work or not, and whose older ones are worse off or not: where a pattern may fail,
+// an older one that is worse off must work; where it must work, that one is dead.
+pub fn list_at(must: bool, worse: bool) -> usize
+    ensures { λ r. ⌜ r ≡ listAt must worse ⌝ }
+{
+    if must {
+        if worse {
+            return ALONE;
+        }
+        return BOUND;
+    }
+    if worse {
+        return SPLIT;
+    }
+    FREE
+}
 
 // The list of a pattern that must work or not, by its older one.
 fn list_of(first: u64, second: u64, more: &[u64], must: bool, old: Pattern) -> usize
@@ -26,15 +38,9 @@ fn list_of(first: u64, second: u64, more: &[u64], must: bool, old: Pattern) -> u
     ensures { λ r. ⌜ r ≡ listOf (pairsOf first second (now (more .entry))) must (old .bits) ⌝ }
 {
     if must {
-        if pairs::lacks(first, second, more, old) {
-            return ALONE;
-        }
-        return BOUND;
+        return list_at(true, pairs::lacks(first, second, more, old));
     }
-    if pairs::dies(first, second, more, old) {
-        return SPLIT;
-    }
-    FREE
+    list_at(false, pairs::dies(first, second, more, old))
 }
 
 // A pattern put at the end of a list.

@@ -1,8 +1,9 @@
 // Kind 8: low and high where each window must hold enough working ones.
 //
-// The value of a pattern stands at the place of that number, on one side with so many components left, on the other with one more. A pattern and the
-// same with its oldest state failed go on alike, since that state is forgotten next: so each pattern is worked together with its older one. Only those
-// that live are, and only those that can be reached with so many components read. They are sorted once, by which of the two must work.
+// The value of a pattern stands at the place of that number, on one side with so many components left, on the other
+// with one more. A pattern and the same with its oldest state failed go on alike, since that state is forgotten next:
+// so each pattern is worked together with its older one. Only those that live are, and only those that can be reached
+// with so many components read. They are sorted once, by which of the two must work.
 mod groups; // groups.rt: the patterns that live, by which of the two must work
 mod pairs; // pairs.rt: what the pairs ask of a pattern
 mod row; // row.rt: one component more
@@ -31,7 +32,9 @@ pub fn rate(
     table: &mut [u64],
 ) -> Ends
     requires { ⌜ Asked (whole decimal) first second (now more) (now survival) (now table) ⌝ }
-    ensures figure { λ e. ⌜ Both (λ up. figureOf (row8 (pairsOf first second (now (more .entry)))) up (whole decimal) (now (survival .entry))) e ⌝ }
+    ensures figure { λ e.
+        let row = row8 (pairsOf first second (now (more .entry))) in
+        ⌜ Both (λ up. figureOf row up (whole decimal) (now (survival .entry))) e ⌝ }
     ensures kept { λ e. ⌜ Kept (now (table .entry)) (now (table .exit)) ⌝ }
 {
     let n = survival.len();

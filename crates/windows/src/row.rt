@@ -7,17 +7,13 @@ ghost use Rattle.rules.specs.State.{S};
 ghost use Rattle.rules.specs.declared.Pair.{Pair};
 ghost use Rattle.units.specs.Step.{whole};
 ghost use Rattle.places.specs.Cells.{Both, Kept, Place, Written, cellAt};
-ghost use Rattle.windows.specs.Row.{Between, Filling, Handed, Laid, Levelled, Raised, Ready, Standing, Swept, Worked};
+ghost use Rattle.windows.specs.Row.{Between, Filling, Handed, Laid, Levelled};
+ghost use Rattle.windows.specs.Row.{Raised, Ready, Standing, Swept, Worked};
 use crate::Level;
 use crate::groups;
-use crate::groups::ALONE;
-use crate::groups::BOUND;
-use crate::groups::FREE;
-use crate::groups::SPLIT;
 use memory::pattern::Pattern;
 use places::Ends;
-use places::HALF;
-use units::Failure;
+use places::map::HALF;
 use units::Survival;
 
 // With no components left every pattern works.
@@ -45,30 +41,32 @@ fn failing(decimal: bool, must: bool, table: &[u64], at: usize) -> Ends
     places::read_small(table, at)
 }
 
-// A pattern and, unless it is alone, its older one, which goes on alike.
+// A pattern and its older one, which goes on alike; an older one that is worse off than a pattern that must work is
+// dead.
 fn both(
     decimal: bool,
     must: bool,
-    older: bool,
-    alone: bool,
+    worse: bool,
     p: Survival,
-    q: Failure,
     oldest: usize,
     from: usize,
     x: usize,
     table: &mut [u64],
 )
-    requires { ⌜ Ready (whole decimal) must older (p .0) (q .0) oldest from x (now table) ⌝ }
-    ensures { λ _. ⌜ Laid (whole decimal) must older alone (p .0) oldest from x (now (table .entry)) (now (table .exit)) ⌝ }
+    requires { ⌜ Ready (whole decimal) must worse (p .0) oldest from x (now table) ⌝ }
+    ensures { λ _.
+        let u = whole decimal in
+        ⌜ Laid u must worse (p .0) oldest from x (now (table .entry)) (now (table .exit)) ⌝ }
 {
     let young = Pattern { bits: x };
     let to = HALF - from;
+    let q = p.failure(decimal);
     let works = places::read_small(table, from + young.worked().bits);
     let after = from + young.failed().bits;
     let fails = failing(decimal, must, table, after);
-    let fails_older = failing(decimal, older, table, after);
+    let fails_older = failing(decimal, must | worse, table, after);
     places::write(table, to + x, places::step(decimal, p, q, works, fails));
-    if alone {
+    if must & worse {
         return;
     }
     places::write(
@@ -82,101 +80,63 @@ fn both(
 fn group(
     decimal: bool,
     must: bool,
-    older: bool,
-    alone: bool,
-    at: usize,
+    worse: bool,
     p: Survival,
-    q: Failure,
     oldest: usize,
     from: usize,
     table: &mut [u64],
 )
-    requires { ⌜ Handed (whole decimal) must older at (p .0) (q .0) oldest from (now table) ⌝ }
-    ensures { λ _. ⌜ Worked (whole decimal) must older alone at (p .0) oldest from (now (table .entry)) (now (table .exit)) ⌝ }
+    requires { ⌜ Handed (whole decimal) must worse (p .0) oldest from (now table) ⌝ }
+    ensures { λ _.
+        let u = whole decimal in
+        ⌜ Worked u must worse (p .0) oldest from (now (table .entry)) (now (table .exit)) ⌝ }
 {
+    let at = groups::list_at(must, worse);
     let count = table[at] as usize;
     let mut j: usize = 0;
     while j < count {
         let x = table[at + 1 + j] as usize;
-        both(decimal, must, older, alone, p, q, oldest, from, x, table);
+        both(decimal, must, worse, p, oldest, from, x, table);
         j += 1;
     }
 }
 
 // The four lists. Both arms say the same: in each the compiler knows the unit, so that no loop asks for it.
-fn sweep(decimal: bool, oldest: usize, p: Survival, q: Failure, from: usize, table: &mut [u64])
-    requires { ⌜ Between (whole decimal) oldest from (p .0) (q .0) (now table) ⌝ }
-    ensures { λ _. ⌜ Swept (whole decimal) oldest from (p .0) (q .0) (now (table .entry)) (now (table .exit)) ⌝ }
+fn sweep(decimal: bool, oldest: usize, p: Survival, from: usize, table: &mut [u64])
+    requires { ⌜ Between (whole decimal) oldest from (p .0) (now table) ⌝ }
+    ensures { λ _.
+        let u = whole decimal in
+        ⌜ Swept u oldest from (p .0) (now (table .entry)) (now (table .exit)) ⌝ }
 {
     if !decimal {
-        group(
-            decimal,
-            false,
-            false,
-            false,
-            FREE,
-            p,
-            q,
-            oldest,
-            from,
-            table,
-        );
-        group(
-            decimal,
-            false,
-            true,
-            false,
-            SPLIT,
-            p,
-            q,
-            oldest,
-            from,
-            table,
-        );
-        group(decimal, true, true, false, BOUND, p, q, oldest, from, table);
-        group(decimal, true, true, true, ALONE, p, q, oldest, from, table);
+        group(decimal, false, false, p, oldest, from, table);
+        group(decimal, false, true, p, oldest, from, table);
+        group(decimal, true, false, p, oldest, from, table);
+        group(decimal, true, true, p, oldest, from, table);
         return;
     }
-    group(
-        decimal,
-        false,
-        false,
-        false,
-        FREE,
-        p,
-        q,
-        oldest,
-        from,
-        table,
-    );
-    group(
-        decimal,
-        false,
-        true,
-        false,
-        SPLIT,
-        p,
-        q,
-        oldest,
-        from,
-        table,
-    );
-    group(decimal, true, true, false, BOUND, p, q, oldest, from, table);
-    group(decimal, true, true, true, ALONE, p, q, oldest, from, table);
+    group(decimal, false, false, p, oldest, from, table);
+    group(decimal, false, true, p, oldest, from, table);
+    group(decimal, true, false, p, oldest, from, table);
+    group(decimal, true, true, p, oldest, from, table);
 }
 
 // The next component, with the patterns that can have been reached.
 pub fn turn(decimal: bool, oldest: usize, survival: &[u32], s: Level, table: &mut [u64]) -> Level
     requires { ⌜ Standing (whole decimal) oldest (now survival) s (now table) ⌝ }
-    ensures raised { λ r. ⌜ ((ps : List Pair) → Levelled (whole decimal) ps oldest (now (survival .entry)) s (now (table .entry)) → Raised (whole decimal) ps oldest (now (survival .entry)) s (now (table .exit)) r) ⌝ }
+    ensures raised { λ r.
+        let u = whole decimal in
+        let read = now (survival .entry) in
+        let before = now (table .entry) in
+        let after = now (table .exit) in
+        ⌜ ((ps : List Pair) → Levelled u ps oldest read s before → Raised u ps oldest read s after r) ⌝ }
     ensures kept { λ r. ⌜ Kept (now (table .entry)) (now (table .exit)) ⌝ }
 {
     let left = s.left + 1;
     let from = s.from;
     groups::trim_all(1 << (survival.len() - left), oldest, table);
     let p = places::chance(survival, s.left);
-    let q = p.failure(decimal);
-    sweep(decimal, oldest, p, q, from, table);
+    sweep(decimal, oldest, p, from, table);
     Level {
         left,
         from: HALF - from,

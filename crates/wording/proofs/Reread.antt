@@ -45,15 +45,15 @@ module _ (w : List ℕ) (p : ℕ) (read : parts 3 w ≡ p) (h : p < none) where
   unfolding some rowFor grammar lettersOn
   parts-row = found (takes 3 11 w) rows 26 (omega arith) refl takes-parts
 
-  adds : (s : Listed) (word : List ℕ) → length (s .boardSurvival) < mostBoards → thing s word (walk 3 11 (replicate sets 0) (w ∷ [])) ≡ withBoard s p
+  adds : (s : Listed) (word : List ℕ) → length (s .switchboards) < mostBoards → thing s word (walk 3 11 (replicate sets 0) (w ∷ [])) ≡ withBoard s p
   unfolding walk placeAfter setAfter reading grammar lettersOn thing added
-  adds s word room = rw (parts-row, ends, read, le-ltb mostBoards (length (s .boardSurvival) + 1) (omega arith))
+  adds s word room = rw (parts-row, ends, read, le-ltb mostBoards (length (s .switchboards) + 1) (omega arith))
 
 reads : (version : ℕ) (begun : Bool) (p : ℕ) → version ≡ 3 → readLine version begun (named (text "board ") p) ≡ walk 3 11 (replicate sets 0) (decimal p ∷ [])
 unfolding readLine walk
 reads version begun p is = rw (is, board-words p, starts begun .0, starts begun .1)
 
-pub board-back : (s : Listed) (p : ℕ) → s .version ≡ 3 → p < none → length (s .boardSurvival) < mostBoards
+pub board-back : (s : Listed) (p : ℕ) → s .version ≡ 3 → p < none → length (s .switchboards) < mostBoards
     → withLine s (named (text "board ") p) ≡ withBoard (counted s true) p
 unfolding withLine wordy
 board-back s p is h room =

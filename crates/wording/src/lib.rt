@@ -13,7 +13,8 @@ use text::lines;
 // Puts a named number and what stands behind it.
 fn put_one(before: &[u8], k: u64, behind: &[u8], out: &mut [u8], at: usize) -> usize
     requires { ⌜ at + oneRoom (now before) (now behind) ≤ length (now out) ⌝ }
-    ensures { λ r. ⌜ Added (oneText (now (before .entry)) k (now (behind .entry))) (now (out .entry)) at (now (out .exit)) r ⌝ }
+    ensures { λ r. ⌜ Added (oneText (now (before .entry)) k (now (behind .entry))) (now (out .entry)) at
+        (now (out .exit)) r ⌝ }
 {
     let end = text::put_named(before, k, out, at);
     text::put(out, end, behind)
@@ -30,7 +31,8 @@ fn put_two(
     at: usize,
 ) -> usize
     requires { ⌜ at + twoRoom (now before) (now between) (now behind) ≤ length (now out) ⌝ }
-    ensures { λ r. ⌜ Added (twoText (now (before .entry)) a (now (between .entry)) b (now (behind .entry))) (now (out .entry)) at (now (out .exit)) r ⌝ }
+    ensures { λ r. ⌜ Added (twoText (now (before .entry)) a (now (between .entry)) b (now (behind .entry)))
+        (now (out .entry)) at (now (out .exit)) r ⌝ }
 {
     let end = lines::put_pair(before, a, between, b, out, at);
     text::put(out, end, behind)

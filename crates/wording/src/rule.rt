@@ -4,6 +4,7 @@ ghost use lib.ListN.{length};
 ghost use Rattle.text.specs.Added.{Added};
 ghost use Rattle.wording.specs.Numbers.{oneText, oneRoom};
 ghost use Rattle.wording.specs.Rule.{byNumbers, alone, ruleText, ruleRoom};
+use rules::kind;
 use text::lines;
 
 // Puts any rule by its numbers.
@@ -27,7 +28,8 @@ fn put_alone(
 ) -> usize
     requires words { ⌜ oneRoom (now before) (now behind) ≤ ruleRoom ⌝ }
     requires room { ⌜ at + ruleRoom ≤ length (now out) ⌝ }
-    ensures { λ r. ⌜ Added (alone kind first second (oneText (now (before .entry)) first (now (behind .entry)))) (now (out .entry)) at (now (out .exit)) r ⌝ }
+    ensures { λ r. ⌜ Added (alone kind first second (oneText (now (before .entry)) first (now (behind .entry))))
+        (now (out .entry)) at (now (out .exit)) r ⌝ }
 {
     if second == 0 {
         return crate::put_one(before, first, behind, out, at);
@@ -41,11 +43,11 @@ pub fn put_rule(kind: u64, first: u64, second: u64, out: &mut [u8], at: usize) -
     ensures { λ r. ⌜ Added (ruleText kind first second) (now (out .entry)) at (now (out .exit)) r ⌝ }
 {
     match kind {
-        1 => put_alone(kind, b"fails at ", first, b" dead", second, out, at),
-        2 => put_alone(kind, b"fails at weight ", first, b"", second, out, at),
-        3 => crate::put_two(b"fails from ", first, b" to ", second, b" dead", out, at),
-        4 => put_alone(kind, b"fails at ", first, b" in a row", second, out, at),
-        5 => put_alone(
+        kind::NUMBER => put_alone(kind, b"fails at ", first, b" dead", second, out, at),
+        kind::WEIGHT => put_alone(kind, b"fails at weight ", first, b"", second, out, at),
+        kind::BETWEEN => crate::put_two(b"fails from ", first, b" to ", second, b" dead", out, at),
+        kind::ROW => put_alone(kind, b"fails at ", first, b" in a row", second, out, at),
+        kind::ROW_ROUND => put_alone(
             kind,
             b"fails at ",
             first,
@@ -54,9 +56,17 @@ pub fn put_rule(kind: u64, first: u64, second: u64, out: &mut [u8], at: usize) -
             out,
             at,
         ),
-        6 => crate::put_two(b"fails at ", first, b" in ", second, b"", out, at),
-        7 => crate::put_two(b"fails at ", first, b" in ", second, b" round", out, at),
-        8 => crate::put_two(b"needs ", first, b" of any ", second, b"", out, at),
+        kind::NEAR => crate::put_two(b"fails at ", first, b" in ", second, b"", out, at),
+        kind::NEAR_ROUND => crate::put_two(
+            b"fails at ",
+            first,
+            b" in ",
+            second,
+            b" round",
+            out,
+            at,
+        ),
+        kind::LACKING => crate::put_two(b"needs ", first, b" of any ", second, b"", out, at),
         _ => put_numbers(kind, first, second, out, at),
     }
 }

@@ -4,7 +4,7 @@ use mathlib.Core.List.{List}
 use Prim.Native.Nat.{ℕ, _+_}
 use lib.IntN.{ℤ, pos}
 use Rattle.rules.specs.Below.{listBelow}
-use Rattle.rules.specs.File.{worthLoadingOf}
+use Rattle.rules.specs.File.{fansIn, worthIn}
 use Rattle.rules.specs.declared.Worth.{Worth}
 use Rattle.rules.specs.declared.Worth.the-variants.{Ends, Refused}
 use Rattle.arrays.specs.Padded.{padded}
@@ -20,10 +20,10 @@ abbrev pub upperEnd : Worth → ℤ
 upperEnd (Ends lower upper) = upper
 upperEnd (Refused number) = pos 0
 
--- "in deck order": that end of fans 1 to n, and 0 behind the last
-abbrev pub endsIn : (end : Worth → ℤ) (bytes : List ℕ) (system n : ℕ) → List ℤ
-endsIn end bytes system n = padded mostDrawn (pos 0) (listBelow n (λ i. end (worthLoadingOf bytes system (i + 1))))
+-- "in deck order": that end of fans 1 to n for a file's system, counted from 0, and 0 behind the last
+abbrev pub endsIn : (end : Worth → ℤ) (bytes : List ℕ) (s : ℕ) → List ℤ
+endsIn end bytes s = padded mostDrawn (pos 0) (listBelow (fansIn bytes) (λ i. end (worthIn bytes s (i + 1))))
 
-pub record Weighed (bytes : List ℕ) (system n : ℕ) (w : Worths) : Type 0 where
-  pub lower : w .lower ≡ endsIn lowerEnd bytes system n
-  pub upper : w .upper ≡ endsIn upperEnd bytes system n
+pub record Weighed (bytes : List ℕ) (s : ℕ) (w : Worths) : Type 0 where
+  pub lower : w .lower ≡ endsIn lowerEnd bytes s
+  pub upper : w .upper ≡ endsIn upperEnd bytes s

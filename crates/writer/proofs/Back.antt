@@ -13,13 +13,13 @@ use Rattle.rules.specs.Refusal.{firstOf}
 use Rattle.rules.specs.File.{Deck, perSystem, mostSystems, fileOf, deckIn, fileRefusal}
 use Rattle.rules.specs.Writing.{Typed, deckOf, bytesFor, typedFrom, writeRefusal, writingOf, roomWritten}
 use Rattle.rules.proofs.Unless.{unless-none}
-use Rattle.deck.specs.declared.Read.{Read}
-use Rattle.deck.specs.Read.{arraysOf}
-use Rattle.deck.specs.Outcome.{Handed}
+use Rattle.deck.specs.declared.Opened.{Opened}
+use Rattle.deck.specs.Head.{headFor}
+use Rattle.deck.specs.Outcome.{Opens}
 use Rattle.layout.specs.Fits.{Under, Bytes}
 use Rattle.deck.specs.Bounds.{Bounds}
 use Rattle.deck.proofs.File.{deck-back, file-back, deck-bounds}
-use Rattle.deck.proofs.Kept.{read-file}
+use Rattle.deck.proofs.Outcome.{open-file}
 use Rattle.deck.proofs.Systems.{numbers-length, listed-numbers, listed-systems}
 use Rattle.writer.specs.Outcome.{Wrote}
 use Rattle.layout.proofs.Versions.{under-read}
@@ -30,7 +30,7 @@ use Rattle.writer.proofs.Outcome.{writing-is}
 pub record Typable (t : Typed) : Type 0 where
   pub survival-fits : Under (2 ^ 32) (t .survival)
   pub weights-fit : Under (2 ^ 16) (t .weights)
-  pub boards-fit : Under (2 ^ 32) (t .boardSurvival)
+  pub boards-fit : Under (2 ^ 32) (t .switchboards)
   pub numbers-fit : Under (2 ^ 16) (t .numbers)
 
 module _ (t : Typed) (room : List ℕ) (small : Typable t) (none : writeRefusal t room ≡ 0) where
@@ -46,10 +46,10 @@ module _ (t : Typed) (room : List ℕ) (small : Typable t) (none : writeRefusal 
         weighed = w .weighed;
         some-system = omega (arith, count-is t, w .some-system);
         most-systems = omega (arith, count-is t, w .most-systems);
-        counted = counted-read v n (t .boards) (t .boardSurvival) (w .counted) (w .placed);
-        placed = placed-read v n (t .boards) (t .boardSurvival) (w .counted) (w .placed);
+        counted = counted-read v n (t .boards) (t .switchboards) (w .counted) (w .placed);
+        placed = placed-read v n (t .boards) (t .switchboards) (w .counted) (w .placed);
         own-boards = read-twice v (t .boards);
-        own-numbers = read-twice v (t .boardSurvival);
+        own-numbers = read-twice v (t .switchboards);
         survival-fits = small .survival-fits;
         weights-fit = small .weights-fit;
         boards-fit = under-read v (omega arith) (small .boards-fit);
@@ -65,9 +65,13 @@ module _ (t : Typed) (room : List ℕ) (small : Typable t) (none : writeRefusal 
   pub reads-back : deckIn (bytesFor t) ≡ deckOf t
   reads-back = deck-back (deckOf t) typed-bounds
 
-  pub written-read : (after : List ℕ) (r : Writing) → Wrote t room after r → (read : Read) → Handed (take (length (bytesFor t)) after) read
-      → read ≡ record { refusal = 0; deck = arraysOf (deckOf t) }
-  written-read after r is read handed = read-file (deckOf t) typed-bounds read (rw (front after r is) at handed)
+  -- and of what opening the room's front answers: it has that deck's head, and that deck is what every function over its bytes reads
+  pub written-read : (after : List ℕ) (r : Writing) → Wrote t room after r → (opened : Opened) → Opens (take (length (bytesFor t)) after) opened
+      → (opened ≡ record { refusal = 0; head = headFor (deckOf t) }) × (deckIn (take (length (bytesFor t)) after) ≡ deckOf t)
+  written-read after r is opened opens = (
+    open-file (deckOf t) typed-bounds opened (rw (front after r is) at opens),
+    ap deckIn (front after r is) ∙ reads-back,
+  )
 
 -- a deck typed as it stands is that deck, and not refused where the room is long enough
 typed-back : (d : Deck) → Bounds d → deckOf (typedFrom d) ≡ d
@@ -76,7 +80,7 @@ typed-back d ok = λ x. record {
   survival = d .survival;
   weights = d .weights;
   boards = ok .own-boards x;
-  boardSurvival = ok .own-numbers x;
+  switchboards = ok .own-numbers x;
   systems = listed-systems (d .systems) x;
 }
 

@@ -25,7 +25,7 @@ module _ (t : Typed) where
   n = length (t .survival)
 
   abbrev g : ℕ
-  g = length (t .boardSurvival)
+  g = length (t .switchboards)
 
   -- all fans are rated
   boards-whole : boardsRefusal (t .version) n g (t .boards) (take (n - 0) (drop 0 (t .boards))) ≡ boardsRefusal (t .version) n g (t .boards) (t .boards)

@@ -6,7 +6,7 @@ use Prim.Native.Nat.{ℕ, _+_, _*_, _≤_}
 use native.Mathlib.Omega.{arith}
 use lib.ListN.{length, length-append}
 use Rattle.rules.specs.Boards.{boardsRead}
-use Rattle.rules.specs.File.{headerLength, survivalField, boardCountField, countsOf, allBytes, headerOf, systemNumbers, fileOf, survivalBytes, weightBytes, boardBytes, survivalOffset, weightsOffset, boardsOffset, boardSurvivalOffset, systemsOffset}
+use Rattle.rules.specs.File.{headerLength, survivalField, boardCountField, countsOf, allBytes, headerOf, systemNumbers, fileOf, survivalBytes, weightBytes, boardBytes, survivalOffset, weightsOffset, boardsOffset, switchboardsOffset, systemsOffset}
 use Rattle.rules.specs.Writing.{Typed, deckOf, bytesFor}
 use Rattle.layout.proofs.Header.{header-length}
 use Rattle.deck.proofs.File.{toWeights, toBoards, toNumbers, toSystems, weights-from, boards-from, numbers-from, systems-from}
@@ -31,20 +31,20 @@ module _ (t : Typed) (room : List ℕ) (w : Writable t room) where
       → second ≡ laid (survivalOffset v) (allBytes survivalBytes (t .survival)) first
       → third ≡ laid (weightsOffset v n) (allBytes weightBytes (t .weights)) second
       → fourth ≡ laid (boardsOffset v n) (allBytes boardBytes (boardsRead v (t .boards))) third
-      → fifth ≡ laid (boardSurvivalOffset v n) (allBytes survivalBytes (boardsRead v (t .boardSurvival))) fourth
+      → fifth ≡ laid (switchboardsOffset v n) (allBytes survivalBytes (boardsRead v (t .switchboards))) fourth
       → last ≡ laid (systemsOffset v n g) (allBytes 2 (t .numbers)) fifth
       → last ≡ laid 0 (bytesFor t) room
   unfolding fileOf
   file-laid {first} {second} {third} {fourth} {fifth} {last} header survival weights boards numbers systems =
       let d = deckOf t in
       let m = length (d .systems) in
-      let placed = fans-typed v n (t .boards) (t .boardSurvival) (w .counted) (w .placed) in
+      let placed = fans-typed v n (t .boards) (t .switchboards) (w .counted) (w .placed) in
       let counted : first ≡ laid 0 (headerOf v n g m) room = rw (count-is t) header in
       let listed : last ≡ laid (systemsOffset v n g) (allBytes 2 (systemNumbers (d .systems))) fifth = rw (listed-numbers (t .numbers) (w .whole)) systems in
       let one = laid-next 0 (survivalOffset v) room (headerOf v n g m) _ counted survival (omega (arith, header-length v n g m)) (omega arith) in
       let two = laid-next 0 (weightsOffset v n) room (toWeights d) _ one weights (omega (arith, weights-from d)) (omega arith) in
       let three = laid-next 0 (boardsOffset v n) room (toBoards d) _ two boards (omega (arith, boards-from d, w .weighed)) (omega arith) in
-      let four = laid-next 0 (boardSurvivalOffset v n) room (toNumbers d) _ three numbers (omega (arith, numbers-from d, w .weighed)) (omega arith) in
+      let four = laid-next 0 (switchboardsOffset v n) room (toNumbers d) _ three numbers (omega (arith, numbers-from d, w .weighed)) (omega arith) in
       laid-next 0 (systemsOffset v n g) room (toSystems d) _ four listed (omega (arith, systems-from d, w .weighed)) (omega arith)
 
 -- ---- the header: its last two numbers, which the version has or has not, are laid where the offsets end

@@ -30,7 +30,7 @@ count-is t = below-length (count t) _
 
 -- how many boards are read
 abbrev pub boardsTyped : Typed → ℕ
-boardsTyped t = length (boardsRead (t .version) (t .boardSurvival))
+boardsTyped t = length (boardsRead (t .version) (t .switchboards))
 
 pub bytes-long : (t : Typed) → length (t .weights) ≡ length (t .survival) → length (boardsRead (t .version) (t .boards)) ≡ boardFans (t .version) (length (t .survival))
     → length (bytesFor t) ≡ fileLength (t .version) (length (t .survival)) (boardsTyped t) (count t)
@@ -102,8 +102,8 @@ pub record Writable (t : Typed) (room : List ℕ) : Type 0 where
   pub whole : length (t .numbers) % perSystem ≡ 0
   pub some-system : 1 ≤ count t
   pub most-systems : count t ≤ mostSystems
-  pub counted : badBoards (t .version) (length (t .boardSurvival)) ≡ false
-  pub placed : misplaced (t .version) (length (t .survival)) (length (t .boardSurvival)) (t .boards) (t .boards) ≡ false
+  pub counted : badBoards (t .version) (length (t .switchboards)) ≡ false
+  pub placed : misplaced (t .version) (length (t .survival)) (length (t .switchboards)) (t .boards) (t .boards) ≡ false
   pub fits : length (bytesFor t) ≤ length room
 
 pub writable : (t : Typed) (room : List ℕ) → writeRefusal t room ≡ 0 → Writable t room
@@ -135,8 +135,8 @@ writable t room e =
 pub longest : (t : Typed) (room : List ℕ) → Writable t room → length (bytesFor t) ≤ fileLength lastVersion mostFans mostBoards mostSystems
 longest t room w =
     let n = length (t .survival) in
-    let few = few-typed (t .version) n (t .boards) (t .boardSurvival) (w .counted) (w .placed) in
-    let placed = fans-typed (t .version) n (t .boards) (t .boardSurvival) (w .counted) (w .placed) in
+    let few = few-typed (t .version) n (t .boards) (t .switchboards) (w .counted) (w .placed) in
+    let placed = fans-typed (t .version) n (t .boards) (t .switchboards) (w .counted) (w .placed) in
     let header = header-bounds (t .version) in
     let listed = fans-bound (t .version) n in
     omega (arith, bytes-long t (w .weighed) placed, w .most-fans, w .most-systems)

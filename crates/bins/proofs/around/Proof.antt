@@ -15,15 +15,15 @@ Inv-loop k top j table ends sum₀ m₀ sum m = (m ≤ ends) × (ends ≡ min k 
 abbrev μ-loop : tie.MeasureT-loop
 μ-loop k top j table ends sum₀ m₀ sum m = ends - m
 
-add-least : tie.Need-add-least Inv-loop μ-loop
-add-least c = search needs
+add-lesser : tie.Need-add-lesser Inv-loop μ-loop
+add-lesser c = search needs
 
-least-requires : tie.Need-least-requires Inv-loop μ-loop
-least-requires c κs = search needs
+lesser-requires : tie.Need-lesser-requires Inv-loop μ-loop
+lesser-requires c κs = search needs
 
 loop-holds : tie.Need-loop-holds Inv-loop μ-loop
 unfolding sumBelow
-loop-holds c = (search needs, c .least .ensures ∙ omega arith, c .before .before .pre, refl)
+loop-holds c = (search needs, c .lesser .ensures ∙ omega arith, c .before .before .pre, refl)
 
 part-requires : tie.Need-part-requires Inv-loop μ-loop
 part-requires c κs =
@@ -66,8 +66,8 @@ around-spec =
     (tie.spec
     Inv-loop
     μ-loop
-    add-least
-    least-requires
+    add-lesser
+    lesser-requires
     loop-holds
     part-requires
     add-sum

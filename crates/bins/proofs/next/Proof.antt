@@ -4,7 +4,7 @@ use Prim.Native.Nat.{suc, _+_, _-_, _≤_}
 use native.Mathlib.Omega.{arith}
 use Rattle.bins.specs.From.{bins, shift}
 use Rattle.bins.specs.Cells.{Stored}
-use Rattle.bins.specs.Bins.{width}
+use Rattle.places.specs.Map.{binRow}
 use Rattle.bins.proofs.Cells.{stored-none, stored-up}
 use Rattle.bins.proofs.Filling.{slid, rows-more}
 use borrow.Author.Needs.{needs}
@@ -13,7 +13,7 @@ use Rattle.bins.proofs.next.Tie as tie
 
 abbrev Inv-loop : tie.InvT-loop
 Inv-loop k n b table₀ from to last held₀ j₀ table held j =
-    (j ≤ suc last) × (held ≡ shift (bins k (suc b)) 1 j) × Stored (bins k (suc b)) (from + width) 0 j table₀ table
+    (j ≤ suc last) × (held ≡ shift (bins k (suc b)) 1 j) × Stored (bins k (suc b)) (from + binRow) 0 j table₀ table
 
 abbrev μ-loop : tie.MeasureT-loop
 μ-loop k n b table₀ from to last held₀ j₀ table held j = suc last - j

@@ -1,42 +1,41 @@
--- `rate` meets its contract: without boards the engine alone, else all boards combined, from none chosen on. Assumes nothing.
-use mathlib.Core.Path.{refl, sym}
-use native.Mathlib.Omega.{arith}
+-- `rate` meets its contract: without boards the engine alone, else every set of failed boards. Assumes nothing.
+use borrow.Author.Needs.{needs}
 use Rattle.rules.specs.State.{besideOf}
 use Rattle.units.specs.Step.{whole}
-use Rattle.units.proofs.Laws.{whole-some}
 use Rattle.places.proofs.Cells.{both-as}
-use Rattle.boards.proofs.Working.{standing-all, alone}
-use borrow.Author.Needs.{needs}
+use Rattle.boards.proofs.Working.{alone}
 use Rattle.boards.proofs.rate.Statement.{statement}
 use Rattle.boards.proofs.rate.Tie as tie
 
 rate-requires : tie.Need-rate-requires
-rate-requires c κs = c .before .before .before .before .before .before .before .before .pre .0
+rate-requires c κs =
+    let known = c .before .before .before .before in
+    known .before .before .before .before .pre .0
 
 same-length : tie.Need-same-length
 same-length c = search needs
 
 returns : tie.Need-returns
 returns c =
-    let x = c .before .before .before .before .before .before .before .before .before .before .before .args in
+    let called = c .before .before in
+    let tested = called .before .before in
+    let known = tested .before .before .before in
+    let x = known .before .before .before .before .args in
     let beside = besideOf (x .rule) (x .weights .now) (x .more .now) in (
-      both-as (λ up. sym (alone up (whole (x .decimal)) (whole-some (x .decimal)) (x .rule) (x .survival .now) beside (x .boards .now) (x .switchboards .now) (c .before .before .before .before .if1 .taken))) (c .before .before .rate .ensures .0),
-      c .before .before .rate .ensures .1,
+      both-as (λ up. alone up (whole (x .decimal)) (x .rule) (x .survival .now) beside (x .boards .now) (x .switchboards .now) (tested .if1 .taken)) (called .rate .ensures .0),
+      called .rate .ensures .1,
     )
 
-combine-requires : tie.Need-combine-requires
-combine-requires c κs = (c .before .before .before .before .before .before .before .before .pre .0, record { boarded = c .before .before .before .before .before .before .before .before .pre .1; left = omega arith; place = refl; below = omega arith })
+rate-sets-requires : tie.Need-rate-sets-requires
+rate-sets-requires c κs =
+    let known = c .before .before .before .before in
+    known .before .before .before .before .pre
 
 same-length-2 : tie.Need-same-length-2
 same-length-2 c = search needs
 
 returns-2 : tie.Need-returns-2
-returns-2 c =
-    let x = c .before .before .before .before .before .before .before .before .before .before .before .args in
-    let beside = besideOf (x .rule) (x .weights .now) (x .more .now) in (
-      both-as (λ up. standing-all up (whole (x .decimal)) (whole-some (x .decimal)) (x .rule) (x .survival .now) beside (x .boards .now) (x .switchboards .now)) (c .before .before .combine .ensures .0),
-      c .before .before .combine .ensures .1,
-    )
+returns-2 c = c .before .before .rate-sets .ensures
 
 pub rate-spec : {M : Type 1} → statement M
-rate-spec = tie.close (tie.spec rate-requires same-length returns combine-requires same-length-2 returns-2)
+rate-spec = tie.close (tie.spec rate-requires same-length returns rate-sets-requires same-length-2 returns-2)

@@ -1,4 +1,5 @@
 -- `put_rating` meets its contract, case by case: a range is within the unit. Assumes nothing.
+
 use borrow.Author.Needs.{needs}
 use Rattle.card.proofs.put_rating.Statement.{statement}
 use Rattle.card.proofs.put_rating.Tie as tie
@@ -8,8 +9,10 @@ enum-known-rating c = search needs
 
 put-answer-requires : tie.Need-put-answer-requires
 put-answer-requires c κs =
-    let start = c .before .before .before .before .before .before in
-    (start .pre .0, (rw (c .before .before .rating .given .1) at (start .pre .1 .0), start .pre .1 .1))
+    let told = c .before .before in
+    let start = told .before .before .before .before in
+    let rest = start .pre .1 in
+    (start .pre .0, (rest .0, (rw (told .rating .given .1) at (rest .1 .0), rest .1 .1)))
 
 enum-known-rating-2 : tie.Need-enum-known-rating-2
 enum-known-rating-2 c = search needs

@@ -2,46 +2,27 @@
 use mathlib.Core.Path.{ap₂, _∙_}
 use native.Mathlib.Omega.{arith}
 use Rattle.rules.specs.Refusal.{mostBoards}
-use Rattle.rules.specs.File.{survivalBytes, boardSurvivalOffset, numbersFrom, deckIn}
+use Rattle.rules.specs.File.{survivalBytes, switchboardsOffset, numbersFrom, deckIn}
 use Rattle.arrays.specs.Padded.{padded}
-use Rattle.deck.specs.Read.{keptDeck}
-use Rattle.deck.proofs.Sound.{sound, sound-few}
+use Rattle.deck.proofs.Kept.{few-fans, few-boards, whole}
 use borrow.Author.Needs.{needs}
 use Rattle.deck.proofs.board_survival_in.Statement.{statement}
 use Rattle.deck.proofs.board_survival_in.Tie as tie
 
-version-in-requires : tie.Need-version-in-requires
-version-in-requires c κs = search needs
-
-fans-in-requires : tie.Need-fans-in-requires
-fans-in-requires c κs = search needs
-
 board-survival-offset-requires : tie.Need-board-survival-offset-requires
-board-survival-offset-requires c κs = omega (arith, c .fans-in .ensures, sound _ (c .before .before .before .pre) .most-fans)
-
-board-count-in-requires : tie.Need-board-count-in-requires
-board-count-in-requires c κs = search needs
+board-survival-offset-requires c κs = omega (arith, few-fans (c .before .pre))
 
 board-survival-in-requires : tie.Need-board-survival-in-requires
-board-survival-in-requires c κs =
-    let from = c .before .board-survival-offset .ensures .0 ∙ ap₂ boardSurvivalOffset (c .before .before .before .version-in .ensures) (c .before .before .fans-in .ensures) in
-    (omega (arith, c .board-count-in .ensures, sound-few _ (c .before .before .before .before .before .pre)), omega (arith, c .board-count-in .ensures, sound _ (c .before .before .before .before .before .pre) .whole))
+board-survival-in-requires c κs = (few-boards (c .before .before .pre), omega (arith, whole (c .before .before .pre)))
 
 returns : tie.Need-returns
-unfolding keptDeck deckIn
+unfolding deckIn
 returns c =
-    let bytes = c .before .before .before .before .before .before .args .bytes .now in
-    c .board-survival-in .ensures
-    ∙ ap₂ (λ from g. padded mostBoards 0 (numbersFrom survivalBytes bytes from g))
-    (c .before .before .board-survival-offset .ensures .0 ∙ ap₂ boardSurvivalOffset (c .before .before .before .before .version-in .ensures) (c .before .before .before .fans-in .ensures)) (c .before .board-count-in .ensures)
+    let start = c .before .before .before in
+    let says = start .pre .says in
+    let from = c .before .board-survival-offset .ensures .0 ∙ ap₂ switchboardsOffset (says .version) (says .fans) in
+    c .board-survival-in .ensures ∙ ap₂ (λ from g. padded mostBoards 0 (numbersFrom survivalBytes (start .args .file .now) from g)) from (says .boards)
 
 pub board-survival-in-spec : {M : Type 1} → statement M
 board-survival-in-spec =
-    tie.close
-    (tie.spec
-    version-in-requires
-    fans-in-requires
-    board-survival-offset-requires
-    board-count-in-requires
-    board-survival-in-requires
-    returns)
+    tie.close (tie.spec board-survival-offset-requires board-survival-in-requires returns)

@@ -1,49 +1,46 @@
--- `deck::boards_elsewhere` meets its contract: nothing is elsewhere where the version has no boards. Assumes nothing.
+-- `deck::boards_elsewhere` meets its contract: a whole header has the offset where the version has boards. Assumes nothing.
 use mathlib.Core.Path.{sym, ap, ap₂, _∙_}
+use mathlib.Core.Bool.{not}
 use native.Mathlib.Omega.{arith}
+use lib.Dec.{eqb}
 use Rattle.rules.specs.Boards.{hasBoards}
-use Rattle.rules.specs.File.{versionIn, boardsOffset}
-use Rattle.layout.proofs.Numbers.{spelled-fits}
-use Rattle.layout.proofs.Versions.{header-bounds, header-some}
+use Rattle.rules.specs.File.{numberAt, boardsField, boardsOffset, versionIn}
+use Rattle.layout.proofs.Versions.{header-some}
 use Rattle.deck.proofs.Checks.{elsewhere-some, elsewhere-none}
 use borrow.Author.Needs.{needs}
 use Rattle.deck.proofs.boards_elsewhere.Statement.{statement}
 use Rattle.deck.proofs.boards_elsewhere.Tie as tie
 
-number2-requires : tie.Need-number2-requires
-number2-requires c κs = omega (arith, c .before .pre, header-bounds (versionIn (c .before .args .bytes .now)))
-
 has-boards-requires : tie.Need-has-boards-requires
 has-boards-requires c κs = search needs
 
-number2-requires-2 : tie.Need-number2-requires-2
-number2-requires-2 c κs = omega (arith, c .before .before .before .before .pre, header-bounds (versionIn (c .before .before .before .before .args .bytes .now)))
-
 boards-offset-requires : tie.Need-boards-offset-requires
-boards-offset-requires c κs = spelled-fits 2 _ _ (c .number22 .ensures) (λ i. c .before .before .before .before .shared-slice-known .given i .fits)
+boards-offset-requires c κs = search needs
 
-number4-requires : tie.Need-number4-requires
-number4-requires c κs =
-    let has = ap hasBoards (sym (c .before .before .before .before .number2 .ensures)) ∙ sym (c .before .before .before .has-boards .ensures) ∙ c .before .before .if1 .taken in
-    omega (arith, c .before .before .before .before .before .before .pre, header-some (versionIn (c .before .before .before .before .before .before .args .bytes .now)) has)
+elsewhere-requires : tie.Need-elsewhere-requires
+elsewhere-requires c κs =
+    let at-test = c .before in
+    let start = at-test .before .before .before in
+    let has = ap hasBoards (sym (start .pre .says .version)) ∙ sym (at-test .before .has-boards .ensures) ∙ at-test .if1 .taken in
+    omega (arith, start .pre .long, header-some (versionIn (start .args .bytes .now)) has)
 
 returns : tie.Need-returns
 returns c =
-    let has = ap hasBoards (sym (c .before .before .before .before .before .number2 .ensures)) ∙ sym (c .before .before .before .before .has-boards .ensures) ∙ c .before .before .before .if1 .taken in
-    elsewhere-some (c .before .before .before .before .before .before .before .args .bytes .now) has (c .number4 .ensures) (c .before .boards-offset .ensures .0 ∙ ap₂ boardsOffset (c .before .before .before .before .before .number2 .ensures) (c .before .before .number22 .ensures))
+    let at-test = c .before .before in
+    let start = at-test .before .before .before in
+    let bytes = start .args .bytes .now in
+    let says = start .pre .says in
+    let has = ap hasBoards (sym (says .version)) ∙ sym (at-test .before .has-boards .ensures) ∙ at-test .if1 .taken in
+    let from = c .before .boards-offset .ensures .0 ∙ ap₂ boardsOffset (says .version) (says .fans) in
+    c .elsewhere .ensures ∙ ap (λ x. not (eqb (numberAt 4 bytes boardsField) x)) from ∙ elsewhere-some bytes has
 
 returns-2 : tie.Need-returns-2
 returns-2 c =
-    sym (elsewhere-none (c .before .before .before .before .args .bytes .now) (ap hasBoards (sym (c .before .before .number2 .ensures)) ∙ sym (c .before .has-boards .ensures) ∙ c .if1 .left))
+    let start = c .before .before .before in
+    let none = ap hasBoards (sym (start .pre .says .version)) ∙ sym (c .before .has-boards .ensures) ∙ c .if1 .left in
+    sym (elsewhere-none (start .args .bytes .now) none)
 
 pub boards-elsewhere-spec : {M : Type 1} → statement M
 boards-elsewhere-spec =
     tie.close
-    (tie.spec
-    number2-requires
-    has-boards-requires
-    number2-requires-2
-    boards-offset-requires
-    number4-requires
-    returns
-    returns-2)
+    (tie.spec has-boards-requires boards-offset-requires elsewhere-requires returns returns-2)

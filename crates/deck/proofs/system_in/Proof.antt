@@ -2,29 +2,32 @@
 use mathlib.Core.Path.{ap, _∙_}
 use Prim.Native.Nat.{_+_, _*_}
 use native.Mathlib.Omega.{arith}
-use Rattle.rules.specs.File.{systemBytes, systemAt}
-use Rattle.deck.proofs.Sound.{sound}
+use Rattle.rules.specs.File.{systemBytes, systemsOffset, systemAt}
+use Rattle.deck.proofs.Kept.{few-fans, few-systems, few-boards, whole}
+use borrow.Author.Needs.{needs}
 use Rattle.deck.proofs.system_in.Statement.{statement}
 use Rattle.deck.proofs.system_in.Tie as tie
 
-systems-from-requires : tie.Need-systems-from-requires
-systems-from-requires c κs = c .before .pre .accepted
+systems-offset-requires : tie.Need-systems-offset-requires
+systems-offset-requires c κs = (omega (arith, few-fans (c .before .pre .headed)), omega (arith, few-boards (c .before .pre .headed)))
 
 mul-system-at : tie.Need-mul-system-at
-mul-system-at c = omega (arith, c .before .before .pre .place, sound _ (c .before .before .pre .accepted) .most-systems)
+mul-system-at c = omega (arith, c .before .before .pre .place, few-systems (c .before .before .pre .headed))
 
 add-system-at : tie.Need-add-system-at
-add-system-at c = omega (arith, c .systems-from .ensures, c .before .before .pre .place, sound _ (c .before .before .pre .accepted) .whole)
+add-system-at c = omega (arith, c .before .before .pre .place, few-systems (c .before .before .pre .headed))
 
 system-at-requires : tie.Need-system-at-requires
-system-at-requires c κs = omega (arith, c .systems-from .ensures, c .before .before .pre .place, sound _ (c .before .before .pre .accepted) .whole)
+system-at-requires c κs = omega (arith, c .before .before .pre .place, whole (c .before .before .pre .headed))
 
 returns : tie.Need-returns
 returns c =
-    let x = c .before .before .before .args in
-    c .system-at .ensures ∙ ap (λ from. systemAt (x .bytes .now) (from + systemBytes * x .s)) (c .before .systems-from .ensures)
+    let start = c .before .before .before in
+    let says = start .pre .headed .says in
+    let from = c .before .systems-offset .ensures .0 ∙ (λ x. systemsOffset (says .version x) (says .fans x) (says .boards x)) in
+    c .system-at .ensures ∙ ap (λ from. systemAt (start .args .file .now) (from + systemBytes * start .args .s)) from
 
 pub system-in-spec : {M : Type 1} → statement M
 system-in-spec =
     tie.close
-    (tie.spec systems-from-requires mul-system-at add-system-at system-at-requires returns)
+    (tie.spec systems-offset-requires mul-system-at add-system-at system-at-requires returns)

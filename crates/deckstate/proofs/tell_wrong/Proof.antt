@@ -1,5 +1,6 @@
 -- `tell_wrong` meets its contract: the line fits. Assumes nothing.
 use Rattle.text.proofs.Adding.{added-counts}
+use native.Mathlib.Omega.{arith}
 use borrow.Author.Needs.{needs}
 use Rattle.deckstate.proofs.tell_wrong.Statement.{statement}
 use Rattle.deckstate.proofs.tell_wrong.Tie as tie
@@ -13,11 +14,11 @@ put-wrong-requires c κs = search needs
 array-share-prefix-line : tie.Need-array-share-prefix-line
 array-share-prefix-line c = added-counts (c .before .put-wrong .ensures) .0
 
-slice-aggregate-write-all : tie.Need-slice-aggregate-write-all
-slice-aggregate-write-all c = added-counts (c .before .before .put-wrong .ensures) .1
+slice-aggregate-say : tie.Need-slice-aggregate-say
+slice-aggregate-say c = added-counts (c .before .before .put-wrong .ensures) .1
 
-write-all-requires : tie.Need-write-all-requires
-write-all-requires c κs = search needs
+say-requires : tie.Need-say-requires
+say-requires c κs = search needs
 
 returns : tie.Need-returns
 returns c = search needs
@@ -29,6 +30,6 @@ tell-wrong-spec =
     slice-aggregate-put-wrong
     put-wrong-requires
     array-share-prefix-line
-    slice-aggregate-write-all
-    write-all-requires
+    slice-aggregate-say
+    say-requires
     returns)

@@ -3,21 +3,19 @@ use mathlib.Core.Path.{sym, ap, _∙_}
 use borrow.Author.Needs.{needs}
 use Rattle.rules.specs.State.{unitOf}
 use Rattle.rules.proofs.Unless.{unless-none, unless-some}
+use Rattle.deck.proofs.Outcome.{opened-headed}
 use Rattle.loading.specs.Outcome.{partsOf}
 use Rattle.loading.proofs.foambeetle_unit.Statement.{statement}
 use Rattle.loading.proofs.foambeetle_unit.Tie as tie
 
-file-refusal-requires : tie.Need-file-refusal-requires
-file-refusal-requires c κs = search needs
+open-requires : tie.Need-open-requires
+open-requires c κs = search needs
 
 returns : tie.Need-returns
 unfolding partsOf
 returns c =
-    let e = c .before .file-refusal .ensures .refusal in
-    record { number = sym (unless-some _ _ _ (λ z. c .if1 .taken (e ∙ z))) }
-
-version-in-requires : tie.Need-version-in-requires
-version-in-requires c κs = sym (c .before .file-refusal .ensures .refusal) ∙ c .if1 .left
+    let e = c .before .before .«open» .ensures .refusal in
+    record { number = sym (unless-some _ _ _ (λ none. c .if1 .taken (e ∙ none))) }
 
 is-decimal-requires : tie.Need-is-decimal-requires
 is-decimal-requires c κs = search needs
@@ -28,9 +26,9 @@ whole-requires c κs = search needs
 returns-2 : tie.Need-returns-2
 unfolding partsOf
 returns-2 c =
-    let none = sym (c .before .before .before .before .file-refusal .ensures .refusal) ∙ c .before .before .before .if1 .left in
-    record { number = c .whole .ensures ∙ c .before .is-decimal .ensures ∙ ap unitOf (c .before .before .version-in .ensures) ∙ sym (unless-none _ _ _ none) }
+    let at-test = c .before .before .before in
+    let headed = opened-headed (at-test .before .before .«open» .ensures) (at-test .if1 .left) in
+    record { number = c .whole .ensures ∙ c .before .is-decimal .ensures ∙ ap unitOf (headed .says .version) ∙ sym (unless-none _ _ _ (headed .accepted)) }
 
 pub foambeetle-unit-spec : {M : Type 1} → statement M
-foambeetle-unit-spec =
-    tie.close (tie.spec file-refusal-requires returns version-in-requires is-decimal-requires whole-requires returns-2)
+foambeetle-unit-spec = tie.close (tie.spec open-requires returns is-decimal-requires whole-requires returns-2)

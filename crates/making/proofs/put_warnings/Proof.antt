@@ -14,38 +14,49 @@ use Rattle.making.proofs.put_warnings.Statement.{statement}
 use Rattle.making.proofs.put_warnings.Tie as tie
 
 abbrev Inv-loop : tie.InvT-loop
-Inv-loop file count out₀ end₀ s₀ out end s = (s ≤ count) × (length out ≡ length out₀) × Added (warningsText file s) out₀ 0 out end
+Inv-loop file count out₀ opened end₀ s₀ out end s = (s ≤ count) × (length out ≡ length out₀) × Added (warningsText file s) out₀ 0 out end
 
 abbrev μ-loop : tie.MeasureT-loop
-μ-loop file count out₀ end₀ s₀ out end s = count - s
+μ-loop file count out₀ opened end₀ s₀ out end s = count - s
+
+open-requires : tie.Need-open-requires Inv-loop μ-loop
+open-requires c κs = search needs
 
 loop-holds : tie.Need-loop-holds Inv-loop μ-loop
 unfolding warningsText
-loop-holds c = (omega arith, refl, none-added (c .before .before .args .out .now) 0)
+loop-holds c = (omega arith, refl, none-added (c .before .before .before .args .out .now) 0)
 
 add-s : tie.Need-add-s Inv-loop μ-loop
-add-s c = omega (arith, c .before .before .before .before .pre .0)
+add-s c =
+    let last = c .before .before .before in
+    let start = last .before .before in
+    omega (arith, c .loop-test .taken, start .pre .0)
 
-rate-file-requires : tie.Need-rate-file-requires Inv-loop μ-loop
-rate-file-requires c κs = search needs
+rate-opened-requires : tie.Need-rate-opened-requires Inv-loop μ-loop
+rate-opened-requires c κs = c .before .before .«open» .ensures
 
 put-warning-requires : tie.Need-put-warning-requires Inv-loop μ-loop
 put-warning-requires c κs =
-    let start = c .before .before .before .before .before .before in
-    let l = c .before .before .before .loop in
+    let in-loop = c .before .before in
+    let l = in-loop .before .loop in
+    let at-loop = in-loop .before in
+    let start = at-loop .before .before .before .before in
     let lines = warnings-short (start .args .file .now) (l .s) in
-    omega (arith, start .pre .0, start .pre .1, c .before .before .loop-test .taken, l .inv .1, l .inv .2 .ends, lines)
+    omega (arith, start .pre .0, start .pre .1, in-loop .loop-test .taken, l .inv .1, l .inv .2 .ends, lines)
 
 loop-less : tie.Need-loop-less Inv-loop μ-loop
-loop-less c = omega arith
+loop-less c =
+    let rated = c .before .before .before .before in
+    omega (arith, rated .before .loop-test .taken)
 
 loop-again : tie.Need-loop-again Inv-loop μ-loop
 unfolding warningsText
 loop-again c =
-    let l = c .before .before .before .before .before .before .loop in
+    let rated = c .before .before .before .before in
+    let l = rated .before .before .loop in
     let put = c .before .before .put-warning in
-    let line = rw (c .before .before .before .before .rate-file .ensures, add-one (l .s)) at (put .ensures) in
-    (omega arith, omega (arith, put .kept, l .inv .1), rw add-one (added-more (l .inv .2) line))
+    let line = rw (rated .rate-opened .ensures, add-one (l .s)) at (put .ensures) in
+    (omega (arith, rated .before .loop-test .taken), omega (arith, put .kept, l .inv .1), rw add-one (added-more (l .inv .2) line))
 
 same-length : tie.Need-same-length Inv-loop μ-loop
 same-length c = c .before .loop .inv .1
@@ -53,7 +64,9 @@ same-length c = c .before .loop .inv .1
 returns : tie.Need-returns Inv-loop μ-loop
 returns c =
     let l = c .before .loop in
-    let e : l .s ≡ c .before .before .before .before .args .count = omega (arith, l .inv .0, c .loop-test .left) in
+    let last = c .before .before .before in
+    let start = last .before .before in
+    let e : l .s ≡ start .args .count = omega (arith, l .inv .0, c .loop-test .left) in
     rw e at (l .inv .2)
 
 pub put-warnings-spec : {M : Type 1} → statement M
@@ -62,9 +75,10 @@ put-warnings-spec =
     (tie.spec
     Inv-loop
     μ-loop
+    open-requires
     loop-holds
     add-s
-    rate-file-requires
+    rate-opened-requires
     put-warning-requires
     loop-less
     loop-again

@@ -1,6 +1,5 @@
 -- `mend::header_for` meets its contract: the longest header's room takes every header. Assumes nothing.
 use native.Mathlib.Omega.{arith}
-use Rattle.rules.specs.File.{versionIn}
 use Rattle.layout.proofs.Versions.{header-bounds}
 use borrow.Author.Needs.{needs}
 use Rattle.mend.proofs.header_for.Statement.{statement}
@@ -10,7 +9,7 @@ slice-aggregate-put-head : tie.Need-slice-aggregate-put-head
 slice-aggregate-put-head c = search needs
 
 put-head-requires : tie.Need-put-head-requires
-put-head-requires c κs = (c .before .before .pre, omega (arith, header-bounds (versionIn (c .before .before .args .bytes .now))))
+put-head-requires c κs = (c .before .pre, omega (arith, header-bounds (c .before .args .head .version)))
 
 returns : tie.Need-returns
 returns c = search needs

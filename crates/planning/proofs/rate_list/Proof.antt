@@ -9,6 +9,7 @@ use native.Mathlib.Omega.{arith}
 use lib.ListN.{length, take, length-map}
 use lib.Seq.{length-take-le}
 use Rattle.rules.specs.Stretch.{stretch}
+use Rattle.rules.specs.Asked.{questionOf}
 use Rattle.rules.specs.Refusal.{most, badStretch}
 use Rattle.rules.specs.Doubles.{noChance, wholeOf}
 use Rattle.rules.proofs.Lists.{map-stretch}
@@ -35,7 +36,7 @@ sub-from : tie.Need-sub-from
 sub-from c = omega (arith, fits (c .before .before .before .before))
 
 mul-numbers-of : tie.Need-mul-numbers-of
-mul-numbers-of c = omega (arith, fits (c .before .before .before .before), small (c .before .before .before .before))
+mul-numbers-of c = let start = c .before .before .before .before in omega (arith, fits start, small start)
 
 sub-numbers-of : tie.Need-sub-numbers-of
 sub-numbers-of c = omega (arith, fits (c .before .before .before .before))
@@ -48,15 +49,20 @@ part-numbers-of-end c = omega (arith, fits (c .before .before .before .before))
 
 numbers-of-requires : tie.Need-numbers-of-requires
 numbers-of-requires c κs =
-    let start = c .before .before .before .before .before in
+    let known = c .before in
+    let start = known .before .before .before .before in
     let x = start .args in
     record {
       chances = ap noChance (floats-are (x .a) (x .b) _ (x .survival .now) (inside start)) ∙ passed _ _ (start .pre) .chances;
       fits = omega (arith, floats-length (x .up) (x .a) (x .b) (x .survival .now) (inside start), fits start, small start);
     }
 
+-- where the numbers are made, and the entry
+abbrev entry : tie.After-numbers-of → tie.Start
+entry c = let known = c .before .before in known .before .before .before .before
+
 array-share-prefix-numbers : tie.Need-array-share-prefix-numbers
-array-share-prefix-numbers c = omega (arith, c .numbers-of .ensures .long, small (c .before .before .before .before .before .before))
+array-share-prefix-numbers c = omega (arith, c .numbers-of .ensures .long, small (entry c))
 
 slice-aggregate-work : tie.Need-slice-aggregate-work
 slice-aggregate-work c = sym (length-take-le _ _ (array-share-prefix-numbers (c .before)))
@@ -68,29 +74,29 @@ slice-aggregate-work-3 : tie.Need-slice-aggregate-work-3
 slice-aggregate-work-3 c = search needs
 
 -- the numbers handed on
-handed : (c : tie.After-numbers-of) → let x = c .before .before .before .before .before .before .args in
+handed : (c : tie.After-numbers-of) → let x = entry c .args in
     let list = take (length (x .survival .now)) (c .numbers-of .result) in
     (length list ≡ length (x .survival .now)) × (stretch (x .a) (x .b) list ≡ map (wholeOf (x .up)) (stretch (x .a) (x .b) (bitsOf (x .survival .now))))
 handed c =
-    let start = c .before .before .before .before .before .before in
-    let x = start .args in
-    filled-stretch (x .up) (x .a) (x .b) (x .survival .now) (inside start) _ (small start) (c .numbers-of .ensures)
+    let x = entry c .args in
+    filled-stretch (x .up) (x .a) (x .b) (x .survival .now) (inside (entry c)) _ (small (entry c)) (c .numbers-of .ensures)
 
 work-requires : tie.Need-work-requires
 work-requires c κs =
-    let at = c .before .before .before .before in
-    let start = at .before .before .before .before .before .before in
-    planned-accepted _ _ (start .pre) (start .args .up) _ (handed at .0 ∙ sym (length-is start)) (handed at .1)
+    let made = c .before .before .before .before in
+    let start = entry made in
+    planned-accepted _ _ (start .pre) (start .args .up) _ (handed made .0 ∙ sym (length-is start)) (handed made .1)
 
 same-length : tie.Need-same-length
 same-length c = search needs
 
 returns : tie.Need-returns
 returns c =
-    let at = c .before .before .before .before .before .before .before in
-    let x = at .before .before .before .before .before .before .args in
-    worked-same 1 (x .rule) (x .a) (x .b) _ _ (x .weights .now) (x .more .now) [] []
-    (handed at .1 ∙ map-stretch (wholeOf (x .up)) (x .a) (x .b) (bitsOf (x .survival .now))) (c .before .before .work .ensures)
+    let lent = c .before .before .before in
+    let made = lent .before .before .before .before in
+    let x = entry made .args in
+    worked-same (questionOf 1 (x .rule) (x .a) (x .b)) _ _ (x .weights .now) (x .more .now) [] []
+    (handed made .1 ∙ map-stretch (wholeOf (x .up)) (x .a) (x .b) (bitsOf (x .survival .now))) (c .before .before .work .ensures)
 
 pub rate-list-spec : {M : Type 1} → statement M
 rate-list-spec =

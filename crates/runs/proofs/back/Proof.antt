@@ -1,9 +1,10 @@
 -- `back` takes a run back a component at a time. Assumes nothing.
 use borrow.Author.Needs.{needs}
-use mathlib.Core.Path.{_∙_}
+use mathlib.Core.Path.{ap, _∙_}
 use Prim.Native.Nat.{_-_}
 use native.Mathlib.Omega.{arith}
 use Rattle.units.specs.Step.{whole}
+use Rattle.places.proofs.Values.{Chance}
 use Rattle.runs.proofs.Falling.{Back, back-first, back-last, back-place, back-some, back-small, back-failed, back-steady, back-more}
 use Rattle.runs.proofs.back.Statement.{statement}
 use Rattle.runs.proofs.back.Tie as tie
@@ -26,14 +27,32 @@ end-value-requires c κs = search needs
 loop-holds : tie.Need-loop-holds Inv-loop μ-loop
 loop-holds c = rw (c .before .rest .ensures) (back-first (c .before .before .before .before .pre) (c .end-value .ensures))
 
+-- the points of the code, back to the entry
+abbrev start : tie.At-loop Inv-loop μ-loop → tie.Start Inv-loop μ-loop
+start c =
+    let known = c .before .before .before in
+    known .before .before
+
+abbrev test : tie.After-chance Inv-loop μ-loop → tie.In-loop Inv-loop μ-loop
+test c = c .before .before
+
+abbrev drawn : tie.After-read Inv-loop μ-loop → tie.After-chance Inv-loop μ-loop
+drawn c = c .before .before .before .before
+
+-- the numbers of the component
+chance : (c : tie.After-read Inv-loop μ-loop)
+    → Chance (whole (start (test (drawn c) .before) .args .decimal)) (start (test (drawn c) .before) .args .survival .now)
+    (test (drawn c) .before .loop .i) (drawn c .chance .result .0) (c .before .before .before .failure .result .0)
+chance c = record { read = drawn c .chance .ensures; rest = c .before .before .before .failure .ensures }
+
 before-requires : tie.Need-before-requires Inv-loop μ-loop
-before-requires c κs = back-some (c .before .before .before .before .before .before .pre) _ (c .loop-test .taken) (c .before .loop .inv)
+before-requires c κs = back-some (start (c .before) .pre) _ (c .loop-test .taken) (c .before .loop .inv)
 
 chance-requires : tie.Need-chance-requires Inv-loop μ-loop
 chance-requires c κs = search needs
 
 failure-requires : tie.Need-failure-requires Inv-loop μ-loop
-failure-requires c κs = rw (c .chance .ensures) (c .before .before .before .before .before .before .before .before .pre .list .units _)
+failure-requires c κs = rw (c .chance .ensures) (start (test c .before) .pre .list .units _)
 
 worked-requires : tie.Need-worked-requires Inv-loop μ-loop
 worked-requires c κs = search needs
@@ -43,55 +62,50 @@ place-requires c κs = search needs
 
 read-requires : tie.Need-read-requires Inv-loop μ-loop
 read-requires c κs =
-    let pre = c .before .before .before .before .before .before .before .before .before .before .before .pre in
-    let loop = c .before .before .before .before .before .before .loop in
-    let test = c .before .before .before .before .before .loop-test in
-    rw (c .place .ensures) (back-place pre _ (test .taken) (loop .inv))
+    let tested = test (c .before .before .before) in
+    let at = tested .before in
+    rw (c .place .ensures) (back-place (start at .pre) _ (tested .loop-test .taken) (at .loop .inv))
 
 failed-requires : tie.Need-failed-requires Inv-loop μ-loop
 failed-requires c κs =
-    let pre = c .before .before .before .before .before .before .before .before .before .before .before .before .pre in
-    back-small pre _ (c .before .before .before .before .before .before .loop-test .taken) (c .before .before .before .before .before .before .before .loop .inv) (c .before .before .before .before .before .before2 .ensures)
+    let d = drawn c in
+    let at = test d .before in
+    back-small (start at .pre) _ (test d .loop-test .taken) (at .loop .inv) (d .before .before2 .ensures)
 
-value-requires : tie.Need-value-requires Inv-loop μ-loop
-value-requires c κs =
-    let pre = c .before .before .before .before .before .before .before .before .before .before .before .before .before .pre in
-    let before2 = c .before .before .before .before .before .before .before2 in
-    c .failed .ensures ∙ back-failed pre _ (c .before .before .before .before .before .before .before .loop-test .taken) (c .before .before .before .before .before .before .before .before .loop .inv) (before2 .ensures)
+at-hand-requires : tie.Need-at-hand-requires Inv-loop μ-loop
+at-hand-requires c κs =
+    let d = drawn (c .before) in
+    let at = test d .before in
+    ap (λ m. m .run) (c .failed .ensures ∙ back-failed (start at .pre) _ (test d .loop-test .taken) (at .loop .inv) (d .before .before2 .ensures))
 
 step-requires : tie.Need-step-requires Inv-loop μ-loop
 step-requires c κs =
-    let pre = c .before .before .before .before .before .before .before .before .before .before .before .before .before .before .pre in
-    let loop = c .before .before .before .before .before .before .before .before .before .loop in
-    let test = c .before .before .before .before .before .before .before .before .loop-test in
-    let chance = c .before .before .before .before .before .before .chance in
-    let failure = c .before .before .before .before .before .failure in
-    let known = rw (c .before .before .before .place .ensures) at (c .before .before .read .ensures) in
-    rw (c .value .ensures) (back-steady pre _ (test .taken) (loop .inv) _ _ (record { read = chance .ensures; rest = failure .ensures }) known)
+    let read = c .before .before in
+    let d = drawn read in
+    let at = test d .before in
+    let known = rw (read .before .place .ensures) at (read .read .ensures) in
+    rw (c .at-hand .ensures) (back-steady (start at .pre) _ (test d .loop-test .taken) (at .loop .inv) _ _ (chance read) known)
 
 add-i : tie.Need-add-i Inv-loop μ-loop
 add-i c =
-    let pre = c .before .before .before .before .before .before .before .before .before .before .before .before .before .before .before .pre in
-    let test = c .before .before .before .before .before .before .before .before .before .loop-test in
-    omega (arith, test .taken, pre .size, pre .list .size)
+    let d = drawn (c .before .before .before) in
+    let asked = start (test d .before) .pre in
+    omega (arith, test d .loop-test .taken, asked .size, asked .list .size)
 
 loop-less : tie.Need-loop-less Inv-loop μ-loop
 loop-less c = search needs
 
 loop-again : tie.Need-loop-again Inv-loop μ-loop
 loop-again c =
-    let pre = c .before .before .before .before .before .before .before .before .before .before .before .before .before .before .before .pre in
-    let loop = c .before .before .before .before .before .before .before .before .before .before .loop in
-    let test = c .before .before .before .before .before .before .before .before .before .loop-test in
-    let before2 = c .before .before .before .before .before .before .before .before .before2 in
-    let chance = c .before .before .before .before .before .before .before .chance in
-    let failure = c .before .before .before .before .before .before .failure in
-    let known = rw (c .before .before .before .before .place .ensures) at (c .before .before .before .read .ensures) in
-    back-more pre _ (test .taken) (loop .inv) _ _ (record { read = chance .ensures; rest = failure .ensures }) known
-    (before2 .ensures) (rw (c .before .value .ensures) at (c .step .ensures))
+    let read = c .before .before .before in
+    let d = drawn read in
+    let at = test d .before in
+    let known = rw (read .before .place .ensures) at (read .read .ensures) in
+    back-more (start at .pre) _ (test d .loop-test .taken) (at .loop .inv) _ _ (chance read) known
+    (d .before .before2 .ensures) (rw (c .before .at-hand .ensures) at (c .step .ensures))
 
 returns : tie.Need-returns Inv-loop μ-loop
-returns c = back-last (c .before .before .before .before .before .before .pre) (c .loop-test .left) (c .before .loop .inv)
+returns c = back-last (start (c .before) .pre) (c .loop-test .left) (c .before .loop .inv)
 
 pub back-spec : {M : Type 1} → statement M
 back-spec =
@@ -110,7 +124,7 @@ back-spec =
     place-requires
     read-requires
     failed-requires
-    value-requires
+    at-hand-requires
     step-requires
     add-i
     loop-less

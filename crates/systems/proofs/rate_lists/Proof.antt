@@ -1,26 +1,8 @@
--- `systems::rate_lists` meets its contract: refused, or rated, over a table of zeros. Assumes nothing.
-use mathlib.Core.Path.{sym, ap, _∙_}
+-- `systems::rate_lists` meets its contract: the rating call over a table of zeros. Assumes nothing.
 use borrow.Author.Needs.{needs}
-use Rattle.rules.specs.declared.Rating.the-variants.{Refused}
-use Rattle.rules.specs.Answer.{figuresOf}
-use Rattle.rules.proofs.Unless.{unless-none, unless-some}
+use Rattle.figures.proofs.Outcome.{answer-is}
 use Rattle.systems.proofs.rate_lists.Statement.{statement}
 use Rattle.systems.proofs.rate_lists.Tie as tie
-
-slice-aggregate-refusal : tie.Need-slice-aggregate-refusal
-slice-aggregate-refusal c = search needs
-
-slice-aggregate-refusal-2 : tie.Need-slice-aggregate-refusal-2
-slice-aggregate-refusal-2 c = search needs
-
-refusal-requires : tie.Need-refusal-requires
-refusal-requires c κs = search needs
-
-returns : tie.Need-returns
-unfolding figuresOf
-returns c =
-    let e = c .before .refusal .ensures in
-    ap Refused e ∙ sym (unless-some _ _ _ (λ z. c .if1 .taken (e ∙ z)))
 
 slice-aggregate-rate : tie.Need-slice-aggregate-rate
 slice-aggregate-rate c = search needs
@@ -29,23 +11,11 @@ slice-aggregate-rate-2 : tie.Need-slice-aggregate-rate-2
 slice-aggregate-rate-2 c = search needs
 
 rate-requires : tie.Need-rate-requires
-rate-requires c κs = sym (c .before .before .before .refusal .ensures) ∙ c .before .before .if1 .left
+rate-requires c κs = search needs
 
-returns-2 : tie.Need-returns-2
-unfolding figuresOf
-returns-2 c =
-    let none = sym (c .before .before .before .before .before .refusal .ensures) ∙ c .before .before .before .before .if1 .left in
-    c .before .rate .ensures .range ∙ sym (unless-none _ _ _ none)
+returns : tie.Need-returns
+returns c = answer-is (c .before .rate .ensures)
 
 pub rate-lists-spec : {M : Type 1} → statement M
 rate-lists-spec =
-    tie.close
-    (tie.spec
-    slice-aggregate-refusal
-    slice-aggregate-refusal-2
-    refusal-requires
-    returns
-    slice-aggregate-rate
-    slice-aggregate-rate-2
-    rate-requires
-    returns-2)
+    tie.close (tie.spec slice-aggregate-rate slice-aggregate-rate-2 rate-requires returns)

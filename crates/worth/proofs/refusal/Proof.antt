@@ -7,26 +7,21 @@ use Rattle.rules.proofs.Unless.{after-none, after-some}
 use Rattle.worth.proofs.refusal.Statement.{statement}
 use Rattle.worth.proofs.refusal.Tie as tie
 
-refusal-requires : tie.Need-refusal-requires
-refusal-requires c κs = search needs
-
 outside-requires : tie.Need-outside-requires
 outside-requires c κs = search needs
 
 returns : tie.Need-returns
-returns c =
-    let own = c .before .before .refusal .ensures in
-    own ∙ sym (after-some _ _ (λ none. eqb-false _ _ (not-true _ (c .if1 .taken)) (own ∙ none)))
+returns c = sym (after-some _ _ (eqb-false _ _ (not-true _ (c .if1 .taken))))
 
 returns-2 : tie.Need-returns-2
 returns-2 c =
-    let none = sym (c .before .before .before .refusal .ensures) ∙ eqb-true _ _ (not-false _ (c .before .if1 .left)) in
+    let none = eqb-true _ _ (not-false _ (c .before .if1 .left)) in
     sym (after-none _ _ none ∙ ap (λ b. cond b 17 0) (sym (c .before .before .outside .ensures) ∙ c .if2 .taken))
 
 returns-3 : tie.Need-returns-3
 returns-3 c =
-    let none = sym (c .before .before .before .refusal .ensures) ∙ eqb-true _ _ (not-false _ (c .before .if1 .left)) in
+    let none = eqb-true _ _ (not-false _ (c .before .if1 .left)) in
     sym (after-none _ _ none ∙ ap (λ b. cond b 17 0) (sym (c .before .before .outside .ensures) ∙ c .if2 .left))
 
 pub refusal-spec : {M : Type 1} → statement M
-refusal-spec = tie.close (tie.spec refusal-requires outside-requires returns returns-2 returns-3)
+refusal-spec = tie.close (tie.spec outside-requires returns returns-2 returns-3)

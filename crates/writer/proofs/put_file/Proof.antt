@@ -20,7 +20,7 @@ sound : (t : Typed) (room : List ℕ) → writeRefusal t room ≡ 0
     → Writable t room × (fileLength (t .version) (length (t .survival)) (boardsTyped t) (count t) ≤ length room)
 sound t room none =
     let w = writable t room none in
-    let placed = fans-typed (t .version) (length (t .survival)) (t .boards) (t .boardSurvival) (w .counted) (w .placed) in
+    let placed = fans-typed (t .version) (length (t .survival)) (t .boards) (t .switchboards) (w .counted) (w .placed) in
     (w, omega (arith, bytes-long t (w .weighed) placed, w .fits))
 
 boards-read-requires : tie.Need-boards-read-requires

@@ -1,8 +1,8 @@
 -- `fans::behind` meets its contract: the numbers passed stand at the copy's front, those of lost fans 0. Assumes nothing.
-use mathlib.Core.Path.{_≡_, refl, sym, ap, ap₂, _∙_}
+use mathlib.Core.Path.{_≡_, refl, ap, ap₂, _∙_}
 use mathlib.Core.Bool.{cond}
 use mathlib.Core.List.{[], _∷_, _++_}
-use Prim.Native.Nat.{ℕ, suc, _-_, _≤_}
+use Prim.Native.Nat.{suc, _-_, _≤_}
 use native.Mathlib.Omega.{arith}
 use native.Mathlib.Numerals.{add-one}
 use lib.ListN.{length, getD, take, length-set}
@@ -29,7 +29,9 @@ board-of-requires : tie.Need-board-of-requires Inv-loop μ-loop
 board-of-requires c κs = search needs
 
 board-down-requires : tie.Need-board-down-requires Inv-loop μ-loop
-board-down-requires c κs = rw (c .board-of .ensures) (c .before .before .before .before .before .pre .1 .each (c .before .before .loop .i))
+board-down-requires c κs =
+    let at = c .before .before in
+    rw (c .board-of .ensures) (at .before .before .before .pre .1 .each (at .loop .i))
 
 mul-left : tie.Need-mul-left Inv-loop μ-loop
 mul-left c = omega arith
@@ -55,9 +57,13 @@ loop-less c = omega arith
 loop-again : tie.Need-loop-again Inv-loop μ-loop
 unfolding listBelow numberOf
 loop-again c =
-    let x = c .before .before .before .before .before .before .before .before .args in
-    let l = c .before .before .before .before .before .loop in
-    let number = c .left .ensures ∙ ap (λ b. cond b 0 (getD (x .survival .now) (l .i) 0)) (c .before .before .board-down .ensures ∙ ap (boardDown (x .out)) (c .before .before .before .board-of .ensures)) in (
+    let judged = c .before .before in
+    let found = judged .before in
+    let at = found .before .before in
+    let x = at .before .before .before .args in
+    let l = at .loop in
+    let lost = judged .board-down .ensures ∙ ap (boardDown (x .out)) (found .board-of .ensures) in
+    let number = c .left .ensures ∙ ap (λ b. cond b 0 (getD (x .survival .now) (l .i) 0)) lost in (
       omega arith,
       length-set (l .numbers) (l .i) _ ∙ l .inv .1,
       rw add-one (take-suc-set (l .numbers) (l .i) _ (omega arith) ∙ ap₂ (λ ns v. ns ++ (v ∷ [])) (l .inv .2) number),

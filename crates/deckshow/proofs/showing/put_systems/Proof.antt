@@ -1,50 +1,61 @@
--- `showing::put_systems` meets its contract: the buffer so far has the lines of the systems passed, and room for the rest. The measure is the number of
--- systems left. Assumes nothing.
+-- `showing::put_systems` meets its contract: the buffer so far has the lines of the systems passed, and room for the rest. The measure is the number of systems
+-- left. Assumes nothing.
+use mathlib.Core.Path.{sym}
 use Prim.Native.Nat.{_-_}
 use native.Mathlib.Omega.{arith}
 use Rattle.rules.specs.File.{mostSystems}
+use Rattle.rules.specs.File.{deckIn}
+use Rattle.deck.proofs.Kept.{few-systems}
+use Rattle.printing.proofs.Lined.{Lined, no-lines, room-left, one-more, all-lines}
 use Rattle.wording.specs.Lines.{systemRoom}
 use Rattle.deckshow.specs.Lines.{systemLine}
-use Rattle.deckshow.proofs.Lengths.{systems-short, Lined, no-lines, room-left, one-more, all-lines}
+use Rattle.deckshow.proofs.Lengths.{system-line}
+use Rattle.deckshow.proofs.Shown.{systems-shown}
 use Rattle.deckshow.proofs.showing.put_systems.Statement.{statement}
 use Rattle.deckshow.proofs.showing.put_systems.Tie as tie
 
 abbrev Inv-loop : tie.InvT-loop
-Inv-loop deck out₀ at end₀ s₀ out end s = Lined (deck .count) (systemLine (deck .fans) (deck .systems)) out₀ at out end s
+Inv-loop file head out₀ at end₀ s₀ out end s = Lined (head .systems) (systemLine (deckIn file)) out₀ at out end s
 
 abbrev μ-loop : tie.MeasureT-loop
-μ-loop deck out₀ at end₀ s₀ out end s = deck .count - s
+μ-loop file head out₀ at end₀ s₀ out end s = head .systems - s
 
 loop-holds : tie.Need-loop-holds Inv-loop μ-loop
-loop-holds c = no-lines _ _ (c .before .args .out .now) (c .before .args .at)
+loop-holds c = no-lines _ _ _ _
 
 put-system-requires : tie.Need-put-system-requires Inv-loop μ-loop
 put-system-requires c κs =
-    let start = c .before .before .before .before .before in
-    let l = c .before .before .before .loop in
-    let more = c .before .if1 .taken in
-    let few = start .pre .0 .systems in
-    let d = start .args .deck in
-    let short = systems-short (d .fans) (d .systems) (l .s) in
-    (omega arith, room-left (l .inv) systemRoom mostSystems short more few (start .pre .1))
+    let in-loop = c .before .before .before in
+    let start = in-loop .before .before .before in
+    let headed = start .pre .0 in (
+      record { headed = headed; place = c .before .if1 .taken },
+      room-left (in-loop .loop .inv) systemRoom mostSystems (system-line (deckIn (start .args .file .now))) (c .before .if1 .taken) (few-systems headed) (start .pre .1),
+    )
 
 add-s : tie.Need-add-s Inv-loop μ-loop
-add-s c = omega (arith, c .before .before .before .before .before .before .before .before .pre .0 .systems)
+add-s c =
+    let at-test = c .before .before .before .before in
+    let at-loop = at-test .before .before in
+    let start = at-loop .before .before .before in
+    omega (arith, at-test .if1 .taken, few-systems (start .pre .0))
 
 loop-less : tie.Need-loop-less Inv-loop μ-loop
-loop-less c = omega arith
+loop-less c = omega (arith, c .before .before .before .before .if1 .taken)
 
 loop-again : tie.Need-loop-again Inv-loop μ-loop
 loop-again c =
-    let l = c .before .before .before .before .before .before .loop in
     let put = c .before .before .put-system in
-    one-more (l .inv) (c .before .before .before .before .if1 .taken) (omega (arith, put .kept)) (put .ensures)
+    let at-test = c .before .before .before .before in
+    one-more (at-test .before .before .loop .inv) (at-test .if1 .taken) (omega (arith, put .kept)) (put .ensures)
 
 same-length : tie.Need-same-length Inv-loop μ-loop
 same-length c = c .before .before .loop .inv .same
 
 returns : tie.Need-returns Inv-loop μ-loop
-returns c = all-lines (c .before .before .loop .inv) (c .if1 .left)
+returns c =
+    let at-loop = c .before .before in
+    let start = at-loop .before .before .before in
+    rw (sym (systems-shown (start .pre .0))) at (all-lines (at-loop .loop .inv) (c .if1 .left))
 
 pub put-systems-spec : {M : Type 1} → statement M
 put-systems-spec =

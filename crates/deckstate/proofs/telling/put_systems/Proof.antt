@@ -1,60 +1,58 @@
--- `telling::put_systems` meets its contract: the buffer so far has the lines of the systems passed, and room for the rest. The measure is the
--- number of systems left. Assumes nothing.
-use mathlib.Core.Path.{_≡_, refl}
-use Prim.Native.Nat.{_-_, _≤_}
+-- `telling::put_systems` meets its contract: the buffer so far has the lines of the systems passed, and room for the rest. The measure is the number of systems
+-- left. Assumes nothing.
+use Prim.Native.Nat.{_+_, _-_}
 use native.Mathlib.Omega.{arith}
-use native.Mathlib.Numerals.{add-one}
-use lib.ListN.{length}
-use Rattle.text.specs.Added.{Added}
-use Rattle.text.proofs.Adding.{none-added, added-more}
-use Rattle.states.specs.States.{verdictAt}
-use Rattle.deckstate.specs.Lines.{linesText}
-use Rattle.deckstate.proofs.Lengths.{lines-short}
+use Rattle.rules.specs.File.{mostSystems}
+use Rattle.deck.proofs.Kept.{few-systems}
+use Rattle.states.specs.States.{verdictIn}
+use Rattle.printing.proofs.Lined.{Lined, no-lines, room-left, one-more, all-lines}
+use Rattle.deckstate.specs.Lines.{lineRoom, systemLine}
+use Rattle.deckstate.proofs.Lengths.{line-short}
 use Rattle.deckstate.proofs.telling.put_systems.Statement.{statement}
 use Rattle.deckstate.proofs.telling.put_systems.Tie as tie
 
 abbrev Inv-loop : tie.InvT-loop
-Inv-loop deck state out₀ end₀ s₀ out end s =
-    (s ≤ deck .count) × (length out ≡ length out₀) × Added (linesText s (λ i. verdictAt deck i state)) out₀ 0 out end
+Inv-loop file head state out₀ end₀ s₀ out end s = Lined (head .systems) (systemLine state file) out₀ 0 out end s
 
 abbrev μ-loop : tie.MeasureT-loop
-μ-loop deck state out₀ end₀ s₀ out end s = deck .count - s
+μ-loop file head state out₀ end₀ s₀ out end s = head .systems - s
 
 loop-holds : tie.Need-loop-holds Inv-loop μ-loop
-unfolding linesText
-loop-holds c = (omega arith, refl, none-added (c .before .args .out .now) 0)
-
-state-system-requires : tie.Need-state-system-requires Inv-loop μ-loop
-state-system-requires c κs = c .before .before .before .before .pre .0 .held _ (c .if1 .taken)
-
-add-s : tie.Need-add-s Inv-loop μ-loop
-add-s c = omega (arith, c .before .before .before .before .before .pre .0 .most)
+loop-holds c = no-lines _ _ _ _
 
 put-system-requires : tie.Need-put-system-requires Inv-loop μ-loop
 put-system-requires c κs =
-    let l = c .before .before .before .before .loop in
-    let lines = lines-short (l .s) (λ s. verdictAt (c .before .before .before .before .before .before .args .deck) s (c .before .before .before .before .before .before .args .state)) in
-    omega (arith, c .before .before .before .before .before .before .pre .1, c .before .before .before .before .before .before .pre .0 .most, l .inv .1, l .inv .2 .ends, lines)
+    let in-loop = c .before .before .before in
+    let start = in-loop .before .before .before in
+    let headed = start .pre .0 in (
+      record { headed = headed; place = c .before .if1 .taken },
+      room-left (in-loop .loop .inv) lineRoom mostSystems (λ s. line-short (s + 1) (verdictIn (start .args .file .now) s (start .args .state))) (c .before .if1 .taken) (few-systems headed) (omega (arith, start .pre .1)),
+    )
+
+add-s : tie.Need-add-s Inv-loop μ-loop
+add-s c =
+    let at-test = c .before .before .before .before in
+    let at-loop = at-test .before .before in
+    let start = at-loop .before .before .before in
+    omega (arith, at-test .if1 .taken, few-systems (start .pre .0))
 
 loop-less : tie.Need-loop-less Inv-loop μ-loop
-loop-less c = omega arith
+loop-less c = omega (arith, c .before .before .before .before .if1 .taken)
 
 loop-again : tie.Need-loop-again Inv-loop μ-loop
-unfolding linesText
 loop-again c =
-    let l = c .before .before .before .before .before .before .before .loop in
     let put = c .before .before .put-system in
-    let line = rw (c .before .before .before .before .state-system .ensures) at (put .ensures) in
-    (omega arith, omega (arith, put .kept, l .inv .1), rw add-one (added-more (l .inv .2) (rw add-one at line)))
+    let at-test = c .before .before .before .before in
+    one-more (at-test .before .before .loop .inv) (at-test .if1 .taken) (omega (arith, put .kept)) (put .ensures)
 
 same-length : tie.Need-same-length Inv-loop μ-loop
-same-length c = c .before .before .loop .inv .1
+same-length c = c .before .before .loop .inv .same
 
 returns : tie.Need-returns Inv-loop μ-loop
 returns c =
-    let l = c .before .before .loop in
-    let e : l .s ≡ c .before .before .before .before .args .deck .count = omega (arith, l .inv .0) in
-    rw e at (l .inv .2)
+    let at-loop = c .before .before in
+    let start = at-loop .before .before .before in
+    rw (start .pre .0 .says .systems) at (all-lines (at-loop .loop .inv) (c .if1 .left))
 
 pub put-systems-spec : {M : Type 1} → statement M
 put-systems-spec =
@@ -63,9 +61,8 @@ put-systems-spec =
     Inv-loop
     μ-loop
     loop-holds
-    state-system-requires
-    add-s
     put-system-requires
+    add-s
     loop-less
     loop-again
     same-length

@@ -1,18 +1,34 @@
 -- `more` is a rounded step, written at the next place. Assumes nothing.
+use mathlib.Core.Path.{ap, _∙_}
+use native.Mathlib.Omega.{arith}
 use borrow.Author.Needs.{needs}
 use Rattle.gaps.proofs.free.more.Statement.{statement}
 use Rattle.gaps.proofs.free.more.Tie as tie
+
+worked-requires : tie.Need-worked-requires
+worked-requires c κs = search needs
+
+at-hand-requires : tie.Need-at-hand-requires
+at-hand-requires c κs = ap (λ m. m .owed) (c .worked .ensures) ∙ omega (arith, c .before .before .before .pre .none)
+
+-- the entry, from where the survival number is read
+abbrev start : tie.After-chance → tie.Start
+start c =
+    let moved = c .before .before in
+    moved .before .before .before
 
 chance-requires : tie.Need-chance-requires
 chance-requires c κs = search needs
 
 failure-requires : tie.Need-failure-requires
-failure-requires c κs = rw (c .chance .ensures) (c .before .before .before .pre .list .units _)
+failure-requires c κs = rw (c .chance .ensures) (start c .pre .list .units _)
 
 step-requires : tie.Need-step-requires
 step-requires c κs =
-    let pre = c .before .before .before .before .pre in
-    record { survival = rw (c .before .chance .ensures) (pre .list .units _); rest = c .failure .ensures; left = pre .works-small; right = pre .fails-small }
+    let d = c .before in
+    let pre = start d .pre in
+    rw (d .before .at-hand .ensures)
+    (record { survival = rw (d .chance .ensures) (pre .list .units _); rest = c .failure .ensures; left = pre .works-small; right = pre .fails-small })
 
 add-write : tie.Need-add-write
 add-write c = search needs
@@ -25,15 +41,17 @@ same-length c = search needs
 
 returns : tie.Need-returns
 returns c =
-    let chance = c .before .before .before .before .before .before .chance in
-    let step = c .before .before .before .before .step in
-    let write = c .before .before .write in
-    (rw (chance .ensures) at (step .ensures), write .ensures)
+    let written = c .before .before in
+    let stepped = written .before .before in
+    let d = stepped .before .before in
+    (rw (d .before .at-hand .ensures, d .chance .ensures) at (stepped .step .ensures), written .write .ensures)
 
 pub more-spec : {M : Type 1} → statement M
 more-spec =
     tie.close
     (tie.spec
+    worked-requires
+    at-hand-requires
     chance-requires
     failure-requires
     step-requires

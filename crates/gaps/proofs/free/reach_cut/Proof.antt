@@ -1,8 +1,9 @@
 -- `reach_cut` goes on while debts are cut short. Assumes nothing.
 use borrow.Author.Needs.{needs}
-use mathlib.Core.Path.{ap}
-use Prim.Native.Nat.{_-_, _≤_}
+use mathlib.Core.Path.{_≡_, ap}
+use Prim.Native.Nat.{_-_, _≤_, _<_}
 use native.Mathlib.Omega.{arith}
+use lib.ListN.{length}
 use Rattle.memory.specs.Owed.{owed}
 use Rattle.units.specs.Step.{whole}
 use Rattle.gaps.proofs.Reaching.{Stands, holds-place, cut-place, cut-is, failed-is, stands-first, stands-stepping, stands-more}
@@ -10,10 +11,10 @@ use Rattle.gaps.proofs.free.reach_cut.Statement.{statement}
 use Rattle.gaps.proofs.free.reach_cut.Tie as tie
 
 abbrev Inv-loop : tie.InvT-loop
-Inv-loop decimal r upto survival table₀ free m last left₀ works₀ table left works = (left ≤ upto) × Stands (whole decimal) r (free .clean) left survival works table₀ table
+Inv-loop decimal r upto survival table₀ free m last left₀ hand₀ table left hand = (left ≤ upto) × Stands (whole decimal) r (free .clean) left survival hand table₀ table
 
 abbrev μ-loop : tie.MeasureT-loop
-μ-loop decimal r upto survival table₀ free m last left₀ works₀ table left works = last - left
+μ-loop decimal r upto survival table₀ free m last left₀ hand₀ table left hand = last - left
 
 failed-requires : tie.Need-failed-requires Inv-loop μ-loop
 failed-requires c κs = omega (arith, c .before .before .before .pre .holds .asked .two)
@@ -21,32 +22,54 @@ failed-requires c κs = omega (arith, c .before .before .before .pre .holds .ask
 lesser-requires : tie.Need-lesser-requires Inv-loop μ-loop
 lesser-requires c κs = search needs
 
+-- the points of the code, back to the entry
+abbrev failed : tie.After-lesser Inv-loop μ-loop → tie.After-failed Inv-loop μ-loop
+failed c = c .before
+
+abbrev start : tie.After-lesser Inv-loop μ-loop → tie.Start Inv-loop μ-loop
+start c = failed c .before .before .before .before
+
+abbrev bounded : tie.At-loop Inv-loop μ-loop → tie.After-lesser Inv-loop μ-loop
+bounded c = c .before .before .before
+
+-- the debt of a failed component
+debt : (c : tie.After-lesser Inv-loop μ-loop) → failed c .failed .result ≡ owed (start c .args .s .free .clean) (start c .args .r - 1)
+debt c = failed-is (start c .args .r) (start c .args .s .free) (start c .pre .none) (failed c .failed .ensures)
+
+-- a component is left, and the debt is no less than what is left
+left-some : (c : tie.In-loop Inv-loop μ-loop) → c .before .loop .left < length (start (bounded (c .before)) .args .survival .now)
+left-some c =
+    let l = bounded (c .before) in
+    omega (arith, c .loop-test .taken, l .lesser .ensures, start l .pre .most)
+
+short : (c : tie.In-loop Inv-loop μ-loop) → c .before .loop .left ≤ start (bounded (c .before)) .args .r - 1
+short c =
+    let l = bounded (c .before) in
+    omega (arith, c .loop-test .taken, l .lesser .ensures, ap (λ m. m .owed) (debt l))
+
 read-requires : tie.Need-read-requires Inv-loop μ-loop
-read-requires c κs = holds-place (c .before .before .before .before .before .before .pre .holds) _ (c .before .before .before .before .before .before .pre .holds .most)
+read-requires c κs =
+    let holds = start (c .before) .pre .holds in
+    holds-place holds _ (holds .most)
 
 loop-holds : tie.Need-loop-holds Inv-loop μ-loop
 loop-holds c =
-    let pre = c .before .before .before .before .before .before .before .pre in
+    let pre = start (c .before .before) .pre in
     (pre .order, stands-first (pre .holds) (c .read .ensures))
 
 cut-short-requires : tie.Need-cut-short-requires Inv-loop μ-loop
 cut-short-requires c κs =
-    let pre = c .before .before .before .before .before .before .before .before .before .before .pre in
-    let args = c .before .before .before .before .before .before .before .before .before .before .args in
-    let failed = c .before .before .before .before .before .before .failed in
-    let lesser = c .before .before .before .before .before .lesser in
-    let loop = c .before .before .loop in
-    (cut-place (loop .inv .1 .holds) _ (omega (arith, c .before .loop-test .taken, lesser .ensures, pre .most)), omega (arith, c .before .loop-test .taken, lesser .ensures, ap (λ m. m .owed) (failed-is (args .r) (args .s .free) (pre .none) (failed .ensures))))
+    let tested = c .before in
+    let at = tested .before in
+    (cut-place (at .loop .inv .1 .holds) _ (left-some tested), omega (arith, short tested, ap (λ m. m .owed) (debt (bounded at))))
 
 more-requires : tie.Need-more-requires Inv-loop μ-loop
 more-requires c κs =
-    let pre = c .before .before .before .before .before .before .before .before .before .before .before .before .pre in
-    let args = c .before .before .before .before .before .before .before .before .before .before .before .before .args in
-    let failed = c .before .before .before .before .before .before .before .before .failed in
-    let lesser = c .before .before .before .before .before .before .before .lesser in
-    let loop = c .before .before .before .before .loop in
-    let test = c .before .before .before .loop-test in
-    stands-stepping (loop .inv .1) (omega (arith, test .taken, lesser .ensures, pre .most)) (cut-is (loop .inv .1 .holds) _ _ (failed-is (args .r) (args .s .free) (pre .none) (failed .ensures)) (omega (arith, test .taken, lesser .ensures, pre .most)) (omega (arith, test .taken, lesser .ensures, ap (λ m. m .owed) (failed-is (args .r) (args .s .free) (pre .none) (failed .ensures)))) (c .before .cut-short .ensures))
+    let asked = c .before in
+    let tested = asked .before .before in
+    let at = tested .before in
+    let v = at .loop .inv .1 in
+    stands-stepping v (left-some tested) (cut-is (v .holds) _ _ (debt (bounded at)) (left-some tested) (short tested) (asked .cut-short .ensures)) (start (bounded at) .pre .none)
 
 add-left : tie.Need-add-left Inv-loop μ-loop
 add-left c = search needs
@@ -56,31 +79,26 @@ loop-less c = search needs
 
 loop-again : tie.Need-loop-again Inv-loop μ-loop
 loop-again c =
-    let pre = c .before .before .before .before .before .before .before .before .before .before .before .before .before .before .before .pre in
-    let args = c .before .before .before .before .before .before .before .before .before .before .before .before .before .before .before .args in
-    let failed = c .before .before .before .before .before .before .before .before .before .before .before .failed in
-    let lesser = c .before .before .before .before .before .before .before .before .before .before .lesser in
-    let loop = c .before .before .before .before .before .before .before .loop in
-    let test = c .before .before .before .before .before .before .loop-test in
-    let cut-short = c .before .before .before .before .cut-short in
-    let more = c .before .before .more in
-    let m = more .ensures in
-    (omega (arith, test .taken, lesser .ensures), stands-more (loop .inv .1) (omega (arith, test .taken, lesser .ensures, pre .most)) (cut-is (loop .inv .1 .holds) _ _ (failed-is (args .r) (args .s .free) (pre .none) (failed .ensures)) (omega (arith, test .taken, lesser .ensures, pre .most)) (omega (arith, test .taken, lesser .ensures, ap (λ m. m .owed) (failed-is (args .r) (args .s .free) (pre .none) (failed .ensures)))) (cut-short .ensures)) (m .0) (m .1))
+    let stepped = c .before .before in
+    let asked = stepped .before .before in
+    let tested = asked .before .before in
+    let at = tested .before in
+    let v = at .loop .inv .1 in
+    let fails = cut-is (v .holds) _ _ (debt (bounded at)) (left-some tested) (short tested) (asked .cut-short .ensures) in
+    let l = bounded at in
+    (omega (arith, tested .loop-test .taken, l .lesser .ensures), stands-more v (left-some tested) fails (stepped .more .ensures .0) (stepped .more .ensures .1))
 
 same-length : tie.Need-same-length Inv-loop μ-loop
 same-length c = c .before .loop .inv .1 .kept .long
 
 returns : tie.Need-returns Inv-loop μ-loop
 returns c =
-    let pre = c .before .before .before .before .before .before .before .before .before .pre in
-    let args = c .before .before .before .before .before .before .before .before .before .args in
-    let failed = c .before .before .before .before .before .failed in
-    let lesser = c .before .before .before .before .lesser in
+    let l = bounded (c .before) in
     let v = c .before .loop .inv in
     record {
-      free = ap (owed (args .s .free .clean)) (pre .none);
+      free = ap (owed (start l .args .s .free .clean)) (start l .pre .none);
       most = v .0;
-      done = λ more. omega (arith, c .loop-test .left, lesser .ensures, ap (λ m. m .owed) (failed-is (args .r) (args .s .free) (pre .none) (failed .ensures)));
+      done = λ more. omega (arith, c .loop-test .left, l .lesser .ensures, ap (λ m. m .owed) (debt l));
       holds = v .1 .holds;
       kept = v .1 .kept;
     }

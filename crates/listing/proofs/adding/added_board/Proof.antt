@@ -24,7 +24,7 @@ returns : tie.Need-returns
 returns c =
     let test = c .before .before .before .before .if1 in
     let tell = c .before .before .tell in
-    λ s h. none-left s h (length (s .boardSurvival) + 1) mostBoards manyBoards _ _ (omega (arith, h .boards .counted, test .taken)) (tell .ensures)
+    λ s h. none-left s h (length (s .switchboards) + 1) mostBoards manyBoards _ _ (omega (arith, h .boards .counted, test .taken)) (tell .ensures)
 
 array-read-switchboards : tie.Need-array-read-switchboards
 array-read-switchboards c = search needs
@@ -43,7 +43,7 @@ add-next c = search needs
 
 returns-2 : tie.Need-returns-2
 returns-2 c = λ s h.
-    some-left s h (length (s .boardSurvival) + 1) mostBoards manyBoards _ _ (omega (arith, h .boards .counted, c .before .if1 .left))
+    some-left s h (length (s .switchboards) + 1) mostBoards manyBoards _ _ (omega (arith, h .boards .counted, c .before .if1 .left))
     (record {
       lines = h .lines;
       version = h .version;

@@ -7,7 +7,8 @@ use native.Mathlib.Omega.{arith}
 use native.Mathlib.Numerals.{add-one}
 use Rattle.rules.specs.declared.Rule.{Rule}
 use Rattle.units.specs.Step.{whole}
-use Rattle.places.specs.Cells.{half, Written}
+use Rattle.places.specs.Cells.{Written}
+use Rattle.places.specs.Map.{half}
 use Rattle.places.proofs.Cells.{kept-none, side-near, written-none, written-more}
 use Rattle.rows.specs.Level.{sumsValue}
 use Rattle.rows.proofs.Climbs.{Climb, read-place, write-place, climb-steady, climb-made}

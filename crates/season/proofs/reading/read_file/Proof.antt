@@ -1,20 +1,21 @@
 -- `reading::read_file` meets its contract: no more is read than what stands there asks for. The measure is what is left of the longest file. Assumes nothing.
-use mathlib.Core.Path.{_≡_, refl, sym, _∙_}
-use Prim.Native.Nat.{_+_, _-_, _≤_}
-use native.Mathlib.Omega.{arith}
-use lib.ListN.{length, take}
-use borrow.Author.Needs.{needs}
-use lib.Seq.{length-take-le}
-use Rattle.ending.specs.Ending.{asks, longest}
 use Rattle.season.proofs.Parts.{put-length, put-front, put-asked}
+use Rattle.shell.specs.Edges.{labelRoom}
+use Rattle.ending.specs.Ending.{asks, longest}
+use lib.Seq.{length-take-le}
+use lib.ListN.{length, take}
+use Prim.Native.Nat.{_+_, _-_, _≤_}
+use mathlib.Core.Path.{_≡_, refl, sym, _∙_}
+use borrow.Author.Needs.{needs}
+use native.Mathlib.Omega.{arith}
 use Rattle.season.proofs.reading.read_file.Statement.{statement}
 use Rattle.season.proofs.reading.read_file.Tie as tie
 
 abbrev Inv-loop : tie.InvT-loop
-Inv-loop file₀ filled₀ asked₀ t5 file filled asked = (filled ≤ asked) × (asked ≡ asks (take filled file)) × (asked ≤ longest) × (length file ≡ length file₀)
+Inv-loop asked label₀ file₀ source₀ filled₀ wanted₀ t9 label file source filled wanted = (filled ≤ wanted) × (wanted ≡ asks (take filled file)) × (wanted ≤ longest) × (length file ≡ length file₀) × (source .end ≤ labelRoom)
 
 abbrev μ-loop : tie.MeasureT-loop
-μ-loop file₀ filled₀ asked₀ t5 file filled asked = longest - filled
+μ-loop asked label₀ file₀ source₀ filled₀ wanted₀ t9 label file source filled wanted = longest - filled
 
 slice-reshare-prefix-asks : tie.Need-slice-reshare-prefix-asks Inv-loop μ-loop
 slice-reshare-prefix-asks c = search needs
@@ -26,74 +27,90 @@ asks-requires : tie.Need-asks-requires Inv-loop μ-loop
 asks-requires c κs = search needs
 
 loop-holds : tie.Need-loop-holds Inv-loop μ-loop
-loop-holds c = (omega arith, c .asks .ensures .0, c .asks .ensures .1, refl)
+loop-holds c = (omega arith, c .asks .ensures .0, c .asks .ensures .1, refl, c .before .before .before .pre .1)
 
-sub-read-some : tie.Need-sub-read-some Inv-loop μ-loop
-sub-read-some c = search needs
+slice-aggregate-read-more : tie.Need-slice-aggregate-read-more Inv-loop μ-loop
+slice-aggregate-read-more c = search needs
 
-part-read-some-start : tie.Need-part-read-some-start Inv-loop μ-loop
-part-read-some-start c = search needs
+sub-read-more : tie.Need-sub-read-more Inv-loop μ-loop
+sub-read-more c = omega arith
 
-part-read-some-end : tie.Need-part-read-some-end Inv-loop μ-loop
-part-read-some-end c = search needs
+part-read-more-start : tie.Need-part-read-more-start Inv-loop μ-loop
+part-read-more-start c = search needs
 
-read-some-requires : tie.Need-read-some-requires Inv-loop μ-loop
-read-some-requires c κs = search needs
+part-read-more-end : tie.Need-part-read-more-end Inv-loop μ-loop
+part-read-more-end c = search needs
 
-enum-known-more : tie.Need-enum-known-more Inv-loop μ-loop
-enum-known-more c = search needs
-
-enum-told : tie.Need-enum-told Inv-loop μ-loop
-enum-told c = search needs
-
-slice-aggregate-fail : tie.Need-slice-aggregate-fail Inv-loop μ-loop
-slice-aggregate-fail c = search needs
-
-fail-requires : tie.Need-fail-requires Inv-loop μ-loop
-fail-requires c κs = search needs
+read-more-requires : tie.Need-read-more-requires Inv-loop μ-loop
+read-more-requires c κs = c .before .before .before .before .loop .inv .4
 
 same-length : tie.Need-same-length Inv-loop μ-loop
 same-length c = search needs
 
 returns : tie.Need-returns Inv-loop μ-loop
-returns c = tt
+returns c =
+    let read = c .before .before .before .before in
+    let lent = read .before .before .before in
+    let at-test = lent .before .before in
+    let start = at-test .before .before .before .before in
+    let l = at-test .loop in
+    let put = read .read-more .last .1 .1 .1 .1 .0 in
+    let some = read .read-more .ensures .front in
+    record { taken = record { fits = omega arith; asked = omega arith }; labelled = read .read-more .ensures .labelled }
 
 same-length-2 : tie.Need-same-length-2 Inv-loop μ-loop
 same-length-2 c = search needs
 
 returns-2 : tie.Need-returns-2 Inv-loop μ-loop
 returns-2 c =
-    let l = c .before .before .before .before .before .before .before .before .before .loop in
-    let read = c .before .before .before .before .before .before .read-some in
-    let start = c .before .before .before .before .before .before .before .before .before .before .before .before .before in
-    let front = put-front (l .filled) (l .asked - l .filled) (l .file) (read .last .0) (omega (arith, l .inv .2, start .pre)) (omega (arith, read .kept)) in
-    record { fits = omega (arith, l .inv .0, l .inv .2); asked = rw (front, ← (l .inv .1)) (l .inv .0) }
+    let at1 = c .before .before .before .before in
+    let read = at1 .before .before in
+    let lent = read .before .before .before in
+    let at-test = lent .before .before in
+    let start = at-test .before .before .before .before in
+    let l = at-test .loop in
+    let put = read .read-more .last .1 .1 .1 .1 .0 in
+    let some = read .read-more .ensures .front in
+    let front = put-front (l .filled) (l .wanted - l .filled) (l .file) put (omega (arith, l .inv .2, start .pre .0)) (omega (arith, read .read-more .kept)) in
+    record { taken = record { fits = omega (arith, l .inv .0, l .inv .2); asked = rw (front, ← (l .inv .1)) (l .inv .0) }; labelled = read .read-more .ensures .labelled }
 
 add-filled : tie.Need-add-filled Inv-loop μ-loop
 add-filled c =
-    let l = c .before .before .before .before .before .before .before .before .before .loop in
-    let read = c .before .before .before .before .before .before .read-some in
-    let start = c .before .before .before .before .before .before .before .before .before .before .before .before .before in
-    let some = rw (c .before .before .more .given .1) at (read .ensures) in
-    omega (arith, some, read .kept, l .inv .2, start .pre)
+    let at1 = c .before .before .before .before in
+    let read = at1 .before .before .before in
+    let lent = read .before .before .before in
+    let at-test = lent .before .before in
+    let start = at-test .before .before .before .before in
+    let l = at-test .loop in
+    let put = read .read-more .last .1 .1 .1 .1 .0 in
+    let some = read .read-more .ensures .front in
+    omega (arith, some, read .read-more .kept, l .inv .2, start .pre .0)
 
 slice-reshare-prefix-asks-2 : tie.Need-slice-reshare-prefix-asks-2 Inv-loop μ-loop
 slice-reshare-prefix-asks-2 c =
-    let l = c .before .before .before .before .before .before .before .before .before .loop in
-    let read = c .before .before .before .before .before .before .read-some in
-    let start = c .before .before .before .before .before .before .before .before .before .before .before .before .before in
-    let some = rw (c .before .before .more .given .1) at (read .ensures) in
-    let size = put-length (l .filled) (l .asked - l .filled) (l .file) (read .last .0) (omega (arith, l .inv .2, start .pre)) (omega (arith, read .kept)) in
-    omega (arith, some, read .kept, size, l .inv .2, start .pre)
+    let at1 = c .before .before .before .before in
+    let read = at1 .before .before .before in
+    let lent = read .before .before .before in
+    let at-test = lent .before .before in
+    let start = at-test .before .before .before .before in
+    let l = at-test .loop in
+    let put = read .read-more .last .1 .1 .1 .1 .0 in
+    let some = read .read-more .ensures .front in
+    let size = put-length (l .filled) (l .wanted - l .filled) (l .file) put (omega (arith, l .inv .2, start .pre .0)) (omega (arith, read .read-more .kept)) in
+    omega (arith, some, read .read-more .kept, size, l .inv .2, start .pre .0)
 
 slice-aggregate-asks-2 : tie.Need-slice-aggregate-asks-2 Inv-loop μ-loop
 slice-aggregate-asks-2 c =
-    let l = c .before .before .before .before .before .before .before .before .before .before .loop in
-    let read = c .before .before .before .before .before .before .before .read-some in
-    let start = c .before .before .before .before .before .before .before .before .before .before .before .before .before .before in
-    let some = rw (c .before .before .before .more .given .1) at (read .ensures) in
-    let size = put-length (l .filled) (l .asked - l .filled) (l .file) (read .last .0) (omega (arith, l .inv .2, start .pre)) (omega (arith, read .kept)) in
-    sym (length-take-le _ _ (omega (arith, some, read .kept, size, l .inv .2, start .pre)))
+    let at1 = c .before .before .before .before in
+    let read = at1 .before .before .before .before in
+    let lent = read .before .before .before in
+    let at-test = lent .before .before in
+    let start = at-test .before .before .before .before in
+    let l = at-test .loop in
+    let put = read .read-more .last .1 .1 .1 .1 .0 in
+    let some = read .read-more .ensures .front in
+    let size = put-length (l .filled) (l .wanted - l .filled) (l .file) put (omega (arith, l .inv .2, start .pre .0)) (omega (arith, read .read-more .kept)) in
+    sym (length-take-le _ _ (omega (arith, some, read .read-more .kept, size, l .inv .2, start .pre .0)))
 
 asks-requires-2 : tie.Need-asks-requires-2 Inv-loop μ-loop
 asks-requires-2 c κs = search needs
@@ -103,19 +120,25 @@ loop-less c = search needs
 
 loop-again : tie.Need-loop-again Inv-loop μ-loop
 loop-again c =
-    let l = c .before .before .before .before .before .before .before .before .before .before .before .loop in
-    let read = c .before .before .before .before .before .before .before .before .read-some in
-    let start = c .before .before .before .before .before .before .before .before .before .before .before .before .before .before .before in
-    let some = rw (c .before .before .before .before .more .given .1) at (read .ensures) in
-    let within : l .filled + (l .asked - l .filled) ≤ length (l .file) = omega (arith, l .inv .2, start .pre) in
-    let many : length (read .last .0) ≡ l .asked - l .filled = omega (arith, read .kept) in
-    let n = l .filled + c .before .before .before .before .more .given .0 .0 in
-    let most : n ≤ l .asked = omega (arith, some, many) in
-    let asked = put-asked (l .filled) (l .asked - l .filled) (l .file) (read .last .0) within many n (omega arith) (omega arith) (rw (← (l .inv .1)) most) in (
+    let at1 = c .before .before .before .before in
+    let at2 = at1 .before .before .before .before in
+    let read = at2 .before in
+    let lent = read .before .before .before in
+    let at-test = lent .before .before in
+    let start = at-test .before .before .before .before in
+    let l = at-test .loop in
+    let put = read .read-more .last .1 .1 .1 .1 .0 in
+    let some = read .read-more .ensures .front in
+    let within : l .filled + (l .wanted - l .filled) ≤ length (l .file) = omega (arith, l .inv .2, start .pre .0) in
+    let many : length put ≡ l .wanted - l .filled = omega (arith, read .read-more .kept) in
+    let n = l .filled + read .read-more .result .filled in
+    let most : n ≤ l .wanted = omega (arith, some, many) in
+    let asked = put-asked (l .filled) (l .wanted - l .filled) (l .file) put within many n (omega arith) (omega arith) (rw (← (l .inv .1)) most) in (
       omega (arith, asked, c .asks2 .ensures .0),
       c .asks2 .ensures .0,
       c .asks2 .ensures .1,
-      put-length (l .filled) (l .asked - l .filled) (l .file) (read .last .0) within many ∙ l .inv .3,
+      put-length (l .filled) (l .wanted - l .filled) (l .file) put within many ∙ l .inv .3,
+      read .read-more .ensures .labelled,
     )
 
 same-length-3 : tie.Need-same-length-3 Inv-loop μ-loop
@@ -124,7 +147,7 @@ same-length-3 c = search needs
 returns-3 : tie.Need-returns-3 Inv-loop μ-loop
 returns-3 c =
     let l = c .before .loop in
-    record { fits = omega (arith, l .inv .0, l .inv .2); asked = rw (← (l .inv .1)) (l .inv .0) }
+    record { taken = record { fits = omega (arith, l .inv .0, l .inv .2); asked = rw (← (l .inv .1)) (l .inv .0) }; labelled = l .inv .4 }
 
 pub read-file-spec : {M : Type 1} → statement M
 read-file-spec =
@@ -136,14 +159,11 @@ read-file-spec =
     slice-aggregate-asks
     asks-requires
     loop-holds
-    sub-read-some
-    part-read-some-start
-    part-read-some-end
-    read-some-requires
-    enum-known-more
-    enum-told
-    slice-aggregate-fail
-    fail-requires
+    slice-aggregate-read-more
+    sub-read-more
+    part-read-more-start
+    part-read-more-end
+    read-more-requires
     same-length
     returns
     same-length-2

@@ -1,9 +1,13 @@
 -- `reading::show` meets its contract: what is told fits its line. Assumes nothing.
-use mathlib.Core.Path.{sym}
 use lib.Seq.{length-take-le}
+use mathlib.Core.Path.{sym}
+use native.Mathlib.Omega.{arith}
 use borrow.Author.Needs.{needs}
 use Rattle.season.proofs.reading.show.Statement.{statement}
 use Rattle.season.proofs.reading.show.Tie as tie
+
+returns : tie.Need-returns
+returns c = search needs
 
 slice-aggregate-put-named : tie.Need-slice-aggregate-put-named
 slice-aggregate-put-named c = search needs
@@ -17,27 +21,28 @@ put-named-requires c κs = search needs
 array-share-prefix-line : tie.Need-array-share-prefix-line
 array-share-prefix-line c = search needs
 
-slice-aggregate-write-all : tie.Need-slice-aggregate-write-all
-slice-aggregate-write-all c = sym (length-take-le _ _ (c .before .before .put-named .ensures .number-put .within))
+slice-aggregate-say : tie.Need-slice-aggregate-say
+slice-aggregate-say c = sym (length-take-le _ _ (c .before .before .put-named .ensures .number-put .within))
 
-write-all-requires : tie.Need-write-all-requires
-write-all-requires c κs = search needs
-
-returns : tie.Need-returns
-returns c = search needs
+say-requires : tie.Need-say-requires
+say-requires c κs = search needs
 
 returns-2 : tie.Need-returns-2
 returns-2 c = search needs
+
+returns-3 : tie.Need-returns-3
+returns-3 c = search needs
 
 pub show-spec : {M : Type 1} → statement M
 show-spec =
     tie.close
     (tie.spec
+    returns
     slice-aggregate-put-named
     slice-aggregate-put-named-2
     put-named-requires
     array-share-prefix-line
-    slice-aggregate-write-all
-    write-all-requires
-    returns
-    returns-2)
+    slice-aggregate-say
+    say-requires
+    returns-2
+    returns-3)

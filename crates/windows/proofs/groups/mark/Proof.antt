@@ -3,7 +3,7 @@ use mathlib.Core.Path.{_∙_}
 use native.Mathlib.Omega.{arith}
 use lib.ListN.{length-set}
 use Prim.Native.Nat.{_+_, _*_}
-use Rattle.windows.specs.Groups.{marks}
+use Rattle.places.specs.Map.{marks}
 use Rattle.windows.proofs.Stores.{two}
 use borrow.Author.Needs.{needs}
 use Rattle.windows.proofs.groups.mark.Statement.{statement}

@@ -16,6 +16,13 @@ shifted : {n left : ℕ} → n ≤ 64 → left < n → 1 * 2 ^ (n - (left + 1)) 
 shifted {n} {left} size more =
     shl-exact 1 (n - (left + 1)) 64 (omega arith) (omega arith) ∙ one-mul (2 ^ (n - (left + 1))) ∙ ap (λ x. 2 ^ (n - x)) (add-one left)
 
+-- the lists cut, and the entry, from where the survival number is read
+abbrev cut : tie.After-chance → tie.After-trim-all
+cut c = c .before .before .before
+
+abbrev start : tie.After-trim-all → tie.Start
+start c = c .before .before .before .before .before
+
 add-left : tie.Need-add-left
 add-left c = search needs
 
@@ -26,41 +33,43 @@ shl-trim-all : tie.Need-shl-trim-all
 shl-trim-all c = search needs
 
 trim-all-requires : tie.Need-trim-all-requires
-trim-all-requires c κs = listables (c .before .before .before .before .pre .level) (c .before .before .before .before .pre .more)
+trim-all-requires c κs =
+    let asked = c .before .before .before .before .pre in
+    listables (asked .level) (asked .more)
 
 chance-requires : tie.Need-chance-requires
 chance-requires c κs = search needs
 
-failure-requires : tie.Need-failure-requires
-failure-requires c κs = rw (c .chance .ensures) (c .before .before .before .before .before .before .before .before .pre .level .list .units _)
-
 sweep-requires : tie.Need-sweep-requires
 sweep-requires c κs =
-    let pre = c .before .before .before .before .before .before .before .before .before .before .pre in
-    record {
-      ps = _;
-      survival = _;
-      i = _;
-      midway = midway (pre .level) (pre .more) (shifted (pre .level .list .size) (pre .more)) (c .before .before .before .before .before .trim-all .ensures) (record { read = c .before .before .chance .ensures; rest = c .before .failure .ensures });
-    }
+    let read = c .before in
+    let y = start (cut read) .pre in
+    let size = shifted (y .level .list .size) (y .more) in
+    record { ps = _; survival = _; i = _; midway = midway (y .level) (y .more) size (cut read .trim-all .ensures) (read .chance .ensures) }
 
-sub-t13 : tie.Need-sub-t13
-sub-t13 c = omega (arith, side-near (c .before .before .before .before .before .before .before .before .before .before .before .before .before .pre .level .side))
+sub-t12 : tie.Need-sub-t12
+sub-t12 c =
+    let read = c .before .before .before .before in
+    omega (arith, side-near (start (cut read) .pre .level .side))
 
 same-length : tie.Need-same-length
-same-length c = kept-trans (c .before .before .before .before .before .before .before .before .trim-all .ensures .kept) (c .before .before .sweep .ensures .kept) .long
+same-length c = search needs
 
 returns : tie.Need-returns
 returns c =
-    let pre = c .before .before .before .before .before .before .before .before .before .before .before .before .before .pre in (
-      λ ps y. record {
-        level = rw add-one (c .before .before .sweep .ensures .level ps _ _ (midway y (pre .more) (shifted (pre .level .list .size) (pre .more)) (c .before .before .before .before .before .before .before .before .trim-all .ensures) (record { read = c .before .before .before .before .before .chance .ensures; rest = c .before .before .before .before .failure .ensures })));
+    let swept = c .before .before in
+    let read = swept .before .before in
+    let trimmed = cut read in
+    let y = start trimmed .pre in
+    let size = shifted (y .level .list .size) (y .more) in (
+      λ ps level. record {
+        level = rw add-one (swept .sweep .ensures .level ps _ _ (midway level (y .more) size (trimmed .trim-all .ensures) (read .chance .ensures)));
         is = add-one _;
       },
-      kept-trans (c .before .before .before .before .before .before .before .before .trim-all .ensures .kept) (c .before .before .sweep .ensures .kept),
+      kept-trans (trimmed .trim-all .ensures .kept) (swept .sweep .ensures .kept),
     )
 
 pub turn-spec : {M : Type 1} → statement M
 turn-spec =
     tie.close
-    (tie.spec add-left sub-trim-all shl-trim-all trim-all-requires chance-requires failure-requires sweep-requires sub-t13 same-length returns)
+    (tie.spec add-left sub-trim-all shl-trim-all trim-all-requires chance-requires sweep-requires sub-t12 same-length returns)

@@ -1,0 +1,53 @@
+// Prints the systems of a deck file, a line each, or the file's refusal.
+mod lines; // lines.rt: the lines
+
+ghost use Rattle.shell.specs.Status.{Status};
+use options::Asked;
+use shell::reading;
+use shell::starting;
+
+const PERCENT: usize = 0;
+
+// Lists the file that is asked for; nothing is listed where it cannot be read.
+fn list(asked: Asked) -> i32
+    ensures { λ r. ⌜ Status r ⌝ }
+{
+    let mut input = [0u8; printing::INPUT];
+    let front = reading::read_front(b"decklist", asked.first, &mut input);
+    if front.failed {
+        return shell::FAILED;
+    }
+    let percent = asked.given[PERCENT] != 0;
+    let mut out = [0u8; lines::OUTPUT];
+    let end = lines::list_front(percent, &input, front.filled, &mut out);
+    starting::print(
+        b"decklist",
+        &out[..end],
+        printing::refused(&input, front.filled),
+    )
+}
+
+// What the program does, by its words: its status.
+pub fn run() -> i32
+    ensures { λ r. ⌜ Status r ⌝ }
+{
+    let asked = starting::hear_all(b"--percent   ", 1);
+    let task = asked.task;
+    match task {
+        options::WORK => list(asked),
+        options::HELP => starting::print(
+            b"decklist",
+            b"usage: decklist [--percent] [FILE]\n       decklist --help\n       decklist --version\n",
+            false,
+        ),
+        options::VERSION => starting::print_version(b"decklist"),
+        _ => starting::tell_wrong(b"decklist", asked),
+    }
+}
+
+#[no_mangle]
+pub extern "C" fn decklist_run() -> i32
+    ensures { λ r. ⌜ Status r ⌝ }
+{
+    run()
+}

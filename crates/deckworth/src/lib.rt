@@ -1,0 +1,50 @@
+// Prints the worth of each fan to each system of a deck file, a line each, or the file's refusal.
+mod lines; // lines.rt: the lines
+
+ghost use Rattle.shell.specs.Status.{Status};
+use options::Asked;
+use shell::reading;
+use shell::starting;
+
+// Lists the file that is asked for; nothing is listed where it cannot be read.
+fn list(asked: Asked) -> i32
+    ensures { λ r. ⌜ Status r ⌝ }
+{
+    let mut input = [0u8; printing::INPUT];
+    let front = reading::read_front(b"deckworth", asked.first, &mut input);
+    if front.failed {
+        return shell::FAILED;
+    }
+    let mut out = [0u8; lines::OUTPUT];
+    let end = lines::list_front(&input, front.filled, &mut out);
+    starting::print(
+        b"deckworth",
+        &out[..end],
+        printing::refused(&input, front.filled),
+    )
+}
+
+// What the program does, by its words: its status.
+pub fn run() -> i32
+    ensures { λ r. ⌜ Status r ⌝ }
+{
+    let asked = starting::hear_all(b"", 1);
+    let task = asked.task;
+    match task {
+        options::WORK => list(asked),
+        options::HELP => starting::print(
+            b"deckworth",
+            b"usage: deckworth [FILE]\n       deckworth --help\n       deckworth --version\n",
+            false,
+        ),
+        options::VERSION => starting::print_version(b"deckworth"),
+        _ => starting::tell_wrong(b"deckworth", asked),
+    }
+}
+
+#[no_mangle]
+pub extern "C" fn deckworth_run() -> i32
+    ensures { λ r. ⌜ Status r ⌝ }
+{
+    run()
+}

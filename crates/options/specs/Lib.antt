@@ -1,0 +1,3 @@
+-- What words ask for, and texts that are the same.
+pub mod Texts
+pub mod Words

@@ -1,2 +1,0 @@
--- The laws of texts that are the same.
-mod Texts

@@ -1,3 +1,0 @@
--- What the edges of a program cite.
-pub mod Edges
-pub mod Words

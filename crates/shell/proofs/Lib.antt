@@ -1,0 +1,2 @@
+-- What ends within a buffer.
+pub mod Counted

@@ -1,0 +1,3 @@
+-- What the edges of a program cite.
+pub mod Edges
+pub mod Status

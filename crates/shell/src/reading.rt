@@ -1,0 +1,198 @@
+// A program's input: standard input, or the file that one of its words names.
+ghost use Prim.Native.Nat.{_≤_};
+ghost use lib.ListN.{length};
+ghost use mathlib.Core.Path.{_≡_};
+ghost use Rattle.shell.specs.Edges.{FitsIn, FewMore, FitsWith};
+use crate::names::LABEL;
+use libc::STDERR_FILENO;
+use libc::STDIN_FILENO;
+
+// What reading gave: so many bytes at the buffer's front, up to the input's end or the buffer's; or a read that failed.
+pub enum Input {
+    Filled(usize),
+    Failed,
+}
+
+// What counting gave: so many bytes up to the input's end; or a read that failed.
+pub enum Rest {
+    Counted(u64),
+    Failed,
+}
+
+// A call that signals interrupt is tried again, but not for ever.
+const MOST_TRIES: u64 = 1000000;
+
+// The buffer that bytes go through that are only counted, and how many are counted at most: 2^62, which no input
+// reaches.
+const PASSING: usize = 4096;
+
+const MOST_COUNTED: u64 = 4611686018427387904;
+
+// The descriptor of the input at a place of the words, or -1: standard input for place 0 and for `-`.
+pub fn open(place: usize) -> i32 {
+    if place == 0 {
+        return STDIN_FILENO;
+    }
+    let mut name = io::buffer();
+    let length = os::arg(place, &mut name);
+    if options::same(&name[..length], b"-") {
+        return STDIN_FILENO;
+    }
+    os::open_read(&name[..length])
+}
+
+// Says on standard error that the program waits for its user, where its input is a terminal.
+pub fn tell_waiting(program: &[u8], fd: i32) {
+    if libc::isatty(fd) == 1 {
+        io::write_all(STDERR_FILENO, program);
+        io::write_all(
+            STDERR_FILENO,
+            b": reads from the terminal; Ctrl-D ends the input\n",
+        );
+    }
+}
+
+// One read into the buffer's front; one that a signal interrupts is tried again.
+pub fn read_some(fd: i32, buffer: &mut [u8]) -> Input
+    ensures { λ r. ⌜ FitsIn (length (now (buffer .exit))) r ⌝ }
+{
+    let mut tries: u64 = 0;
+    while tries < MOST_TRIES {
+        let got = libc::read(fd, buffer);
+        if got >= 0 {
+            return Input::Filled(io::count(got, buffer));
+        }
+        if os::errno() != libc::EINTR {
+            return Input::Failed;
+        }
+        tries += 1;
+    }
+    Input::Failed
+}
+
+// Reads until the input ends or the buffer is full; a read that fails is told by its label.
+pub fn fill(fd: i32, label: &[u8], buffer: &mut [u8]) -> Input
+    ensures { λ r. ⌜ FitsIn (length (now (buffer .exit))) r ⌝ }
+{
+    let mut filled = 0;
+    while filled < buffer.len() {
+        let Input::Filled(more) = read_some(fd, &mut buffer[filled..]) else {
+            os::fail(label);
+            return Input::Failed;
+        };
+        if more == 0 {
+            return Input::Filled(filled);
+        }
+        filled += more;
+    }
+    Input::Filled(filled)
+}
+
+// Reads what is left of an input and counts it; a read that fails is told likewise.
+pub fn count_rest(fd: i32, label: &[u8]) -> Rest
+    ensures { λ r. ⌜ FewMore r ⌝ }
+{
+    let mut passing = [0u8; PASSING];
+    let mut count: u64 = 0;
+    while count < MOST_COUNTED {
+        let Input::Filled(more) = read_some(fd, &mut passing) else {
+            os::fail(label);
+            return Rest::Failed;
+        };
+        if more == 0 {
+            return Rest::Counted(count);
+        }
+        count += more as u64;
+    }
+    Rest::Counted(count)
+}
+
+// An input whose front is read into a buffer and whose rest is counted, or one that could not be read.
+pub struct Whole {
+    pub filled: usize,
+    pub rest: u64,
+    pub failed: bool,
+}
+
+// Nothing was read.
+fn nothing() -> Whole
+    ensures { λ r. ⌜ (r .filled ≡ 0) × (r .rest ≡ 0) ⌝ }
+{
+    Whole {
+        filled: 0,
+        rest: 0,
+        failed: true,
+    }
+}
+
+// The front of an open input, and how much follows it; what fails is told by its label.
+fn read_through(fd: i32, label: &[u8], buffer: &mut [u8]) -> Whole
+    ensures { λ r. ⌜ FitsWith (length (now (buffer .exit))) r ⌝ }
+{
+    let Input::Filled(filled) = fill(fd, label, buffer) else {
+        return nothing();
+    };
+    if filled < buffer.len() {
+        return Whole {
+            filled,
+            rest: 0,
+            failed: false,
+        };
+    }
+    let Rest::Counted(rest) = count_rest(fd, label) else {
+        return nothing();
+    };
+    Whole {
+        filled,
+        rest,
+        failed: false,
+    }
+}
+
+// Opens the input at a place of the words, reads its front into the buffer and counts its rest; what fails is told.
+pub fn read_whole(program: &[u8], place: usize, buffer: &mut [u8]) -> Whole
+    ensures { λ r. ⌜ FitsWith (length (now (buffer .exit))) r ⌝ }
+{
+    let mut label = [0u8; LABEL];
+    let end = crate::names::put_label(program, place, b"standard input", &mut label);
+    let fd = open(place);
+    if fd < 0 {
+        os::fail(&label[..end]);
+        return nothing();
+    }
+    tell_waiting(program, fd);
+    let whole = read_through(fd, &label[..end], buffer);
+    libc::close(fd);
+    whole
+}
+
+// The same of an input whose rest is of no matter, and is not read.
+pub fn read_front(program: &[u8], place: usize, buffer: &mut [u8]) -> Whole
+    ensures { λ r. ⌜ FitsWith (length (now (buffer .exit))) r ⌝ }
+{
+    let mut label = [0u8; LABEL];
+    let end = crate::names::put_label(program, place, b"standard input", &mut label);
+    let fd = open(place);
+    if fd < 0 {
+        os::fail(&label[..end]);
+        return nothing();
+    }
+    tell_waiting(program, fd);
+    let whole = fill_front(fd, &label[..end], buffer);
+    libc::close(fd);
+    whole
+}
+
+// The front of an open input.
+fn fill_front(fd: i32, label: &[u8], buffer: &mut [u8]) -> Whole
+    ensures { λ r. ⌜ FitsWith (length (now (buffer .exit))) r ⌝ }
+{
+    let Input::Filled(filled) = fill(fd, label, buffer) else {
+        return nothing();
+    };
+    Whole {
+        filled,
+        rest: 0,
+        failed: false,
+    }
+}
