@@ -9,8 +9,11 @@ version := $(shell cat VERSION)
 major := $(firstword $(subst ., ,$(version)))
 # all that rt reads, and the folders, so that a file added or removed is seen; rt itself sees to which crate is out of date
 sources := crates.txt $(shell find crates -name must-fail -prune -o -print)
-# the programs: each is a library whose one call, NAME_run, answers the exit status
-programs := $(patsubst crates/%/src/lib.rt,%,$(shell grep -l 'extern "C" fn [a-z]*_run()' crates/*/src/lib.rt))
+# the programs: each is a call, NAME_run, that answers the exit status; those of `make run` have an archive of their own, so that it proves no more
+archived = $(shell sed -n 's/^pub extern "C" fn \([a-z]*\)_run() .*/\1/p' crates/$(1)/src/lib.rt)
+first := $(call archived,first_programs)
+further := $(call archived,further_programs)
+programs := $(first) $(further)
 linked := $(programs:%=target/programs/%)
 # the libraries: the crate whose calls each exports, and what it is for
 libraries := foambeetle foambeetle_office
@@ -29,8 +32,6 @@ installed := $(programs:%=bin/%) $(foreach name,$(libraries),$(call library_file
 progress := tests/progress.py target/build.log
 # rt waits for a whole batch before it begins the next: twice as many crates at a time as there are processors leave none idle
 at_once := RT_JOBS=$${RT_JOBS:-$$((2 * $$(nproc)))}
-both := deckmake decklist
-below := $(sort $(filter $(notdir $(wildcard crates/*)),$(shell sed -n 's/^\(deckmake\|decklist\)://p' crates.txt)))
 # a compiler for x86-64, and the kit's C code for programs that take words or open files
 cc = $(shell tests/tools.sh | head -n 1)
 kit_code = $(shell dirname "$$(dirname "$$(readlink -f "$$(command -v rt)")")")/lib/libos_c.a
@@ -44,7 +45,7 @@ export TEXT DECK
 help: ## this list
 	@awk -F ':.*## ' '/^[a-z]+:.*## / { printf "make %-10s %s\n", $$1, $$2 }' Makefile
 
-run: $(both:%=target/programs/%) ## makes a text's deck and prints its figures (TEXT=file, samples/hold1.txt otherwise; DECK=file for a deck file), proving first what has changed
+run: $(first:%=target/programs/%) ## makes a text's deck and prints its figures (TEXT=file, samples/hold1.txt otherwise; DECK=file for a deck file), proving first what has changed
 	@if [ -n "$$DECK" ]; then tests/run-program decklist --percent "$$DECK"; \
 	    else tests/run-program deckmake "$$TEXT" | tests/run-program decklist --percent; fi
 
@@ -81,22 +82,25 @@ uninstall: ## takes away what install put there
 bench: ## the cost of a rating beside peers, and of a worth (docs/BENCH.md); no part of the tests
 	@bench/run
 
-# What the two programs of `make run` stand on is proved side by side.
-target/proved: $(sources)
+# The programs of an archive are proved side by side, before the archive is made.
+$(foreach part,first further,target/proved-$(part)): target/proved-%: $(sources)
 	@mkdir -p $(@D)
-	@$(at_once) $(progress) rt check $(below)
+	@$(at_once) $(progress) rt check $($*)
 	@touch $@
 
-$(both:%=target/staticlib/lib%.a): | target/proved
+target/staticlib/libfirst_programs.a: | target/proved-first
+target/staticlib/libfurther_programs.a: | target/proved-further
 
 # Programs that start without the kit: the proved archive, a main that hands on its status, and the C library in one file.
-$(linked): target/programs/%: target/staticlib/lib%.a
+$(first:%=target/programs/%): target/staticlib/libfirst_programs.a
+$(further:%=target/programs/%): target/staticlib/libfurther_programs.a
+$(linked): target/programs/%:
 	@mkdir -p $(@D)
 	@echo 'int $*_run(void); int main(void) { return $*_run(); }' > $@.c
 	@$(cc) -static -o $@ $@.c $< $(kit_code)
 
 libraries_of := $(foreach name,$(libraries),$(crate_of_$(name)))
-$(patsubst %,target/staticlib/lib%.a,$(libraries_of) $(programs)): target/staticlib/lib%.a: $(sources)
+$(patsubst %,target/staticlib/lib%.a,$(libraries_of) first_programs further_programs): target/staticlib/lib%.a: $(sources)
 	@$(progress) rt staticlib $*
 
 $(foreach name,$(libraries),$(eval target/lib/lib$(name).a: target/staticlib/lib$(crate_of_$(name)).a))

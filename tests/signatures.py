@@ -13,6 +13,7 @@ from common import EVERY_PROGRAM, prototypes, reported, root
 
 HEADERS = {"loading": "foambeetle.h", "office": "foambeetle_office.h"}
 WITHOUT_HEADER = {"ratings"}
+ARCHIVES = "first_programs", "further_programs"  # from which make links the programs
 NUMBERS = {"u8": "uint8_t", "u16": "uint16_t", "u32": "uint32_t", "u64": "uint64_t", "i64": "int64_t", "f64": "double"}
 EXPORT = re.compile(r'#\[no_mangle\]\s+pub extern "C" fn (\w+)\(([^()]*)\) -> (\w+)')
 PARAMETER = re.compile(r"(\w+): (?:(\w+)|&(mut )?\[(\w+)(; \d+)?\])$")
@@ -57,16 +58,18 @@ def differences(crate, header):
             yield f"{name}: crates/{crate} has {defined.get(name)}, include/{header} {shown.get(name)}"
 
 
-def misdeclared(program):
-    """A program exports its one call and nothing else."""
-    if exports(program) != ({f"{program}_run": ("i32", [])}, 1):
-        yield f"crates/{program} does not export {program}_run alone, without a parameter and with an i32 for its status"
+def misdeclared():
+    """The programs' archives export a call for each program, without a parameter and with an i32 for its status, and nothing else."""
+    found = [exports(crate) for crate in ARCHIVES]
+    calls = {name: call for calls, _ in found for name, call in calls.items()}
+    if calls != {f"{program}_run": ("i32", []) for program in EVERY_PROGRAM} or sum(said for _, said in found) != len(EVERY_PROGRAM):
+        yield f"{' and '.join(ARCHIVES)} do not export NAME_run for each program, without a parameter and with an i32 for its status, alone"
 
 
 def main():
     exporting = {folder.name for folder in (root / "crates").iterdir() if exports(folder.name)[1]}
-    wrong = [f"crates/{crate} exports to C, or does so no more" for crate in sorted(exporting ^ {*HEADERS, *WITHOUT_HEADER, *EVERY_PROGRAM})]
-    wrong += [line for program in EVERY_PROGRAM for line in misdeclared(program)]
+    wrong = [f"crates/{crate} exports to C, or does so no more" for crate in sorted(exporting ^ {*HEADERS, *WITHOUT_HEADER, *ARCHIVES})]
+    wrong += misdeclared()
     wrong += [line for pair in HEADERS.items() for line in differences(*pair)]
     calls = sum(len(declared(header)) for header in HEADERS.values())
     return reported(wrong, f"{calls} C calls declared, {len(wrong)} things wrong")

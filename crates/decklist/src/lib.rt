@@ -44,10 +44,3 @@ pub fn run() -> i32
         _ => starting::tell_wrong(b"decklist", asked),
     }
 }
-
-#[no_mangle]
-pub extern "C" fn decklist_run() -> i32
-    ensures { λ r. ⌜ Status r ⌝ }
-{
-    run()
-}

@@ -60,10 +60,3 @@ pub fn run() -> i32
         _ => starting::tell_wrong(b"deckmake", asked),
     }
 }
-
-#[no_mangle]
-pub extern "C" fn deckmake_run() -> i32
-    ensures { λ r. ⌜ Status r ⌝ }
-{
-    run()
-}

@@ -46,10 +46,3 @@ pub fn run() -> i32
         _ => starting::tell_wrong(b"deckmend", asked),
     }
 }
-
-#[no_mangle]
-pub extern "C" fn deckmend_run() -> i32
-    ensures { λ r. ⌜ Status r ⌝ }
-{
-    run()
-}

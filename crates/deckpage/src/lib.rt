@@ -112,10 +112,3 @@ pub fn run() -> i32
         _ => starting::tell_wrong(b"deckpage", asked),
     }
 }
-
-#[no_mangle]
-pub extern "C" fn deckpage_run() -> i32
-    ensures { λ r. ⌜ Status r ⌝ }
-{
-    run()
-}

@@ -42,10 +42,3 @@ pub fn run() -> i32
         _ => starting::tell_wrong(b"deckshow", asked),
     }
 }
-
-#[no_mangle]
-pub extern "C" fn deckshow_run() -> i32
-    ensures { λ r. ⌜ Status r ⌝ }
-{
-    run()
-}

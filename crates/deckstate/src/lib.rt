@@ -67,10 +67,3 @@ pub fn run() -> i32
         _ => starting::tell_wrong(b"deckstate", asked),
     }
 }
-
-#[no_mangle]
-pub extern "C" fn deckstate_run() -> i32
-    ensures { λ r. ⌜ Status r ⌝ }
-{
-    run()
-}

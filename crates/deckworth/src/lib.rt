@@ -41,10 +41,3 @@ pub fn run() -> i32
         _ => starting::tell_wrong(b"deckworth", asked),
     }
 }
-
-#[no_mangle]
-pub extern "C" fn deckworth_run() -> i32
-    ensures { λ r. ⌜ Status r ⌝ }
-{
-    run()
-}

@@ -72,10 +72,3 @@ pub fn run() -> i32
         _ => starting::tell_wrong(b"season", asked),
     }
 }
-
-#[no_mangle]
-pub extern "C" fn season_run() -> i32
-    ensures { λ r. ⌜ Status r ⌝ }
-{
-    run()
-}
