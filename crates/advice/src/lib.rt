@@ -1,115 +1,242 @@
 // Refusals in words, and what to do about them.
-ghost use Prim.Native.Nat.{_≤_};
+pub mod file; // file.rt: why a file is refused
+pub mod system; // system.rt: why a system is refused
+pub mod why; // why.rt: the cause of a refusal, by the numbers at hand
+
+ghost use mathlib.Core.Path.{_≡_};
+ghost use Prim.Native.Nat.{_≤_, _<_};
 ghost use lib.ListN.{length};
-ghost use Rattle.forms.specs.Within.{Within};
-use rules::refusal;
+ghost use Rattle.forms.specs.Form.{PutText};
+ghost use Rattle.advice.specs.Words.{numbersOf, whyText, whyRoom};
+use why::Why;
+
+// The numbers that a form is filled with.
+fn numbers_of(why: Why) -> [u64; forms::MARKS]
+    ensures { λ r. ⌜ r ≡ numbersOf why ⌝ }
+{
+    [why.a, why.b, why.c, why.d, 0, 0]
+}
 
 // Of a file.
-fn put_file_advice(number: u64, out: &mut [u8], at: usize) -> usize
-    requires { ⌜ at ≤ length (now out) ⌝ }
-    ensures { λ r. ⌜ Within r (now (out .exit)) ⌝ }
+fn put_file(why: Why, out: &mut [u8], at: usize) -> usize
+    requires row { ⌜ (why .row < 9) ⌝ }
+    requires place { ⌜ at ≤ length (now out) ⌝ }
+    ensures { λ r. ⌜ PutText (whyText why) whyRoom (now (out .entry)) at (now (out .exit)) r ⌝ }
 {
-    match number {
-        refusal::SIZE => text::put(
+    let numbers = numbers_of(why);
+    let row = why.row;
+    match row {
+        0 => forms::put_form(
+            b"it has # bytes, and its header alone has #; send it again",
+            numbers,
             out,
             at,
-            b"It has no fans, or more than 64. Make it anew with 1 to 64 fans.",
         ),
-        refusal::SHORT => text::put(
+        1 => forms::put_form(
+            b"its version is #, and 1 to 3 are known; see that it is a deck file",
+            numbers,
             out,
             at,
-            b"It ends before its header does. Send it again, or make it anew.",
         ),
-        refusal::VERSION => text::put(
+        2 => forms::put_form(
+            b"its zero field is #; deckmend sets it to 0",
+            numbers,
             out,
             at,
-            b"It is of no known version. See that it is a deck file, or make it anew.",
         ),
-        refusal::SYSTEMS => text::put(
+        3 => forms::put_form(
+            b"it has # fans, and a deck has 1 to 64; make it anew with deckmake",
+            numbers,
             out,
             at,
-            b"It has no systems, or more than 32. Make it anew with 1 to 32 systems.",
         ),
-        refusal::LAYOUT => text::put(
+        4 => forms::put_form(
+            b"it has # systems, and a deck has 1 to 32; make it anew with deckmake",
+            numbers,
             out,
             at,
-            b"Its offsets or its length are wrong. Mend it with deckmend, or send it again.",
         ),
-        refusal::BOARDS => text::put(
+        5 => forms::put_form(
+            b"it has # boards, and a deck of version 3 has 1 to 4; make it anew with deckmake",
+            numbers,
             out,
             at,
-            b"It has no boards, or more than 4. Make it anew with 1 to 4 boards, or without boards.",
         ),
-        refusal::BOARD => text::put(
+        6 => forms::put_form(
+            b"it ends after # of its # bytes; send it again",
+            numbers,
             out,
             at,
-            b"A fan is on a board that is not there. Give the fan another board.",
         ),
-        _ => text::put(out, at, b"Make it anew."),
+        7 => forms::put_form(
+            b"its offsets or its length are wrong; deckmend mends them",
+            numbers,
+            out,
+            at,
+        ),
+        _ => forms::put_form(
+            b"a fan is on a board past the last, #; make it anew with deckmake",
+            numbers,
+            out,
+            at,
+        ),
     }
 }
 
-// Of a system.
-fn put_system_advice(number: u64, out: &mut [u8], at: usize) -> usize
-    requires { ⌜ at ≤ length (now out) ⌝ }
-    ensures { λ r. ⌜ Within r (now (out .exit)) ⌝ }
+// Of a system's kind, stretch, survival numbers and weights.
+fn put_system(why: Why, out: &mut [u8], at: usize) -> usize
+    requires row { ⌜ (9 ≤ why .row) × (why .row < 14) ⌝ }
+    requires place { ⌜ at ≤ length (now out) ⌝ }
+    ensures { λ r. ⌜ PutText (whyText why) whyRoom (now (out .entry)) at (now (out .exit)) r ⌝ }
 {
-    match number {
-        refusal::KIND => text::put(
+    let numbers = numbers_of(why);
+    let row = why.row;
+    match row {
+        9 => forms::put_form(b"there is no kind #; kinds are 1 to 8", numbers, out, at),
+        10 => forms::put_form(
+            b"fans # to # are no stretch of # fans; it runs from fan 1 or later to a fan not before that, # at most",
+            numbers,
             out,
             at,
-            b"There is no such kind of rule. Give it a kind from 1 to 8.",
         ),
-        refusal::STRETCH => text::put(
+        11 => forms::put_form(
+            b"fan # has survival number #; # is the most",
+            numbers,
             out,
             at,
-            b"Its stretch is not on the deck. Let it run from a fan of the deck to one that does not come before it.",
         ),
-        refusal::SURVIVAL => text::put(
+        12 => forms::put_form(
+            b"board # has survival number #; # is the most",
+            numbers,
             out,
             at,
-            b"A fan of its stretch, or a board, has a survival number above the unit. Correct that number.",
         ),
-        refusal::WEIGHTS => text::put(
+        _ => forms::put_form(
+            b"its fans weigh # together; 120 is the most",
+            numbers,
             out,
             at,
-            b"The weights of its fans add up to more than 120. Give them lighter weights.",
-        ),
-        _ => text::put(
-            out,
-            at,
-            b"The numbers of its rule are out of range for its fans. Correct the rule, or let the stretch have more fans.",
         ),
     }
 }
 
-// What is refused by these numbers is a system, by the others the file.
-fn of_system(number: u64) -> bool {
-    match number {
-        refusal::KIND | refusal::STRETCH | refusal::SURVIVAL | refusal::WEIGHTS | refusal::RANGE =>
-            true,
-        _ => false,
+// Of a rule with one number.
+fn put_one(why: Why, out: &mut [u8], at: usize) -> usize
+    requires row { ⌜ (14 ≤ why .row) × (why .row < 19) ⌝ }
+    requires place { ⌜ at ≤ length (now out) ⌝ }
+    ensures { λ r. ⌜ PutText (whyText why) whyRoom (now (out .entry)) at (now (out .exit)) r ⌝ }
+{
+    let numbers = numbers_of(why);
+    let row = why.row;
+    match row {
+        14 => forms::put_form(
+            b"its second number is #; make that 0 and K from 1 to #",
+            numbers,
+            out,
+            at,
+        ),
+        15 => forms::put_form(
+            b"# dead of # fans cannot be; K is from 1 to #",
+            numbers,
+            out,
+            at,
+        ),
+        16 => forms::put_form(
+            b"# in a row of # fans cannot be; K is from 1 to #",
+            numbers,
+            out,
+            at,
+        ),
+        17 => forms::put_form(
+            b"weight # of # in all cannot be; K is from 1 to #",
+            numbers,
+            out,
+            at,
+        ),
+        _ => forms::put_form(
+            b"its fans have no weight; give them some, K from 1 to their sum and a second number of 0",
+            numbers,
+            out,
+            at,
+        ),
     }
 }
 
-// The refusal's number, what it means and what to do.
-pub fn put_advice(number: u64, out: &mut [u8], at: usize) -> usize
+// Of a rule with two.
+fn put_two(why: Why, out: &mut [u8], at: usize) -> usize
+    requires row { ⌜ (19 ≤ why .row) × (why .row < 25) ⌝ }
+    requires place { ⌜ at ≤ length (now out) ⌝ }
+    ensures { λ r. ⌜ PutText (whyText why) whyRoom (now (out .entry)) at (now (out .exit)) r ⌝ }
+{
+    let numbers = numbers_of(why);
+    let row = why.row;
+    match row {
+        19 => forms::put_form(
+            b"# to # dead of # fans cannot be; the first is at most the second, and the second at most #",
+            numbers,
+            out,
+            at,
+        ),
+        20 => forms::put_form(
+            b"# in # cannot be; K is 2 and R from 2 to 64",
+            numbers,
+            out,
+            at,
+        ),
+        21 => forms::put_form(
+            b"# in # cannot be, K is 2; needs # of any # says it",
+            numbers,
+            out,
+            at,
+        ),
+        22 => forms::put_form(
+            b"# in # round of # fans cannot be; K is 2 and R from 2 to #",
+            numbers,
+            out,
+            at,
+        ),
+        23 => forms::put_form(
+            b"# in # round of one fan cannot be; let the stretch have 2 or more",
+            numbers,
+            out,
+            at,
+        ),
+        _ => forms::put_form(
+            b"needs # of any # among # fans cannot be; R is at most # and at most 10, K from 1 to R",
+            numbers,
+            out,
+            at,
+        ),
+    }
+}
+
+// Puts why something is refused, and what to do about it.
+pub fn put_why(why: Why, out: &mut [u8], at: usize) -> usize
     requires { ⌜ at ≤ length (now out) ⌝ }
-    ensures { λ r. ⌜ Within r (now (out .exit)) ⌝ }
+    ensures { λ r. ⌜ PutText (whyText why) whyRoom (now (out .entry)) at (now (out .exit)) r ⌝ }
+{
+    if why.row < 9 {
+        return put_file(why, out, at);
+    }
+    if why.row < 14 {
+        return put_system(why, out, at);
+    }
+    if why.row < 19 {
+        return put_one(why, out, at);
+    }
+    if why.row < 25 {
+        return put_two(why, out, at);
+    }
+    at
+}
+
+// The same as a paragraph of a page, behind the refusal's number.
+pub fn put_paragraph(number: u64, why: Why, out: &mut [u8], at: usize) -> usize
+    requires { ⌜ at ≤ length (now out) ⌝ }
+    ensures { λ r. ⌜ r ≤ length (now (out .exit)) ⌝ }
 {
     let numbers = [number, 0, 0, 0, 0, 0];
-    let refused = forms::put_form(b"<p><b>refused #.</b> ", numbers, out, at);
-    let why = put_either(number, out, refused);
-    text::put(out, why, b"</p>\n")
-}
-
-// Of a system or of a file.
-fn put_either(number: u64, out: &mut [u8], at: usize) -> usize
-    requires { ⌜ at ≤ length (now out) ⌝ }
-    ensures { λ r. ⌜ Within r (now (out .exit)) ⌝ }
-{
-    if of_system(number) {
-        return put_system_advice(number, out, at);
-    }
-    put_file_advice(number, out, at)
+    let refused = forms::put_form(b"<p><b>refused #:</b> ", numbers, out, at);
+    let words = put_why(why, out, refused);
+    text::put(out, words, b"</p>\n")
 }

@@ -13,7 +13,7 @@ use rules::kind;
 use rules::limit::CELLS;
 
 // Refusal 3.
-fn stretch_out(a: u64, b: u64, n: u64) -> bool
+pub fn stretch_out(a: u64, b: u64, n: u64) -> bool
     ensures { λ r. ⌜ r ≡ badStretch a b n ⌝ }
 {
     if a == 0 {

@@ -106,7 +106,10 @@ fn put_rating(
 {
     match rating {
         Rating::Range { low, high } => put_answer(file, head, s, shape, low, high, out, at),
-        Rating::Refused(refused) => advice::put_advice(refused, out, at),
+        Rating::Refused(refused) => {
+            let why = advice::system::system_why(file, head, s, refused);
+            advice::put_paragraph(refused, why, out, at)
+        }
     }
 }
 

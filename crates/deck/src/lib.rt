@@ -127,7 +127,7 @@ fn lists_elsewhere(bytes: &[u8], head: Head) -> bool
 }
 
 // 13: an offset or the file's length differs from the layout.
-fn bad_layout(bytes: &[u8], head: Head) -> bool
+pub fn bad_layout(bytes: &[u8], head: Head) -> bool
     requires { ⌜ Given (now bytes) head ⌝ }
     ensures { λ r. ⌜ r ≡ badLayout (now (bytes .entry)) ⌝ }
 {

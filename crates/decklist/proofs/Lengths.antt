@@ -7,6 +7,8 @@ use Rattle.rules.specs.declared.Rating.{Rating}
 use Rattle.rules.specs.declared.Rating.the-variants.{Range, Refused}
 use Rattle.text.proofs.Digits.{decimal-short}
 use Rattle.text.specs.Decimal.{text}
+use Rattle.advice.specs.declared.why.Why.{Why}
+use Rattle.printing.proofs.Lined.{worded-short}
 use Rattle.percent.specs.Percent.{rangeText}
 use Rattle.percent.proofs.Digits.{range-short}
 use Rattle.decklist.specs.Lines.{endText, endRoom, ratingText, ratingRoom, lineText, lineRoom, headText, headRoom}
@@ -19,10 +21,10 @@ end-short false u low high = omega arith
 end-short true u low high =
     omega (arith, length-append (rangeText u low high) (text "\n"), range-short u low high)
 
-rating-short : (percent : Bool) (u : ℕ) (r : Rating) → length (ratingText percent u r) ≤ ratingRoom
-rating-short percent u (Range low high) =
+rating-short : (percent words : Bool) (u : ℕ) (why : ℕ → Why) (r : Rating) → length (ratingText percent words u why r) ≤ ratingRoom
+rating-short percent words u why (Range low high) =
     simp length-append (omega (arith, decimal-short low, decimal-short high, end-short percent u low high))
-rating-short percent u (Refused number) = simp length-append (omega (arith, decimal-short number))
+rating-short percent words u why (Refused number) = omega (arith, worded-short words (why number) number)
 
-pub line-short : (percent : Bool) (u s : ℕ) (r : Rating) → length (lineText percent u s r) ≤ lineRoom
-line-short percent u s r = simp length-append (omega (arith, decimal-short s, rating-short percent u r))
+pub line-short : (percent words : Bool) (u s : ℕ) (why : ℕ → Why) (r : Rating) → length (lineText percent words u s why r) ≤ lineRoom
+line-short percent words u s why r = simp length-append (omega (arith, decimal-short s, rating-short percent words u why r))

@@ -8,6 +8,8 @@ use shell::starting;
 
 const PERCENT: usize = 0;
 
+const WORDS: usize = 1;
+
 // Lists the file that is asked for; nothing is listed where it cannot be read.
 fn list(asked: Asked) -> i32
     ensures { λ r. ⌜ Status r ⌝ }
@@ -18,8 +20,9 @@ fn list(asked: Asked) -> i32
         return shell::FAILED;
     }
     let percent = asked.given[PERCENT] != 0;
+    let words = asked.given[WORDS] != 0;
     let mut out = [0u8; lines::OUTPUT];
-    let end = lines::list_front(percent, &input, front.filled, &mut out);
+    let end = lines::list_front(percent, words, &input, front.filled, &mut out);
     starting::print(
         b"decklist",
         &out[..end],
@@ -31,13 +34,13 @@ fn list(asked: Asked) -> i32
 pub fn run() -> i32
     ensures { λ r. ⌜ Status r ⌝ }
 {
-    let asked = starting::hear_all(b"--percent   ", 1);
+    let asked = starting::hear_all(b"--percent   --words     ", 1);
     let task = asked.task;
     match task {
         options::WORK => list(asked),
         options::HELP => starting::print(
             b"decklist",
-            b"usage: decklist [--percent] [FILE]\n       decklist --help\n       decklist --version\n",
+            b"usage: decklist [--percent] [--words] [FILE]\n       decklist --help\n       decklist --version\n",
             false,
         ),
         options::VERSION => starting::print_version(b"decklist"),

@@ -56,7 +56,7 @@ fn draw_file(file: &[u8], head: Head, place: usize) -> i32
 }
 
 // Says that a file is refused: by a page of its own, or in a line where the page's file stays as it was.
-fn tell_refused(refusal: u64, place: usize) -> i32
+fn tell_refused(refusal: u64, file: &[u8], place: usize) -> i32
     ensures { λ r. ⌜ Status r ⌝ }
 {
     if place != 0 {
@@ -66,7 +66,7 @@ fn tell_refused(refusal: u64, place: usize) -> i32
         return shell::REFUSED;
     }
     let mut out = [0u8; PAGE];
-    let end = page::put_refused(refusal, &mut out);
+    let end = page::put_refused(refusal, file, &mut out);
     starting::print(b"deckpage", &out[..end], true)
 }
 
@@ -76,7 +76,7 @@ fn draw_front(file: &[u8], place: usize) -> i32
 {
     let opened = deck::open(file);
     if opened.refusal != 0 {
-        return tell_refused(opened.refusal, place);
+        return tell_refused(opened.refusal, file, place);
     }
     let head = opened.head;
     draw_file(file, head, place)

@@ -1,2 +1,3 @@
--- The bound that what is put keeps.
+-- Forms filled in, and the bound that what is put keeps.
 pub mod Within
+pub mod Form

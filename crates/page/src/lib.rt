@@ -106,7 +106,7 @@ pub fn put_end(out: &mut [u8], at: usize) -> usize
 }
 
 // The page of a refused file.
-pub fn put_refused(number: u64, out: &mut [u8]) -> usize
+pub fn put_refused(number: u64, file: &[u8], out: &mut [u8]) -> usize
     ensures { λ r. ⌜ Within r (now (out .exit)) ⌝ }
 {
     let start = put_start(out);
@@ -115,7 +115,8 @@ pub fn put_refused(number: u64, out: &mut [u8]) -> usize
         start,
         b"<title>Deck file refused</title>\n</head>\n<body>\n<main>\n<section class='bad'>\n<h1>The deck file is refused</h1>\n",
     );
-    let why = advice::put_advice(number, out, body);
-    let section = text::put(out, why, b"</section>\n");
+    let why = advice::file::file_why(file);
+    let told = advice::put_paragraph(number, why, out, body);
+    let section = text::put(out, told, b"</section>\n");
     put_end(out, section)
 }

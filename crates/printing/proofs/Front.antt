@@ -1,7 +1,7 @@
 -- Input longer than any sound file, 812 bytes, is never cut into a sound one: a front of 813 bytes or more has the whole's header and is no file
 -- either, so both are refused, and alike. A buffer that takes more than 812 bytes can be cut from no input that matters. Assumes nothing.
 use mathlib.Core.Path.{_≡_, refl, sym, ap, _∙_}
-use mathlib.Core.Bool.{Bool, true, false, not, _&&_, true≢false}
+use mathlib.Core.Bool.{Bool, true, false, cond, not, _&&_, true≢false}
 use mathlib.Core.List.{List}
 use Prim.Native.Nat.{ℕ, _≤_, _<_}
 use native.Mathlib.Decide.{decLe}
@@ -10,15 +10,26 @@ use lib.Dec.{eqb}
 use lib.ListN.{length, take}
 use lib.Seq.{length-take-le, take-all}
 use borrow.Author.Tests.{le-ltb, ne-eqb, not-false}
-use Rattle.rules.specs.Refusal.{badSize}
-use Rattle.rules.specs.File.{versionField, zeroField, fansField, countField, survivalField, weightsField, systemsField, boardCountField, shortestHeader, headerLength, mostFans, mostSystems, survivalOffset, weightsOffset, systemsOffset, fileLength, numberAt, versionIn, fansIn, countIn, boardCountIn, boardsElsewhere, badLayout, badBoardsIn, fileRefusal}
+use Rattle.rules.specs.Below.{within}
+use Rattle.rules.specs.Refusal.{badVersion, badSize, badBoards}
+use Rattle.rules.specs.File.{versionField, zeroField, fansField, countField, survivalField, weightsField, systemsField, boardCountField, shortestHeader, headerLength, mostFans, mostSystems, survivalOffset, weightsOffset, systemsOffset, fileLength, numberAt, versionIn, fansIn, countIn, boardCountIn, boardsElsewhere, badLayout, badBoardsIn, badSystems, shortHeader, lengthIn, fileRefusal}
 use Rattle.rules.proofs.EachKind.{within-true}
 use Rattle.rules.proofs.Accepted.{first-same}
 use Rattle.ending.specs.Ending.{longest}
 use Rattle.layout.proofs.Versions.{header-bounds, fans-bound, without-boards, few-boards}
 use Rattle.deck.proofs.Sound.{sound, sound-few}
 use Rattle.ending.proofs.Asking.{same-number}
+use Rattle.advice.specs.Words.{because}
+use Rattle.advice.specs.File.{laidWhy, countsWhy, headerWhy, fileWhy}
 use Rattle.printing.specs.Front.{Front, Fronted}
+
+-- of two choices: by tests that both fail, and by tests that are the same
+past : {A : Type 0} (s t : Bool) (x y x' y' : A) → s ≡ false → t ≡ false → y ≡ y' → cond s x y ≡ cond t x' y'
+past s t x y x' y' a b e = rw (a, b) e
+
+either : {A : Type 0} (s t : Bool) (x y x' y' : A) → s ≡ t → x ≡ x' → (s ≡ false → y ≡ y') → cond s x y ≡ cond t x' y'
+either true t x y x' y' e a b = a ∙ ap (λ u. cond u x' y') e
+either false t x y x' y' e a b = b refl ∙ ap (λ u. cond u x' y') e
 
 -- a length that differs is refused, whatever the offsets are
 long-layout : (bytes : List ℕ) → longest < length bytes → fansIn bytes ≤ mostFans → countIn bytes ≤ mostSystems → badBoardsIn bytes ≡ false → badLayout bytes ≡ true
@@ -46,12 +57,12 @@ long-refused bytes long none =
     let listed = fans-bound (versionIn bytes) (fansIn bytes) in
     omega arith
 
-module _ (bytes : List ℕ) (k : ℕ) (long : longest < k) (within : k ≤ length bytes) where
+module _ (bytes : List ℕ) (k : ℕ) (long : longest < k) (inside : k ≤ length bytes) where
   abbrev front : List ℕ
   front = take k bytes
 
   size : length front ≡ k
-  size = length-take-le k bytes within
+  size = length-take-le k bytes inside
 
   same-refusal : fileRefusal front ≡ fileRefusal bytes
   unfolding fileRefusal
@@ -74,6 +85,67 @@ module _ (bytes : List ℕ) (k : ℕ) (long : longest < k) (within : k ≤ lengt
       first-same 13 _ _ _ _ (laid ∙ sym (long-layout bytes (omega arith) (rw fans-same at n) (rw count-same at m) (sym boards-same ∙ counted)))
       (λ layout. absurd (true≢false (sym laid ∙ layout)))))))))
 
+  -- and for the same cause: what tells the causes apart stands in the header, and neither ends early
+  version-same : versionIn front ≡ versionIn bytes
+  version-same = same-number bytes k 2 versionField (omega arith)
+
+  fans-same : fansIn front ≡ fansIn bytes
+  fans-same = same-number bytes k 2 fansField (omega arith)
+
+  count-same : countIn front ≡ countIn bytes
+  count-same = same-number bytes k 2 countField (omega arith)
+
+  boards-same : boardCountIn front ≡ boardCountIn bytes
+  boards-same = rw (same-number bytes k 4 boardCountField (omega arith), version-same)
+
+  -- a file of a deck's counts ends before the longest does
+  ends-early : fansIn bytes ≤ mostFans → countIn bytes ≤ mostSystems → badBoardsIn bytes ≡ false → lengthIn bytes ≤ longest
+  ends-early fans systems counted =
+      let v = versionIn bytes in
+      let few = few-boards v (boardCountIn bytes) counted (without-boards v (numberAt 4 bytes boardCountField) 0) in
+      let header = header-bounds v in
+      let listed = fans-bound v (fansIn bytes) in
+      omega arith
+
+  laid-same : badSize (fansIn front) ≡ false → badSystems front ≡ false → badBoardsIn front ≡ false → laidWhy front ≡ laidWhy bytes
+  unfolding laidWhy
+  laid-same fans systems counted =
+      let n = within-true 1 (fansIn front) mostFans (not-false (within 1 (fansIn front) mostFans) fans) .1 in
+      let m = within-true 1 (countIn front) mostSystems (not-false (within 1 (countIn front) mostSystems) systems) .1 in
+      let n' = rw fans-same at n in
+      let m' = rw count-same at m in
+      let counted' : badBoardsIn bytes ≡ false = sym (λ i. badBoards (version-same i) (boards-same i)) ∙ counted in
+      let early = ends-early n' m' counted' in
+      let lengths : lengthIn front ≡ lengthIn bytes = λ i. fileLength (version-same i) (fans-same i) (boards-same i) (count-same i) in
+      past _ _ _ _ _ _ (le-ltb (length front) (lengthIn front) (omega (arith, size, early, lengths))) (le-ltb (length bytes) (lengthIn bytes) (omega (arith, early)))
+      (either _ _ _ _ _ _ (long-layout front (rw size long) n m counted ∙ sym (long-layout bytes (omega arith) n' m' counted')) refl
+      (λ none. ap (λ g. because 8 g 0 0 0) boards-same))
+
+  counts-same : countsWhy front ≡ countsWhy bytes
+  unfolding countsWhy
+  counts-same =
+      either _ _ _ _ _ _ (ap badSize fans-same) (ap (λ n. because 3 n 0 0 0) fans-same) (λ fans.
+      either _ _ _ _ _ _ (ap (λ m. not (within 1 m mostSystems)) count-same) (ap (λ m. because 4 m 0 0 0) count-same) (λ systems.
+      either _ _ _ _ _ _ (λ i. badBoards (version-same i) (boards-same i)) (ap (λ g. because 5 g 0 0 0) boards-same) (λ counted. laid-same fans systems counted)))
+
+  header-same : headerWhy front ≡ headerWhy bytes
+  unfolding headerWhy
+  header-same =
+      let zeros = same-number bytes k 2 zeroField (omega arith) in
+      let header = header-bounds (versionIn bytes) in
+      let lengths = ap headerLength version-same in
+      let whole : cond (shortHeader front) (because 0 (length front) (headerLength (versionIn front)) 0 0) (countsWhy front)
+      ≡ cond (shortHeader bytes) (because 0 (length bytes) (headerLength (versionIn bytes)) 0 0) (countsWhy bytes) =
+      past _ _ _ _ _ _ (le-ltb (length front) (headerLength (versionIn front)) (omega (arith, size, lengths))) (le-ltb (length bytes) (headerLength (versionIn bytes)) (omega arith))
+      counts-same in
+      λ i. cond (eqb (zeros i) 0) (whole i) (because 2 (zeros i) 0 0 0)
+
+  same-why : fileWhy front ≡ fileWhy bytes
+  unfolding fileWhy
+  same-why =
+      past _ _ _ _ _ _ (le-ltb (length front) shortestHeader (omega (arith, size))) (le-ltb (length bytes) shortestHeader (omega arith))
+      (either _ _ _ _ _ _ (ap badVersion version-same) (ap (λ v. because 1 v 0 0 0) version-same) (λ known. header-same))
+
   front-refused : fileRefusal front ≡ 0 → ⊥
   front-refused = long-refused front (rw size long)
 
@@ -92,6 +164,11 @@ module _ (buffer : List ℕ) (filled : ℕ) (long : longest < length buffer) whe
         elim (decLe (length input) (length buffer)) [
           | yes l ↦ ap fileRefusal (fits input front l)
           | no g ↦ ap fileRefusal (front .same) ∙ same-refusal input filled (omega (arith, front .most)) (omega (arith, front .most))
+        ];
+    why = λ input front.
+        elim (decLe (length input) (length buffer)) [
+          | yes l ↦ ap fileWhy (fits input front l)
+          | no g ↦ ap fileWhy (front .same) ∙ same-why input filled (omega (arith, front .most)) (omega (arith, front .most))
         ];
     whole = λ input front none.
         elim (decLe (length input) (length buffer)) [

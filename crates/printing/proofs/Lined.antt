@@ -1,5 +1,6 @@
 -- Lines put one after another into a buffer that has room for as many as there may be: how long they are at most, and how one more is added. Assumes nothing.
 use mathlib.Core.Path.{_≡_, refl}
+use mathlib.Core.Bool.{Bool, true, false}
 use mathlib.Core.List.{List}
 use Prim.Native.Nat.{ℕ, zero, suc, _+_, _*_, _≤_, _<_}
 use native.Mathlib.Omega.{arith}
@@ -8,7 +9,10 @@ use native.Mathlib.Nat.{mul-le-mul-left}
 use lib.ListN.{length, length-append}
 use Rattle.text.specs.Added.{Added}
 use Rattle.text.proofs.Adding.{none-added, added-more}
-use Rattle.printing.specs.Lines.{linesText}
+use Rattle.text.proofs.Digits.{decimal-short}
+use Rattle.advice.specs.declared.why.Why.{Why}
+use Rattle.advice.proofs.Worded.{why-short}
+use Rattle.printing.specs.Lines.{linesText, wordedText, wordedRoom}
 
 pub lines-short : (room k : ℕ) (line : ℕ → List ℕ) → ((i : ℕ) → length (line i) ≤ room) → length (linesText k line) ≤ room * k
 unfolding linesText
@@ -39,3 +43,8 @@ module _ {n : ℕ} {line : ℕ → List ℕ} {out₀ out : List ℕ} {at end k :
 
   pub all-lines : n ≤ k → Added (linesText n line) out₀ at out end
   all-lines h = let e : k ≡ n = omega (arith, l .passed) in rw e at (l .lines)
+
+-- how long the line of a refusal is behind its name
+pub worded-short : (words : Bool) (why : Why) (number : ℕ) → length (wordedText words why number) ≤ wordedRoom
+worded-short false why number = simp length-append (omega (arith, decimal-short number))
+worded-short true why number = simp length-append (omega (arith, decimal-short number, why-short why))

@@ -1,17 +1,19 @@
 -- What stands at the front of a buffer is what is printed for the whole input: the line of a refused file, or the lines of one that is not. Assumes nothing.
 use mathlib.Core.Path.{_≡_, sym, ap, _∙_}
-use mathlib.Core.List.{List}
+use mathlib.Core.Bool.{Bool}
+use mathlib.Core.List.{List, _++_}
 use Prim.Native.Nat.{ℕ, zero, suc}
 use native.Mathlib.Omega.{arith}
 use Rattle.rules.specs.File.{fileRefusal}
 use Rattle.rules.proofs.Unless.{unless-some, unless-none}
+use Rattle.text.specs.Decimal.{text}
 use Rattle.text.specs.Added.{Added}
 use Rattle.text.proofs.Adding.{added-counts}
 use Rattle.deck.specs.declared.Opened.{Opened}
 use Rattle.deck.specs.Outcome.{Opens}
 use Rattle.deck.proofs.Outcome.{opened-accepted}
-use Rattle.printing.specs.Lines.{fileText, printText}
-use Rattle.printing.specs.Front.{Front, Fronted, WholePrinted}
+use Rattle.printing.specs.Lines.{fileText, printText, wordedText, fileWorded, wordedPrint}
+use Rattle.printing.specs.Front.{Front, Fronted, WholePrinted, WholeWorded}
 
 -- by what opening a file answers
 module _ (body : List ℕ → List ℕ) {bytes : List ℕ} {r : Opened} (opens : Opens bytes r) {out after : List ℕ} {end : ℕ} where
@@ -39,6 +41,34 @@ module _ (body : List ℕ → List ℕ) {buffer : List ℕ} {filled : ℕ} {file
   whole-printed added = record {
     counts = added-counts added;
     stands = λ input front. added .stands ∙ same-text input front (fileRefusal file) (λ x. fileRefusal file);
+  }
+
+-- the same where words are asked for: what opening a file answers, and the whole input
+module _ (words : Bool) (body : List ℕ → List ℕ) {bytes : List ℕ} {r : Opened} (opens : Opens bytes r) {out after : List ℕ} {end : ℕ} where
+  pub refused-worded : (r .refusal ≡ 0 → ⊥) → Added (fileWorded words bytes (r .refusal)) out 0 after end → Added (wordedPrint words body bytes) out 0 after end
+  unfolding wordedPrint
+  refused-worded some added =
+      let e = opens .refusal in
+      rw (unless-some (fileRefusal bytes) (fileWorded words bytes) (body bytes) (λ none. some (e ∙ none)), ← e) added
+
+  pub body-worded : r .refusal ≡ 0 → Added (body bytes) out 0 after end → Added (wordedPrint words body bytes) out 0 after end
+  unfolding wordedPrint
+  body-worded none added = rw (unless-none (fileRefusal bytes) (fileWorded words bytes) (body bytes) (opened-accepted opens none)) added
+
+module _ (words : Bool) (body : List ℕ → List ℕ) {buffer : List ℕ} {filled : ℕ} {file : List ℕ} (is : Fronted buffer filled file) where
+  same-worded : (input : List ℕ) → Front input buffer filled → (r : ℕ) → fileRefusal file ≡ r → wordedPrint words body file ≡ wordedPrint words body input
+  unfolding wordedPrint
+  same-worded input front zero none = ap (wordedPrint words body) (is .whole input front none)
+  same-worded input front (suc r) e =
+      let same = is .refusal input front in
+      let some : fileRefusal file ≡ 0 → ⊥ = λ none. omega (arith, sym e ∙ none) in
+      unless-some (fileRefusal file) _ _ some ∙ (λ i. text "file" ++ wordedText words (is .why input front i) (same i))
+      ∙ sym (unless-some (fileRefusal input) _ _ (λ none. some (same ∙ none)))
+
+  pub whole-worded : {out after : List ℕ} {end : ℕ} → Added (wordedPrint words body file) out 0 after end → WholeWorded words body buffer filled after end
+  whole-worded added = record {
+    counts = added-counts added;
+    stands = λ input front. added .stands ∙ same-worded input front (fileRefusal file) (λ x. fileRefusal file);
   }
 
 -- and it is opened as the input

@@ -1,10 +1,12 @@
 // What the programs that print a deck file share: the file in a buffer that holds only the front of an input, and the
 // line of a refused one.
-ghost use Prim.Native.Nat.{_≤_};
+ghost use Prim.Native.Nat.{_+_, _≤_};
 ghost use lib.ListN.{length};
 ghost use Rattle.text.specs.Added.{Added};
-ghost use Rattle.printing.specs.Lines.{fileText, fileRoom};
+ghost use Rattle.text.specs.Decimal.{text};
+ghost use Rattle.printing.specs.Lines.{fileText, fileRoom, wordedText, wordedRoom, fileWorded};
 ghost use Rattle.printing.specs.Front.{Fronted, WholeRefused};
+use advice::why::Why;
 use text::lines;
 
 // The buffer for the input. No sound file has more than 812 bytes: what is cut from a longer input changes nothing.
@@ -36,4 +38,28 @@ pub fn put_refused_file(number: u64, out: &mut [u8]) -> usize
 {
     let end = text::put(out, 0, b"file");
     lines::put_refused(number, out, end)
+}
+
+// ` refused N`, where words are asked for what that means and what to do about it, and the line's end.
+pub fn put_worded(words: bool, why: Why, number: u64, out: &mut [u8], at: usize) -> usize
+    requires { ⌜ at + wordedRoom ≤ length (now out) ⌝ }
+    ensures { λ r. ⌜ Added (wordedText words why number) (now (out .entry)) at (now (out .exit)) r ⌝ }
+{
+    if !words {
+        return lines::put_refused(number, out, at);
+    }
+    let named = text::put_named(b" refused ", number, out, at);
+    let parted = text::put(out, named, b": ");
+    let end = advice::put_why(why, out, parted);
+    text::put(out, end, b"\n")
+}
+
+// A refused file's line, with words where they are asked for.
+pub fn put_worded_file(words: bool, file: &[u8], number: u64, out: &mut [u8]) -> usize
+    requires { ⌜ length (text "file") + wordedRoom ≤ length (now out) ⌝ }
+    ensures { λ r. ⌜ Added (fileWorded words (now (file .entry)) number) (now (out .entry)) 0 (now (out .exit)) r ⌝ }
+{
+    let why = advice::file::file_why(file);
+    let end = text::put(out, 0, b"file");
+    put_worded(words, why, number, out, end)
 }

@@ -17,8 +17,11 @@ put-answer-requires c κs =
 enum-known-rating-2 : tie.Need-enum-known-rating-2
 enum-known-rating-2 c = search needs
 
-put-advice-requires : tie.Need-put-advice-requires
-put-advice-requires c κs = search needs
+system-why-requires : tie.Need-system-why-requires
+system-why-requires c κs = search needs
+
+put-paragraph-requires : tie.Need-put-paragraph-requires
+put-paragraph-requires c κs = search needs
 
 same-length : tie.Need-same-length
 same-length c = search needs
@@ -39,7 +42,8 @@ put-rating-spec =
     enum-known-rating
     put-answer-requires
     enum-known-rating-2
-    put-advice-requires
+    system-why-requires
+    put-paragraph-requires
     same-length
     returns
     same-length-2

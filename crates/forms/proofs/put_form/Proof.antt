@@ -1,21 +1,21 @@
--- `put_form` meets its contract: what is put so far ends within the buffer, and no more marks are passed than bytes. The measure is what is left of the form.
+-- `put_form` meets its contract: after i turns the first i bytes of the form are filled in, as far as there is room. The measure is what is left of the form.
 -- Assumes nothing.
-use mathlib.Core.Path.{_≡_, refl}
-use Prim.Native.Nat.{_-_, _≤_}
+use Prim.Native.Nat.{_-_}
 use native.Mathlib.Omega.{arith}
 use lib.ListN.{length}
 use borrow.Author.Needs.{needs}
+use Rattle.forms.proofs.Filling.{Filled, none-filled, one-filled, all-filled}
 use Rattle.forms.proofs.put_form.Statement.{statement}
 use Rattle.forms.proofs.put_form.Tie as tie
 
 abbrev Inv-loop : tie.InvT-loop
-Inv-loop form numbers out₀ at end₀ k₀ i₀ out end k i = (i ≤ length form) × (k ≤ i) × (length out ≡ length out₀) × (end ≤ length out)
+Inv-loop form numbers out₀ at end₀ k₀ i₀ out end k i = Filled form numbers out₀ at out end k i
 
 abbrev μ-loop : tie.MeasureT-loop
 μ-loop form numbers out₀ at end₀ k₀ i₀ out end k i = length form - i
 
 loop-holds : tie.Need-loop-holds Inv-loop μ-loop
-loop-holds c = (omega arith, omega arith, refl, omega arith)
+loop-holds c = none-filled _ _ _ _ (c .before .before .pre)
 
 shared-slice-read-put-part : tie.Need-shared-slice-read-put-part Inv-loop μ-loop
 shared-slice-read-put-part c = search needs
@@ -27,22 +27,32 @@ shared-slice-read-next : tie.Need-shared-slice-read-next Inv-loop μ-loop
 shared-slice-read-next c = search needs
 
 next-requires : tie.Need-next-requires Inv-loop μ-loop
-next-requires c κs = (omega arith, omega arith)
+next-requires c κs =
+    let put = c .before .before .before in
+    let at-test = put .before .before .before in
+    let in-loop = at-test .before in
+    omega (arith, in-loop .loop .inv .few, in-loop .loop .inv .passed, at-test .loop-test .taken)
 
 add-i : tie.Need-add-i Inv-loop μ-loop
-add-i c = omega arith
+add-i c = search needs
 
 loop-less : tie.Need-loop-less Inv-loop μ-loop
-loop-less c = omega arith
+loop-less c =
+    let put = c .before .before .before .before in
+    let at-test = put .before .before .before in
+    omega (arith, at-test .loop-test .taken)
 
 loop-again : tie.Need-loop-again Inv-loop μ-loop
-loop-again c = (omega arith, omega arith, omega arith, omega arith)
+loop-again c =
+    let put = c .before .before .before .before in
+    let at-test = put .before .before .before in
+    rw (c .next .ensures) (one-filled (at-test .before .loop .inv) (at-test .loop-test .taken) (omega (arith, put .put-part .kept)) (put .put-part .ensures))
 
 same-length : tie.Need-same-length Inv-loop μ-loop
-same-length c = search needs
+same-length c = c .before .loop .inv .same
 
 returns : tie.Need-returns Inv-loop μ-loop
-returns c = search needs
+returns c = all-filled (c .before .loop .inv) (c .loop-test .left)
 
 pub put-form-spec : {M : Type 1} → statement M
 put-form-spec =

@@ -1,5 +1,5 @@
 -- `lines::list_front` meets its contract: what is printed for the front is printed for the input. Assumes nothing.
-use Rattle.printing.proofs.Printed.{whole-printed}
+use Rattle.printing.proofs.Printed.{whole-worded}
 use Rattle.decklist.specs.Lines.{listText}
 use borrow.Author.Needs.{needs}
 use Rattle.decklist.proofs.lines.list_front.Statement.{statement}
@@ -18,7 +18,7 @@ returns : tie.Need-returns
 returns c =
     let front = c .before .before .before .before in
     let start = front .before .before in
-    whole-printed (listText (start .args .percent)) (front .front-of .ensures) (c .before .before .put-file .ensures)
+    whole-worded (start .args .words) (listText (start .args .percent) (start .args .words)) (front .front-of .ensures) (c .before .before .put-file .ensures)
 
 pub list-front-spec : {M : Type 1} → statement M
 list-front-spec = tie.close (tie.spec front-of-requires put-file-requires same-length returns)

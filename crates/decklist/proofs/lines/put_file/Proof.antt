@@ -2,7 +2,7 @@
 use native.Mathlib.Omega.{arith}
 use Rattle.text.proofs.Adding.{added-more}
 use Rattle.deck.proofs.Outcome.{opened-headed}
-use Rattle.printing.proofs.Printed.{refused-printed, body-printed}
+use Rattle.printing.proofs.Printed.{refused-worded, body-worded}
 use Rattle.decklist.specs.Lines.{headText, listText}
 use Rattle.decklist.proofs.Lengths.{head-short}
 use borrow.Author.Needs.{needs}
@@ -12,8 +12,8 @@ use Rattle.decklist.proofs.lines.put_file.Tie as tie
 open-requires : tie.Need-open-requires
 open-requires c κs = search needs
 
-put-refused-file-requires : tie.Need-put-refused-file-requires
-put-refused-file-requires c κs = search needs
+put-worded-file-requires : tie.Need-put-worded-file-requires
+put-worded-file-requires c κs = search needs
 
 same-length : tie.Need-same-length
 same-length c = search needs
@@ -23,7 +23,7 @@ returns c =
     let at-test = c .before .before .before .before in
     let opened = at-test .before .before in
     let start = opened .before .before .before in
-    refused-printed (listText (start .args .percent)) (opened .«open» .ensures) (at-test .if1 .taken) (c .before .before .put-refused-file .ensures)
+    refused-worded (start .args .words) (listText (start .args .percent) (start .args .words)) (opened .«open» .ensures) (at-test .if1 .taken) (c .before .before .put-worded-file .ensures)
 
 put-head-requires : tie.Need-put-head-requires
 put-head-requires c κs = search needs
@@ -50,7 +50,7 @@ returns-2 c =
     let opened = at-test .before .before in
     let start = opened .before .before .before in
     let says = opened-headed (opened .«open» .ensures) (at-test .if1 .left) .says in
-    body-printed (listText (start .args .percent)) (opened .«open» .ensures) (at-test .if1 .left)
+    body-worded (start .args .words) (listText (start .args .percent) (start .args .words)) (opened .«open» .ensures) (at-test .if1 .left)
     (added-more (rw (says .fans, says .systems) at (headed .put-head .ensures)) (c .before .before .put-systems .ensures))
 
 pub put-file-spec : {M : Type 1} → statement M
@@ -58,7 +58,7 @@ put-file-spec =
     tie.close
     (tie.spec
     open-requires
-    put-refused-file-requires
+    put-worded-file-requires
     same-length
     returns
     put-head-requires

@@ -12,16 +12,12 @@ use Rattle.decklist.proofs.lines.put_system.Tie as tie
 rate-requires : tie.Need-rate-requires
 rate-requires c κs = search needs
 
-is-decimal-requires : tie.Need-is-decimal-requires
-is-decimal-requires c κs = search needs
-
 slice-aggregate-put-named : tie.Need-slice-aggregate-put-named
 slice-aggregate-put-named c = search needs
 
 add-put-named : tie.Need-add-put-named
 add-put-named c =
-    let last = c .before .before .before in
-    let start = last .before .before in
+    let start = c .before .before .before .before in
     omega (arith, start .pre .0 .place, few-systems (start .pre .0 .headed))
 
 put-named-requires : tie.Need-put-named-requires
@@ -30,11 +26,14 @@ put-named-requires c κs = search needs
 put-rating-requires : tie.Need-put-rating-requires
 put-rating-requires c κs =
     let named = c .before .before .before in
-    let told = named .before .before .before in
-    let start = told .before .before .before .before in
+    let rated = named .before .before .before in
+    let start = rated .before .before .before in
     let one = named-added (omega (arith, start .pre .1)) (named .put-named .ensures) in (
-      rw (told .before .rate .ensures) (answer-within (start .args .file .now) (start .args .s)),
-      omega (arith, start .pre .1, named .put-named .kept, named-reach (text "system ") (start .args .s + 1) one),
+      start .pre .0,
+      (
+        rw (rated .rate .ensures) (answer-within (start .args .file .now) (start .args .s)),
+        omega (arith, start .pre .1, named .put-named .kept, named-reach (text "system ") (start .args .s + 1) one),
+      ),
     )
 
 same-length : tie.Need-same-length
@@ -42,20 +41,18 @@ same-length c = search needs
 
 returns : tie.Need-returns
 returns c =
-    let last = c .before .before .before in
-    let named = last .before .before .before in
-    let told = named .before .before .before in
-    let start = told .before .before .before .before in
+    let last = c .before .before in
+    let named = last .before .before .before .before in
+    let rated = named .before .before .before in
+    let start = rated .before .before .before in
     let one = named-added (omega (arith, start .pre .1)) (named .put-named .ensures) in
-    let says = start .pre .0 .headed .says in
-    added-more one (rw (told .before .rate .ensures, told .is-decimal .ensures, says .version) at (c .before .before .put-rating .ensures))
+    added-more one (rw (rated .rate .ensures) at (last .put-rating .ensures))
 
 pub put-system-spec : {M : Type 1} → statement M
 put-system-spec =
     tie.close
     (tie.spec
     rate-requires
-    is-decimal-requires
     slice-aggregate-put-named
     add-put-named
     put-named-requires

@@ -8,16 +8,16 @@ use Rattle.rules.specs.File.{mostSystems, versionIn, answerIn}
 use Rattle.deck.proofs.Kept.{few-systems}
 use Rattle.printing.specs.Lines.{linesText}
 use Rattle.printing.proofs.Lined.{Lined, no-lines, room-left, one-more, all-lines}
-use Rattle.decklist.specs.Lines.{lineRoom, systemLine}
+use Rattle.decklist.specs.Lines.{lineRoom, whyIn, systemLine}
 use Rattle.decklist.proofs.Lengths.{line-short}
 use Rattle.decklist.proofs.lines.put_systems.Statement.{statement}
 use Rattle.decklist.proofs.lines.put_systems.Tie as tie
 
 abbrev Inv-loop : tie.InvT-loop
-Inv-loop percent file head out₀ at end₀ s₀ out end s = Lined (head .systems) (systemLine percent file) out₀ at out end s
+Inv-loop percent words file head out₀ at end₀ s₀ out end s = Lined (head .systems) (systemLine percent words file) out₀ at out end s
 
 abbrev μ-loop : tie.MeasureT-loop
-μ-loop percent file head out₀ at end₀ s₀ out end s = head .systems - s
+μ-loop percent words file head out₀ at end₀ s₀ out end s = head .systems - s
 
 loop-holds : tie.Need-loop-holds Inv-loop μ-loop
 loop-holds c = no-lines _ _ _ _
@@ -30,7 +30,7 @@ put-system-requires c κs =
     let headed = start .pre .0 in
     let u = unitOf (versionIn bytes) in (
       record { headed = headed; place = c .before .if1 .taken },
-      room-left (in-loop .loop .inv) lineRoom mostSystems (λ s. line-short (start .args .percent) u (s + 1) (answerIn bytes s)) (c .before .if1 .taken) (few-systems headed)
+      room-left (in-loop .loop .inv) lineRoom mostSystems (λ s. line-short (start .args .percent) (start .args .words) u (s + 1) (whyIn bytes s) (answerIn bytes s)) (c .before .if1 .taken) (few-systems headed)
           (start .pre .1),
     )
 

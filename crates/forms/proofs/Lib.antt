@@ -1,0 +1,2 @@
+-- The laws of forms.
+pub mod Filling
