@@ -2,28 +2,12 @@
 
 from typing import NamedTuple
 
+from causes import file_words, system_words
 from foambeetle import BOARDS_VERSION, UNITS, Refusal, deckworth_output, rate_system, read_deck
 from typed import rule_words
 
 NAMED = 5
 MILLIONTHS = 100 * 10 ** 6  # the whole, in millionths of a percent
-
-FILE_ADVICE = {
-    2: "It has no fans, or more than 64. Make it anew with 1 to 64 fans.",
-    10: "It ends before its header does. Send it again, or make it anew.",
-    11: "It is of no known version. See that it is a deck file, or make it anew.",
-    12: "It has no systems, or more than 32. Make it anew with 1 to 32 systems.",
-    13: "Its offsets or its length are wrong. Mend it with deckmend, or send it again.",
-    20: "It has no boards, or more than 4. Make it anew with 1 to 4 boards, or without boards.",
-    21: "A fan is on a board that is not there. Give the fan another board.",
-}
-SYSTEM_ADVICE = {
-    1: "There is no such kind of rule. Give it a kind from 1 to 8.",
-    3: "Its stretch is not on the deck. Let it run from a fan of the deck to one that does not come before it.",
-    4: "A fan of its stretch, or a board, has a survival number above the unit. Correct that number.",
-    5: "The weights of its fans add up to more than 120. Give them lighter weights.",
-    6: "The numbers of its rule are out of range for its fans. Correct the rule, or let the stretch have more fans.",
-}
 
 
 class Card(NamedTuple):
@@ -78,7 +62,7 @@ def card(deck, place, system, worths):
     answer = rate_system(deck, system)
     head = title(n, place, system)
     if isinstance(answer, Refusal):
-        return Card([head, f"refused {answer.number}. {SYSTEM_ADVICE[answer.number]}"], [])
+        return Card([head, f"refused {answer.number}: {system_words(deck, system, answer.number)}"], [])
     low, high = answer
     boards = len(deck.boards.survivals) if deck.version == BOARDS_VERSION else 0
     texts = [head, f"{percents(UNITS[deck.version], low, high)} low {low} high {high}", f"gap {high - low} of at most {system.b - system.a + boards}"]
@@ -101,7 +85,7 @@ def page_of(data):
     """The heading and the systems of a page; of a refused file the heading and what is said of it."""
     deck = read_deck(data)
     if isinstance(deck, Refusal):
-        return "The deck file is refused", [Card([f"refused {deck.number}. {FILE_ADVICE[deck.number]}"], [])]
+        return "The deck file is refused", [Card([f"refused {deck.number}: {file_words(data)}"], [])]
     n, m = len(deck.survivals), len(deck.systems)
     boards = [counted(len(deck.boards.survivals), "board")] if deck.version == BOARDS_VERSION else []
     heading = ", ".join((f"Deck of {counted(n, 'fan')}", *boards, counted(m, "system")))

@@ -35,7 +35,7 @@ forms =
     ∷ text "# in # cannot be; K is 2 and R from 2 to 64"
     ∷ text "# in # cannot be, K is 2; needs # of any # says it"
     ∷ text "# in # round of # fans cannot be; K is 2 and R from 2 to #"
-    ∷ text "# in # round of one fan cannot be; let the stretch have 2 or more"
+    ∷ text "# in # round of one fan cannot be; take more fans, K 2 and R from 2 to how many they are"
     ∷ text "needs # of any # among # fans cannot be; R is at most # and at most 10, K from 1 to R"
     ∷ []
 

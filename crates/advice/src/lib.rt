@@ -17,9 +17,9 @@ fn numbers_of(why: Why) -> [u64; forms::MARKS]
     [why.a, why.b, why.c, why.d, 0, 0]
 }
 
-// Of a file.
-fn put_file(why: Why, out: &mut [u8], at: usize) -> usize
-    requires row { ⌜ (why .row < 9) ⌝ }
+// Of a file's header, version and fans.
+fn put_start(why: Why, out: &mut [u8], at: usize) -> usize
+    requires row { ⌜ why .row < 4 ⌝ }
     requires place { ⌜ at ≤ length (now out) ⌝ }
     ensures { λ r. ⌜ PutText (whyText why) whyRoom (now (out .entry)) at (now (out .exit)) r ⌝ }
 {
@@ -44,12 +44,24 @@ fn put_file(why: Why, out: &mut [u8], at: usize) -> usize
             out,
             at,
         ),
-        3 => forms::put_form(
+        _ => forms::put_form(
             b"it has # fans, and a deck has 1 to 64; make it anew with deckmake",
             numbers,
             out,
             at,
         ),
+    }
+}
+
+// Of its other counts, and of its layout.
+fn put_counts(why: Why, out: &mut [u8], at: usize) -> usize
+    requires row { ⌜ (4 ≤ why .row) × (why .row < 9) ⌝ }
+    requires place { ⌜ at ≤ length (now out) ⌝ }
+    ensures { λ r. ⌜ PutText (whyText why) whyRoom (now (out .entry)) at (now (out .exit)) r ⌝ }
+{
+    let numbers = numbers_of(why);
+    let row = why.row;
+    match row {
         4 => forms::put_form(
             b"it has # systems, and a deck has 1 to 32; make it anew with deckmake",
             numbers,
@@ -196,7 +208,7 @@ fn put_two(why: Why, out: &mut [u8], at: usize) -> usize
             at,
         ),
         23 => forms::put_form(
-            b"# in # round of one fan cannot be; let the stretch have 2 or more",
+            b"# in # round of one fan cannot be; take more fans, K 2 and R from 2 to how many they are",
             numbers,
             out,
             at,
@@ -215,8 +227,11 @@ pub fn put_why(why: Why, out: &mut [u8], at: usize) -> usize
     requires { ⌜ at ≤ length (now out) ⌝ }
     ensures { λ r. ⌜ PutText (whyText why) whyRoom (now (out .entry)) at (now (out .exit)) r ⌝ }
 {
+    if why.row < 4 {
+        return put_start(why, out, at);
+    }
     if why.row < 9 {
-        return put_file(why, out, at);
+        return put_counts(why, out, at);
     }
     if why.row < 14 {
         return put_system(why, out, at);

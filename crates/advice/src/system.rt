@@ -50,7 +50,9 @@ fn rated_why(
     requires stretch { ⌜ badStretch (system .a) (system .b) (length (now survival)) ≡ false ⌝ }
     requires alike { ⌜ length (now weights) ≡ length (now survival) ⌝ }
     requires few { ⌜ (length (now survival) ≤ most) × (length (now switchboards) ≤ mostBoards) ⌝ }
-    ensures { λ r. ⌜ r ≡ ratedWhy version system number (now (survival .entry)) (now (weights .entry)) (now (switchboards .entry)) ⌝ }
+    ensures { λ r.
+        let weighed = now (weights .entry) in
+        ⌜ r ≡ ratedWhy version system number (now (survival .entry)) weighed (now (switchboards .entry)) ⌝ }
 {
     let from = system.a as usize - 1;
     let upto = system.b as usize;
@@ -77,7 +79,9 @@ fn lists_why(
 ) -> Why
     requires alike { ⌜ length (now weights) ≡ length (now survival) ⌝ }
     requires few { ⌜ (length (now survival) ≤ most) × (length (now switchboards) ≤ mostBoards) ⌝ }
-    ensures { λ r. ⌜ r ≡ whyOf version system number (now (survival .entry)) (now (weights .entry)) (now (switchboards .entry)) ⌝ }
+    ensures { λ r.
+        let weighed = now (weights .entry) in
+        ⌜ r ≡ whyOf version system number (now (survival .entry)) weighed (now (switchboards .entry)) ⌝ }
 {
     let n = survival.len() as u64;
     if number == refusal::KIND {

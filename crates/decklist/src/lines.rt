@@ -9,9 +9,10 @@ ghost use Rattle.rules.specs.Within.{WithinUnit};
 ghost use Rattle.deck.specs.Outcome.{Headed, Placed};
 ghost use Rattle.printing.specs.Lines.{wordedText, wordedRoom, wordedPrint};
 ghost use Rattle.printing.specs.Front.{WholeWorded};
-ghost use Rattle.decklist.specs.Lines.{endText, answerText, ratingText, whyIn, systemLine, systemsText};
-ghost use Rattle.decklist.specs.Lines.{headText, listText};
-ghost use Rattle.decklist.specs.Lines.{endRoom, answerRoom, ratingRoom, lineRoom, linesRoom, headRoom, outputRoom};
+ghost use Rattle.decklist.specs.Lines.{endText, answerText, ratingText, whyIn, systemLine};
+ghost use Rattle.decklist.specs.Lines.{systemsText, headText, listText};
+ghost use Rattle.decklist.specs.Lines.{endRoom, answerRoom, ratingRoom, lineRoom, linesRoom};
+ghost use Rattle.decklist.specs.Lines.{headRoom, outputRoom};
 use deck::Head;
 use printing::INPUT;
 use rules::Rating;
@@ -103,7 +104,9 @@ fn put_system(
 ) -> usize
     requires placed { ⌜ Placed (now file) head s ⌝ }
     requires room { ⌜ at + lineRoom ≤ length (now out) ⌝ }
-    ensures { λ r. ⌜ Added (systemLine percent words (now (file .entry)) s) (now (out .entry)) at (now (out .exit)) r ⌝ }
+    ensures { λ r.
+        let line = systemLine percent words (now (file .entry)) s in
+        ⌜ Added line (now (out .entry)) at (now (out .exit)) r ⌝ }
 {
     let rating = systems::rate(file, head, s);
     let end = text::put_named(b"system ", s as u64 + 1, out, at);

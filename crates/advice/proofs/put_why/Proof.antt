@@ -5,8 +5,8 @@ use borrow.Author.Needs.{needs}
 use Rattle.advice.proofs.put_why.Statement.{statement}
 use Rattle.advice.proofs.put_why.Tie as tie
 
-put-file-requires : tie.Need-put-file-requires
-put-file-requires c κs = search needs
+put-start-requires : tie.Need-put-start-requires
+put-start-requires c κs = search needs
 
 same-length : tie.Need-same-length
 same-length c = search needs
@@ -14,8 +14,8 @@ same-length c = search needs
 returns : tie.Need-returns
 returns c = search needs
 
-put-system-requires : tie.Need-put-system-requires
-put-system-requires c κs = search needs
+put-counts-requires : tie.Need-put-counts-requires
+put-counts-requires c κs = search needs
 
 same-length-2 : tie.Need-same-length-2
 same-length-2 c = search needs
@@ -23,8 +23,8 @@ same-length-2 c = search needs
 returns-2 : tie.Need-returns-2
 returns-2 c = search needs
 
-put-one-requires : tie.Need-put-one-requires
-put-one-requires c κs = search needs
+put-system-requires : tie.Need-put-system-requires
+put-system-requires c κs = search needs
 
 same-length-3 : tie.Need-same-length-3
 same-length-3 c = search needs
@@ -32,8 +32,8 @@ same-length-3 c = search needs
 returns-3 : tie.Need-returns-3
 returns-3 c = search needs
 
-put-two-requires : tie.Need-put-two-requires
-put-two-requires c κs = search needs
+put-one-requires : tie.Need-put-one-requires
+put-one-requires c κs = search needs
 
 same-length-4 : tie.Need-same-length-4
 same-length-4 c = search needs
@@ -41,27 +41,40 @@ same-length-4 c = search needs
 returns-4 : tie.Need-returns-4
 returns-4 c = search needs
 
+put-two-requires : tie.Need-put-two-requires
+put-two-requires c κs = search needs
+
+same-length-5 : tie.Need-same-length-5
+same-length-5 c = search needs
+
 returns-5 : tie.Need-returns-5
+returns-5 c = search needs
+
+returns-6 : tie.Need-returns-6
 unfolding forms
-returns-5 c =
-    let past19 = c .before .before .before .before in
-    let start = past19 .before .before .before .before .before in
-    none-worded _ _ (start .args .why) (c .if4 .left) (start .pre)
+returns-6 c =
+    let past14 = c .before .before .before .before in
+    let past4 = past14 .before .before .before .before in
+    let start = past4 .before .before .before in
+    none-worded _ _ (start .args .why) (c .if5 .left) (start .pre)
 
 pub put-why-spec : {M : Type 1} → statement M
 put-why-spec =
     tie.close
     (tie.spec
-    put-file-requires
+    put-start-requires
     same-length
     returns
-    put-system-requires
+    put-counts-requires
     same-length-2
     returns-2
-    put-one-requires
+    put-system-requires
     same-length-3
     returns-3
-    put-two-requires
+    put-one-requires
     same-length-4
     returns-4
-    returns-5)
+    put-two-requires
+    same-length-5
+    returns-5
+    returns-6)
