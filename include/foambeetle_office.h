@@ -50,6 +50,15 @@ uint64_t foambeetle_write(uint64_t version, const uint32_t *survival, size_t n, 
  * refusal's number where nothing is. */
 uint64_t foambeetle_chance(const uint8_t *file, size_t length, uint64_t system, double *ends);
 
+/* As foambeetle_rate (foambeetle.h): 10, 11 for a version not 1, 2 or 3, 2, 12, 20, 13, 21, then 14, then 1 and 3 to 6.
+ *
+ * The chance that a system of a deck file of any version, counted from 1, works, between two doubles: with u for the
+ * file's unit and low and high as foambeetle_rate has them, ends[0] is the largest double that is at most low / u, and
+ * ends[1] the smallest that is at least high / u. For version 1 they are those of foambeetle_chance. `file` may be null
+ * where `length` is 0, and `ends` has room for two doubles. The answer is 0 where they are written, and the refusal's
+ * number where nothing is. */
+uint64_t foambeetle_chance_between(const uint8_t *file, size_t length, uint64_t system, double *ends);
+
 /*  1  kind not 1..8
  *  2  number of fans 0 or above 64
  *  3  stretch: a = 0, b < a, or b above the number of fans
@@ -95,6 +104,15 @@ FOAMBEETLE_INLINE uint64_t foambeetle_chance_lent(const uint8_t *file, size_t le
     return foambeetle_chance(length ? file : &none, length, system, ends);
 }
 #define foambeetle_chance foambeetle_chance_lent
+
+FOAMBEETLE_INLINE uint64_t foambeetle_chance_between_lent(const uint8_t *file, size_t length, uint64_t system,
+                                                          double *ends)
+{
+    const uint8_t none = 0;
+
+    return foambeetle_chance_between(length ? file : &none, length, system, ends);
+}
+#define foambeetle_chance_between foambeetle_chance_between_lent
 
 FOAMBEETLE_INLINE uint64_t foambeetle_rate_doubles_lent(uint64_t kind, uint64_t first, uint64_t second,
                                                         const uint64_t *more, size_t pairs, uint64_t a, uint64_t b,

@@ -18,7 +18,7 @@ from common import (
     tools,
 )
 
-from doubles import bits_of, chance, planned
+from doubles import bits_of, chance, chance_between, planned
 from foambeetle import NO_BOARDS, UNIT, UNITS, Boards, Refusal, Rule, packed, rate, read_deck, system_numbers, unit_of_file, worth_of_file, write_deck
 
 LIBRARY = root / "target/lib"
@@ -95,7 +95,8 @@ def known(compiler, names):
 def empty_lists():
     """What tests/empty_test.c prints, by the second program: no file, no lists, then one fan and one system, with no room and with some."""
     one = [UNIT // 2], [0], NO_BOARDS, [1, 1, 0, 1, 1]
-    files = ("unit", unit_of_file(b"")), ("rate", rate(b"", 1)), ("worth", worth_of_file(b"", 1, 1).number), ("chance", chance(b"", 1).number), ("read", 1)
+    files = ("unit", unit_of_file(b"")), ("rate", rate(b"", 1)), ("worth", worth_of_file(b"", 1, 1).number), ("chance", chance(b"", 1).number)
+    files += ("chance_between", chance_between(b"", 1).number), ("read", 1)
     lists = [("write", write_deck(1, *typed, b"\0" * length)[0]) for typed, length in ((([], [], NO_BOARDS, []), 0), (one, 0), (one, 812))]
     rated = [("rate_doubles", packed(planned(Rule(1, 1, 0), 1, 1, chances, []))) for chances in ([], [bits_of(0.5)])]
     answers = [(call, packed(answer) if isinstance(answer, Refusal) else answer) for call, answer in (*files, *lists, *rated)]

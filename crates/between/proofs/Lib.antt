@@ -1,0 +1,2 @@
+-- The figures are parts of the file's unit, two outcomes of the call are one, and for version 1 it is request 10's.
+pub mod Outcome
