@@ -14,12 +14,14 @@ import sys
 from pathlib import Path
 
 from common import (
-    LIBRARIES, OFFICE, SAMPLES, SHIP, WRITER, build, compare, compare_example, compare_samples, decks, prototypes, ready, root, run, sample, static,
-    tools,
+    LIBRARIES, OFFICE, SAMPLES, SHIP, WRITER, build, compare, compare_example, compare_samples, decks, plus, printed, prototypes, rated_lines, ready, room,
+    root, run, sample, static, tools,
 )
 
 from doubles import bits_of, chance, chance_between, planned
-from foambeetle import NO_BOARDS, UNIT, UNITS, Boards, Refusal, Rule, packed, rate, read_deck, system_numbers, unit_of_file, worth_of_file, write_deck
+from foambeetle import (
+    NO_BOARDS, UNIT, UNITS, Boards, Refusal, Rule, decklist_output, packed, rate, read_deck, system_numbers, unit_of_file, worth_of_file, write_deck,
+)
 
 LIBRARY = root / "target/lib"
 NEEDED = {"memcpy", "memset"}
@@ -77,11 +79,6 @@ def built(name, library):
     yield "C++", [*starter(), build(source, f"{name}_plus", *HERE, f"-l{library}", compiler=plus(), standard="-std=c++17")]
 
 
-def plus():
-    """The compiler for C++ beside the one for C."""
-    return tools()[0].removesuffix("gcc") + "g++"
-
-
 def known(compiler, names):
     """The standard's name that a compiler knows, if it knows one."""
     for name in [names] if isinstance(names, str) else names:
@@ -125,6 +122,18 @@ def lent(library):
     wrong = [name for name in calls if not re.search(rf"^#define {name} {name}_lent$", text, re.M) or f" {name}(" not in test]
     print(f"{library}: calls without their function for empty lists, or not called with one: {wrong}")
     return not wrong
+
+
+def plus_sample():
+    """The sample of C++, which lends a vector: the sample decks, and an empty file."""
+    if shutil.which(plus()) is None:
+        print(f"skipped: samples/rate.cc, since there is no {plus()}")
+        return True
+    words = [*starter(), build(root / "samples/rate.cc", "rate_cc", "-pedantic", *HERE, f"-l{SHIP}", compiler=plus(), standard="-std=c++11")]
+    empty = room / "empty.deck"
+    empty.write_bytes(b"")
+    good = compare("an empty vector by rate.cc", [printed([*words, empty], b"").decode()], [decklist_output(b"")])
+    return good & compare_samples("C++, by rate.cc", words, rated_lines, by_name=True)
 
 
 def rated_by_ctypes(library, data, system):
@@ -187,6 +196,7 @@ def main():
             good &= compare_samples(f"{what}, by {name}", words, output, by_name=True)
     for what, words in built(WRITER, OFFICE):
         good &= compare_example(what, words)
+    good &= plus_sample()
     if NATIVE:
         good &= python_answers() & python_written()
     else:

@@ -48,6 +48,7 @@ TESTS = tuple(Test(*line) for line in (
     ("the second program checks itself", "python3 second/selfcheck.py", False),
     ("deckstate against the second program", "python3 tests/states.py"),
     ("the office's calls over doubles against the second program", "python3 tests/doubles.py"),
+    ("the Python package against the second program", "python3 tests/python.py"),
     ("what is installed runs, and goes again", "python3 tests/install.py"),
     ("the libraries link every way, and export their calls alone", "python3 tests/library.py"),
     ("the stored cases are the second program's", "tests/cases.sh", False),
