@@ -104,7 +104,7 @@ def parsed(data):
         return deck
     boards = deck.boards if deck.version == BOARDS_VERSION else Boards((), ())
     systems = tuple((*system.rule.numbers, system.a, system.b) for system in deck.systems)
-    return deck.version, tuple(deck.survivals), tuple(deck.weights), systems, tuple(boards.of_fans), tuple(boards.survivals)
+    return package.Deck(deck.version, deck.survivals, deck.weights, systems, boards.of_fans, boards.survivals)
 
 
 def decks_agree():

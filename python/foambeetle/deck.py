@@ -4,6 +4,7 @@ from __future__ import annotations
 
 import struct
 from collections.abc import Sequence
+from dataclasses import dataclass, fields
 from typing import NamedTuple
 
 from . import calls
@@ -22,9 +23,10 @@ class System(NamedTuple):
     b: int
 
 
-class Deck(NamedTuple):
+@dataclass(frozen=True)
+class Deck:
     """What a deck file holds. Survival numbers are parts of 2^30 in version 1 and of 10^9 in versions 2 and 3; version 3 has boards too: for each fan
-    the number of its board, 0 for none, and each board's own survival number. Any sequence of numbers will do; a parsed deck has tuples."""
+    the number of its board, 0 for none, and each board's own survival number. Any sequence will do; it is kept as a tuple."""
 
     version: int
     survival: Sequence[int]
@@ -32,6 +34,10 @@ class Deck(NamedTuple):
     systems: Sequence[System]
     boards: Sequence[int] = ()
     switchboards: Sequence[int] = ()
+
+    def __post_init__(self) -> None:
+        for field in fields(self)[1:]:
+            object.__setattr__(self, field.name, tuple(getattr(self, field.name)))
 
     @classmethod
     def parse(cls, file: bytes) -> Deck:
