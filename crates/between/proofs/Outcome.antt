@@ -1,4 +1,4 @@
--- The call's contract settles its outcome: a file's figures are parts of its unit, and of those there is one nearest double on either side. In version 1
+-- The call's contract settles its outcome: a file's figures are parts of its unit, and of those there is one nearest double below and one above. In version 1
 -- nothing lies between, and the outcome is that of request 10's call. Assumes nothing.
 use mathlib.Core.Path.{_≡_, refl, sym, ap, _∙_, subst}
 use mathlib.Core.Bool.{Bool, true, false, cond, not}

@@ -1,18 +1,17 @@
--- The exact chance lies between the two doubles of every answer: each is on its side of a figure, and the figures enclose the exact chance. Assumes nothing.
+-- The exact chance lies between the two doubles of every answer: each bounds a figure, and the figures enclose the exact chance. Assumes nothing.
 use mathlib.Core.Path.{_≡_, refl, sym, ap, _∙_}
 use mathlib.Core.Bool.{Bool, true, false, cond}
 use mathlib.Core.List.{List}
-use Prim.Native.Nat.{ℕ, zero, suc, _+_, _-_, _*_, _^_, _≤_, _<_}
+use Prim.Native.Nat.{ℕ, zero, suc, _-_, _*_, _^_, _≤_, _<_}
 use native.Mathlib.Nat.{le-trans, le-of-eq, mul-le-mul-right, mul-right-comm, mul-assoc, pow-suc}
 use native.Mathlib.Omega.{arith}
 use lib.ListN.{replicate}
 use Rattle.rules.specs.declared.Rating.{Rating}
 use Rattle.rules.specs.declared.Rating.the-variants as rating
-use Rattle.rules.specs.State.{unitOf}
-use Rattle.rules.specs.Asked.{Asked, unitIn, partsOf, exactOf, ThirdOf}
+use Rattle.rules.specs.Asked.{Asked, unitIn, partsOf, exactOf}
 use Rattle.rules.specs.Refusal.{cells}
 use Rattle.rules.specs.Answer.{figuresOf}
-use Rattle.rules.specs.File.{versionIn, badNumber, deckIn, systemOf, loadingOf}
+use Rattle.rules.specs.File.{badNumber, deckIn, systemOf, loadingOf}
 use Rattle.rules.specs.Doubles.{parts, own}
 use Rattle.rules.proofs.Accepted.{answered, figures-ratable, figures-third, stretch-length}
 use Rattle.doubles.specs.Floats.{bits}
@@ -59,8 +58,8 @@ figures-span q table low high e is t =
     let n = partsOf q in
     let one = power u n (some-parts q table low high is) in
     record {
-      above-low = rw one (spread (own (bits (e .low))) low u parts (u ^ (n - 1)) (exactOf q) (t .lower .side) (third .above-low));
-      below-high = rw one (gather (own (bits (e .high))) high u parts (u ^ (n - 1)) (exactOf q) (t .upper .side) (third .below-high));
+      above-low = rw one (spread (own (bits (e .low))) low u parts (u ^ (n - 1)) (exactOf q) (t .lower .bounds) (third .above-low));
+      below-high = rw one (gather (own (bits (e .high))) high u parts (u ^ (n - 1)) (exactOf q) (t .upper .bounds) (third .below-high));
     }
 
 pub enclosed-spans : {file : List ℕ} {system : ℕ} {e : Ends} → Enclosed file system (Range e) → Spans (askedIn file system) e

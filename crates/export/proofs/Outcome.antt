@@ -2,10 +2,9 @@
 -- call that promises one float of low and one of high. Assumes nothing.
 use mathlib.Core.Path.{_≡_, sym, ap, _∙_}
 use mathlib.Core.List.{List}
-use Prim.Native.Nat.{ℕ, _≤_}
+use Prim.Native.Nat.{ℕ}
 use Rattle.rules.specs.declared.Rating.{Rating}
 use Rattle.rules.specs.declared.Rating.the-variants as rating
-use Rattle.rules.specs.State.{S}
 use Rattle.rules.specs.Doubles.{exportOf}
 use Rattle.rules.proofs.Unless.{unless-by}
 use lib.Ieee.{Float}

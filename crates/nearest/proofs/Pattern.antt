@@ -1,17 +1,17 @@
 -- The 64 bits whose exponent's field and digits are added up spell the digits times a power of two, also where the digits carry into the field. Assumes
 -- nothing.
-use mathlib.Core.Path.{_≡_, refl, sym, ap, _∙_, subst}
-use mathlib.Core.Bool.{Bool, true, false, not}
+use mathlib.Core.Path.{_≡_, sym, ap, _∙_, subst}
+use mathlib.Core.Bool.{Bool, false, not}
 use mathlib.Core.Logic.{_⊎_, inl, inr}
-use Prim.Native.Nat.{ℕ, zero, suc, _+_, _-_, _*_, _/_, _%_, _^_, _≤_, _<_}
+use Prim.Native.Nat.{ℕ, suc, _+_, _-_, _*_, _/_, _%_, _^_, _≤_, _<_}
 use native.Mathlib.Nat.{mod-eq-of-lt, eq-or-lt-of-le, lt-of-le-of-lt, le-trans, pow-suc}
 use native.Mathlib.Omega.{arith}
 use borrow.Author.Tests.{lt-leb, le-ltb}
 use lib.Arith.{digits-div, digits-mod}
-use lib.Dec.{T, leb, ltb, lit<, lit≤}
-use lib.Ieee.{Float, binary64, fits, ofBits, toBits, nanBits, isNan}
-use lib.Ieee.Bits.{toBits-ofBits, ofBits-fits, nanBits-is, nanBits-above}
-use Rattle.rules.specs.Doubles.{parts, sign, exponent, fraction, spelt, own}
+use lib.Dec.{T, ltb, lit<, lit≤}
+use lib.Ieee.{binary64, ofBits, nanBits}
+use lib.Ieee.Bits.{toBits-ofBits, nanBits-is, nanBits-above}
+use Rattle.rules.specs.Doubles.{sign, exponent, fraction, spelt, own}
 use Rattle.doubles.specs.Floats.{bits}
 
 -- 2^52

@@ -1,10 +1,9 @@
 -- A number is doubled at most 1,022 times before it reaches the unit: its last field would be 2^1022 times as much. Assumes nothing.
 use mathlib.Core.Path.{_≡_, sym, ap, _∙_}
-use Prim.Native.Nat.{ℕ, zero, suc, _+_, _-_, _*_, _^_, _≤_, _<_}
+use Prim.Native.Nat.{ℕ, zero, suc, _-_, _*_, _^_, _≤_, _<_}
 use native.Mathlib.Nat.{le-trans, mul-le-mul-right, mul-one, le-of-eq, pow-suc}
 use native.Mathlib.Omega.{arith}
 use lib.Dec.{lit≤}
-use lib.Pow.{pow-pos}
 use Rattle.rules.specs.State.{S}
 
 -- one doubling: a power of two goes from the field to the number

@@ -7,15 +7,15 @@ use lib.Ieee.{Float, binary64, fits}
 use Rattle.rules.specs.Doubles.{parts, sign, own}
 use Rattle.doubles.specs.Floats.{bits}
 
--- v is on the side of w that is meant, w itself on both: below, or above where `up`
-abbrev pub Side : (up : Bool) (v w : ℕ) → Type 0
-Side false v w = v ≤ w
-Side true v w = w ≤ v
+-- v bounds w from below, or from above where `up`
+abbrev pub Bounds : (up : Bool) (v w : ℕ) → Type 0
+Bounds false v w = v ≤ w
+Bounds true v w = w ≤ v
 
--- a double without a sign, on that side of x / unit, and of any 64 bits that spell a value on that side none spells a nearer one; v parts of 2^1074
--- are at most x / unit where v times the unit is at most x times 2^1074
+-- a double without a sign that bounds x / unit, and of any 64 bits that spell a bound none spells a nearer one; v parts of 2^1074 are at most x / unit
+-- where v times the unit is at most x times 2^1074
 pub record Nearest (up : Bool) (unit x : ℕ) (r : Float) : Type 0 where
   pub double : T (fits binary64 r)
   pub signless : sign (bits r) ≡ false
-  pub side : Side up (own (bits r) * unit) (x * parts)
-  pub nearest : (b : ℕ) → Side up (own b * unit) (x * parts) → Side up (own b) (own (bits r))
+  pub bounds : Bounds up (own (bits r) * unit) (x * parts)
+  pub nearest : (b : ℕ) → Bounds up (own b * unit) (x * parts) → Bounds up (own b) (own (bits r))

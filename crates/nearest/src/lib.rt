@@ -6,8 +6,8 @@ ghost use Rattle.rules.specs.Figure.{rounded};
 ghost use Rattle.nearest.specs.Nearest.{Nearest};
 ghost use Rattle.nearest.specs.Raised.{Within, Raises, Scaled};
 
-// 2^26: the digits behind a double's first are worked out in two halves.
-const HALF: u64 = 67108864;
+// 2^26: the 52 digits behind a double's first are worked out by two divisions, each shifted so far.
+const SHIFT: u64 = 67108864;
 
 // 2^52: a double's first digit, and where its exponent's field begins.
 const FIRST: u64 = 4503599627370496;
@@ -40,9 +40,9 @@ fn digits(up: bool, unit: u64, near: u64) -> u64
     requires { ⌜ Scaled unit near ⌝ }
     ensures { λ r. ⌜ r ≡ rounded up unit (near * 2 ^ 52) ⌝ }
 {
-    let high = near * HALF;
-    let low = (high % unit) * HALF;
-    let whole = (high / unit) * HALF + low / unit;
+    let high = near * SHIFT;
+    let low = (high % unit) * SHIFT;
+    let whole = (high / unit) * SHIFT + low / unit;
     if up {
         if low % unit != 0 {
             return whole + 1;

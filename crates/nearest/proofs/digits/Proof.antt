@@ -1,12 +1,12 @@
--- `digits` divides in two halves, and rounds up by what is left. Assumes nothing.
-use mathlib.Core.Path.{_≡_, sym, ap, _∙_}
+-- `digits` divides in two goes, and rounds up by what is left. Assumes nothing.
+use mathlib.Core.Path.{sym, ap, _∙_}
 use mathlib.Core.Bool.{Bool}
-use Prim.Native.Nat.{ℕ, _+_, _*_, _/_, _%_, _^_, _≤_, _<_}
+use Prim.Native.Nat.{_*_, _^_}
 use native.Mathlib.Nat.{mod-lt}
 use native.Mathlib.Omega.{arith}
 use borrow.Author.Needs.{needs}
 use Rattle.rules.specs.Figure.{rounded}
-use Rattle.nearest.proofs.Halves.{half, down, up-more, up-same, whole-small}
+use Rattle.nearest.proofs.Shifting.{shift, down, up-more, up-same, whole-small}
 use Rattle.nearest.proofs.digits.Statement.{statement}
 use Rattle.nearest.proofs.digits.Tie as tie
 
@@ -17,7 +17,7 @@ rem-low : tie.Need-rem-low
 rem-low c = search needs
 
 mul-low : tie.Need-mul-low
-mul-low c = omega (arith, mod-lt (c .args .near * half) (c .pre .some), c .pre .most)
+mul-low c = omega (arith, mod-lt (c .args .near * shift) (c .pre .some), c .pre .most)
 
 div-whole : tie.Need-div-whole
 div-whole c = search needs

@@ -1,9 +1,8 @@
 -- `nearest` puts the digits behind the exponent's field. Assumes nothing.
 use mathlib.Core.Path.{_≡_, sym, subst}
-use Prim.Native.Nat.{ℕ, _+_, _*_, _^_, _≤_, _<_}
+use Prim.Native.Nat.{ℕ, _<_}
 use native.Mathlib.Omega.{arith}
-use borrow.Author.Needs.{needs}
-use lib.Ieee.{Float, binary64, ofBits}
+use lib.Ieee.{binary64, ofBits}
 use Rattle.nearest.specs.Nearest.{Nearest}
 use Rattle.nearest.proofs.Pattern.{Placed, under, defined}
 use Rattle.nearest.proofs.Values.{placed, nearest-of, nothing}

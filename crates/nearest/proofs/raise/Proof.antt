@@ -1,9 +1,8 @@
 -- `raise` keeps the number times its power of two, and ends at the first that is no less than the unit. Assumes nothing.
 use mathlib.Core.Path.{_≡_, refl}
-use Prim.Native.Nat.{ℕ, _+_, _-_, _*_, _^_, _≤_, _<_}
+use Prim.Native.Nat.{ℕ, _-_, _*_, _^_, _≤_, _<_}
 use native.Mathlib.Nat.{lt-of-lt-of-le}
 use native.Mathlib.Omega.{arith}
-use borrow.Author.Needs.{needs}
 use Rattle.nearest.proofs.Raising.{doubled, left}
 use Rattle.nearest.proofs.raise.Statement.{statement}
 use Rattle.nearest.proofs.raise.Tie as tie
