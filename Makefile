@@ -25,9 +25,13 @@ archives := $(libraries:%=target/lib/lib%.a)
 shared := $(libraries:%=target/lib/lib%.so.$(version))
 headers := $(libraries:%=target/lib/%.h)
 pages := $(wildcard man/*.[0-9])
+# the Python package, below the libraries, where it looks for them first
+package := $(wildcard python/foambeetle/*.py) python/foambeetle/py.typed
+package_place := lib/foambeetle/python/foambeetle
 place = $(DESTDIR)$(PREFIX)
 library_files = include/$(1).h lib/lib$(1).a lib/lib$(1).so lib/lib$(1).so.$(major) lib/lib$(1).so.$(version) lib/pkgconfig/$(1).pc
 installed := $(programs:%=bin/%) $(foreach name,$(libraries),$(call library_files,$(name))) \
+    $(package:python/foambeetle/%=$(package_place)/%) \
     $(foreach page,$(pages),share/man/man$(subst .,,$(suffix $(page)))/$(notdir $(page)))
 progress := tests/progress.py target/build.log
 # rt waits for a whole batch before it begins the next: twice as many crates at a time as there are processors leave none idle
@@ -67,17 +71,20 @@ define put_beside
 
 endef
 
-install: lib $(linked) ## programs, libraries, headers and man pages to PREFIX (/usr/local), below DESTDIR where it is given
+install: lib $(linked) ## programs, libraries, headers, the Python package and man pages to PREFIX (/usr/local), below DESTDIR where it is given
 	@mkdir -p $(foreach folder,$(sort $(dir $(installed))),"$(place)/$(folder)")
 	@install -m 755 $(linked) "$(place)/bin"
 	@install -m 644 $(headers) "$(place)/include"
 	@install -m 644 $(archives) $(shared) "$(place)/lib"
 	$(foreach name,$(libraries),$(call put_beside,$(name)))
+	@install -m 644 $(package) "$(place)/$(package_place)"
 	@for page in $(pages); do install -m 644 "$$page" "$(place)/share/man/man$${page##*.}/" || exit 1; done
 	@echo "installed below $(place): $(installed)"
 
 uninstall: ## takes away what install put there
 	@rm -f $(foreach file,$(installed),"$(place)/$(file)")
+	@rm -rf "$(place)/$(package_place)"
+	@rmdir "$(place)/lib/foambeetle/python" "$(place)/lib/foambeetle" 2>/dev/null || true
 
 bench: ## the cost of a rating beside peers, and of a worth (docs/BENCH.md); no part of the tests
 	@bench/run

@@ -42,6 +42,15 @@
 #include <stddef.h>
 #include <stdint.h>
 
+/* A function that is defined here: C89 has no word for an inline one, and most of its compilers know this one. */
+#if defined(__cplusplus) || (defined(__STDC_VERSION__) && __STDC_VERSION__ >= 199901L)
+#define FOAMBEETLE_INLINE static inline
+#elif defined(__GNUC__)
+#define FOAMBEETLE_INLINE static __inline__
+#else
+#define FOAMBEETLE_INLINE static
+#endif
+
 #ifdef __cplusplus
 extern "C" {
 #endif
@@ -53,8 +62,8 @@ extern "C" {
 #define FOAMBEETLE_UNIT 1073741824u
 #define FOAMBEETLE_DECIMAL_UNIT 1000000000u
 
-/* The unit of the deck file in `length` bytes from `file` on, one of these two; 0 for a file that is refused. `file` is
- * not null, also where `length` is 0. */
+/* The unit of the deck file in `length` bytes from `file` on, one of these two; 0 for a file that is refused. `file` may
+ * be null where `length` is 0. */
 uint64_t foambeetle_unit(const uint8_t *file, size_t length);
 
 /* The figures of a system, counted from 1, of the same file. The answer is low times 2^32 plus high, or, for a refusal,
@@ -62,25 +71,25 @@ uint64_t foambeetle_unit(const uint8_t *file, size_t length);
 uint64_t foambeetle_rate(const uint8_t *file, size_t length, uint64_t system);
 
 /* Is the answer a refusal? 1 or 0. */
-static inline int foambeetle_refused(uint64_t answer)
+FOAMBEETLE_INLINE int foambeetle_refused(uint64_t answer)
 {
     return (answer >> 32) == 0xffffffffu;
 }
 
 /* The refusal's number; 0 for an answer that is none. */
-static inline uint32_t foambeetle_refusal(uint64_t answer)
+FOAMBEETLE_INLINE uint32_t foambeetle_refusal(uint64_t answer)
 {
     return foambeetle_refused(answer) ? (uint32_t)(answer & 0xffffffffu) : 0u;
 }
 
 /* Low, of an answer that is no refusal: 0 to the file's unit. */
-static inline uint32_t foambeetle_low(uint64_t answer)
+FOAMBEETLE_INLINE uint32_t foambeetle_low(uint64_t answer)
 {
     return (uint32_t)(answer >> 32);
 }
 
 /* High, likewise. */
-static inline uint32_t foambeetle_high(uint64_t answer)
+FOAMBEETLE_INLINE uint32_t foambeetle_high(uint64_t answer)
 {
     return (uint32_t)(answer & 0xffffffffu);
 }
@@ -91,6 +100,33 @@ static inline uint32_t foambeetle_high(uint64_t answer)
  * 2(n + g) - 2 behind g boards. A fan that is sure to work may still lose its board. The answer is 0 where they are written,
  * and the refusal's number where nothing is. `ends` has room for two numbers. */
 uint64_t foambeetle_worth(const uint8_t *file, size_t length, uint64_t system, uint64_t fan, int64_t *ends);
+
+/* The libraries themselves take no null pointer. A program that includes this header calls them by the functions below,
+ * which lend an address of their own where the length is 0. */
+FOAMBEETLE_INLINE uint64_t foambeetle_unit_lent(const uint8_t *file, size_t length)
+{
+    const uint8_t none = 0;
+
+    return foambeetle_unit(length ? file : &none, length);
+}
+#define foambeetle_unit foambeetle_unit_lent
+
+FOAMBEETLE_INLINE uint64_t foambeetle_rate_lent(const uint8_t *file, size_t length, uint64_t system)
+{
+    const uint8_t none = 0;
+
+    return foambeetle_rate(length ? file : &none, length, system);
+}
+#define foambeetle_rate foambeetle_rate_lent
+
+FOAMBEETLE_INLINE uint64_t foambeetle_worth_lent(const uint8_t *file, size_t length, uint64_t system, uint64_t fan,
+                                                 int64_t *ends)
+{
+    const uint8_t none = 0;
+
+    return foambeetle_worth(length ? file : &none, length, system, fan, ends);
+}
+#define foambeetle_worth foambeetle_worth_lent
 
 #ifdef __cplusplus
 }

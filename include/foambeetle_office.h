@@ -34,7 +34,7 @@ extern "C" {
  * versions 2 and 3. `w` and `s` are how many numbers `weights` and `systems` have: n, and five for each system, its kind,
  * first, second, and the first and last fan of its stretch. In version 3 `boards` has `b` numbers, n of them, each fan's
  * board, 0 for none, and `switchboards` the survival numbers of the `g` boards; versions 1 and 2 read neither list nor
- * its length. No pointer is null, also where its list is empty, and the room overlaps no list. The answer is the file's
+ * its length. A pointer may be null where its length is 0, and the room overlaps no list. The answer is the file's
  * length, or, for a refusal, (2^32 - 1) times 2^32 plus its number; then nothing is written. */
 uint64_t foambeetle_write(uint64_t version, const uint32_t *survival, size_t n, const uint16_t *weights, size_t w,
                           const uint8_t *boards, size_t b, const uint32_t *switchboards, size_t g,
@@ -46,9 +46,18 @@ uint64_t foambeetle_write(uint64_t version, const uint32_t *survival, size_t n, 
  *
  * The chance that a system of a version 1 deck file, counted from 1, works: it lies between ends[0] and ends[1], which
  * are low and high of foambeetle_rate, each divided by 2^30. That is exact: ends[0] * 1073741824.0 is low again. `file`
- * is not null, also where `length` is 0, and `ends` has room for two doubles. The answer is 0 where they are written, and
- * the refusal's number where nothing is. */
+ * may be null where `length` is 0, and `ends` has room for two doubles. The answer is 0 where they are written, and the
+ * refusal's number where nothing is. */
 uint64_t foambeetle_chance(const uint8_t *file, size_t length, uint64_t system, double *ends);
+
+/* As foambeetle_rate (foambeetle.h): 10, 11 for a version not 1, 2 or 3, 2, 12, 20, 13, 21, then 14, then 1 and 3 to 6.
+ *
+ * The chance that a system of a deck file of any version, counted from 1, works, between two doubles: with u for the
+ * file's unit and low and high as foambeetle_rate has them, ends[0] is the largest double that is at most low / u, and
+ * ends[1] the smallest that is at least high / u. For version 1 they are those of foambeetle_chance. `file` may be null
+ * where `length` is 0, and `ends` has room for two doubles. The answer is 0 where they are written, and the refusal's
+ * number where nothing is. */
+uint64_t foambeetle_chance_between(const uint8_t *file, size_t length, uint64_t system, double *ends);
 
 /*  1  kind not 1..8
  *  2  number of fans 0 or above 64
@@ -60,8 +69,8 @@ uint64_t foambeetle_chance(const uint8_t *file, size_t length, uint64_t system, 
  *
  * Rates the stretch of n fans from a to b under the rule of kind, first and second. `survival` has each fan's chance to
  * last, a double from 0 to 1; negative zero is 0. `more` has kind 8's further pairs, two numbers each, `pairs` numbers in
- * all; no other kind reads them, only kind 2 reads `weights`, and nothing outside the stretch is read. No pointer is null,
- * also where its list is empty.
+ * all; no other kind reads them, only kind 2 reads `weights`, and nothing outside the stretch is read. A pointer may be
+ * null where its length is 0.
  *
  * Each chance times 2^30 becomes the whole number just below and the one just above; low comes from the lower ones and
  * high from the upper. The exact chance over the doubles' own values lies between low / 2^30 and high / 2^30, which are
@@ -70,6 +79,54 @@ uint64_t foambeetle_chance(const uint8_t *file, size_t length, uint64_t system, 
 uint64_t foambeetle_rate_doubles(uint64_t kind, uint64_t first, uint64_t second, const uint64_t *more, size_t pairs,
                                  uint64_t a, uint64_t b, const double *survival, size_t n, const uint16_t *weights,
                                  size_t weighed);
+
+/* As in foambeetle.h: where a length is 0, an address of the program's own is lent. */
+FOAMBEETLE_INLINE uint64_t foambeetle_write_lent(uint64_t version, const uint32_t *survival, size_t n,
+                                                 const uint16_t *weights, size_t w, const uint8_t *boards, size_t b,
+                                                 const uint32_t *switchboards, size_t g, const uint16_t *systems,
+                                                 size_t s, uint8_t *room, size_t length)
+{
+    const uint32_t no_number = 0;
+    const uint16_t no_word = 0;
+    const uint8_t no_byte = 0;
+    uint8_t no_room = 0;
+
+    return foambeetle_write(version, n ? survival : &no_number, n, w ? weights : &no_word, w, b ? boards : &no_byte, b,
+                            g ? switchboards : &no_number, g, s ? systems : &no_word, s, length ? room : &no_room,
+                            length);
+}
+#define foambeetle_write foambeetle_write_lent
+
+FOAMBEETLE_INLINE uint64_t foambeetle_chance_lent(const uint8_t *file, size_t length, uint64_t system, double *ends)
+{
+    const uint8_t none = 0;
+
+    return foambeetle_chance(length ? file : &none, length, system, ends);
+}
+#define foambeetle_chance foambeetle_chance_lent
+
+FOAMBEETLE_INLINE uint64_t foambeetle_chance_between_lent(const uint8_t *file, size_t length, uint64_t system,
+                                                          double *ends)
+{
+    const uint8_t none = 0;
+
+    return foambeetle_chance_between(length ? file : &none, length, system, ends);
+}
+#define foambeetle_chance_between foambeetle_chance_between_lent
+
+FOAMBEETLE_INLINE uint64_t foambeetle_rate_doubles_lent(uint64_t kind, uint64_t first, uint64_t second,
+                                                        const uint64_t *more, size_t pairs, uint64_t a, uint64_t b,
+                                                        const double *survival, size_t n, const uint16_t *weights,
+                                                        size_t weighed)
+{
+    const uint64_t no_more = 0;
+    const double no_chance = 0.0;
+    const uint16_t no_weight = 0;
+
+    return foambeetle_rate_doubles(kind, first, second, pairs ? more : &no_more, pairs, a, b,
+                                   n ? survival : &no_chance, n, weighed ? weights : &no_weight, weighed);
+}
+#define foambeetle_rate_doubles foambeetle_rate_doubles_lent
 
 #ifdef __cplusplus
 }

@@ -5,13 +5,11 @@
 
 /* Six fans of which no two next to each other may fail: kind 4 with k 2. */
 static const double survival[] = {0.985, 0.985, 0.985, 0.985, 0.998, 0.998};
-static const uint64_t no_more[1]; /* a list is never null, also where it has no numbers */
-static const uint16_t no_weights[1];
 
 #define COUNT(list) (sizeof(list) / sizeof(list)[0])
 
 int main(void) {
-    uint64_t answer = foambeetle_rate_doubles(4, 2, 0, no_more, 0, 1, COUNT(survival), survival, COUNT(survival), no_weights, 0);
+    uint64_t answer = foambeetle_rate_doubles(4, 2, 0, NULL, 0, 1, COUNT(survival), survival, COUNT(survival), NULL, 0);
 
     if (foambeetle_refused(answer)) {
         fprintf(stderr, "refused %u\n", (unsigned)foambeetle_refusal(answer));

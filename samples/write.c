@@ -9,9 +9,6 @@ static const uint64_t version = 1;
 /* Three fans, each as likely to last as not, and three systems: kind, first, second, and the first and last fan of the stretch. */
 static const uint32_t survival[] = {FOAMBEETLE_UNIT / 2, FOAMBEETLE_UNIT / 2, FOAMBEETLE_UNIT / 2};
 static const uint16_t weights[] = {0, 0, 0};
-/* A file of version 1 has no boards; these lists are not read. */
-static const uint8_t boards[] = {0};
-static const uint32_t board_survival[] = {0};
 static const uint16_t systems[] = {
     1, 2, 0, 1, 3,
     4, 2, 0, 1, 3,
@@ -22,8 +19,8 @@ static const uint16_t systems[] = {
 
 int main(void) {
     static uint8_t file[FOAMBEETLE_LONGEST_FILE];
-    uint64_t answer = foambeetle_write(version, survival, COUNT(survival), weights, COUNT(weights), boards, 0, board_survival, 0, systems,
-                                       COUNT(systems), file, sizeof file);
+    uint64_t answer = foambeetle_write(version, survival, COUNT(survival), weights, COUNT(weights), NULL, 0, NULL, 0, systems, COUNT(systems),
+                                       file, sizeof file); /* a file of version 1 has no boards */
 
     if (foambeetle_refused(answer)) {
         fprintf(stderr, "refused %u\n", (unsigned)foambeetle_refusal(answer));

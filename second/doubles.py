@@ -5,10 +5,10 @@ A double is its 64 bits throughout, and its value the exact fraction that Python
 
 import struct
 from fractions import Fraction
-from math import ceil, floor
+from math import ceil, floor, nextafter
 
 from foambeetle import (
-    HEADER_BYTES, TABLE_CELLS, UNIT, Refusal, bad_kind, bad_length, bad_rule, bad_stretch, bad_system, bad_weights, file_refusal, low_and_high, number_at,
+    HEADER_BYTES, TABLE_CELLS, UNIT, UNITS, Refusal, bad_kind, bad_length, bad_rule, bad_stretch, bad_system, bad_weights, file_refusal, low_and_high, number_at,
     rate_system, read_deck,
 )
 
@@ -105,3 +105,32 @@ def chance(data, system):
         return Refusal(14)
     answer = rate_system(deck, deck.systems[system - 1])
     return answer if isinstance(answer, Refusal) else tuple(Fraction(end, UNIT) for end in answer)
+
+
+# ---- between two doubles, for files of every version ---------------------------
+
+
+def double_below(fraction):
+    """The largest double that is at most a fraction from 0 to 1: the one that Python rounds it to, or the one before."""
+    near = float(fraction)
+    return near if Fraction(near) <= fraction else nextafter(near, -1)
+
+
+def double_above(fraction):
+    """The smallest double that is at least a fraction from 0 to 1."""
+    near = float(fraction)
+    return near if Fraction(near) >= fraction else nextafter(near, 2)
+
+
+def chance_between(data, system):
+    """The doubles nearest about low and high, each over the file's unit, or the refusal of the loading computer's call."""
+    deck = read_deck(data)
+    if isinstance(deck, Refusal):
+        return deck
+    if bad_system(deck, system):
+        return Refusal(14)
+    answer = rate_system(deck, deck.systems[system - 1])
+    if isinstance(answer, Refusal):
+        return answer
+    low, high = (Fraction(end, UNITS[deck.version]) for end in answer)
+    return double_below(low), double_above(high)

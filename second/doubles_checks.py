@@ -6,7 +6,7 @@ Each group yields pairs: what was found, and what it must equal.
 import random
 from fractions import Fraction
 
-from doubles import ONE, bits_of, chance, double, is_chance, just_above, just_below, on_grid, own_value, planned, value
+from doubles import ONE, bits_of, chance, chance_between, double, double_above, double_below, is_chance, just_above, just_below, on_grid, own_value, planned, value
 from doubles_samples import (
     CHANCES, NANS, NEGATIVE, NO_CHANCES, SMALLEST, about_grid, grid_point, grid_points, random_double, random_plan, wrong_plans,
 )
@@ -136,4 +136,30 @@ def chances_of_files():
     yield {0, 10, 11, 14} <= seen, True
 
 
-GROUPS = (own_values, chances_told, whole_numbers, doubles_enclosed, widest_doubles, grid_as_figures, refusals_of_doubles, chances_of_files)
+def nearest_doubles():
+    """By the bits alone: the own value is the largest, or the smallest, on its side of x / unit, since the next one up, or down, is on the other."""
+    rng = random.Random(108)
+    for unit in (UNIT, 10 ** 9):
+        for x in (0, 1, 2, 3, unit // 2, unit - 1, unit, *(rng.randint(0, unit) for _ in range(300))):
+            below, above = bits_of(double_below(Fraction(x, unit))), bits_of(double_above(Fraction(x, unit)))
+            yield own_value(below) * unit <= x * ONE < own_value(below + 1) * unit, True
+            yield own_value(above) * unit >= x * ONE and (above == 0 or own_value(above - 1) * unit < x * ONE), True
+            yield (above - below, unit) in ((0, unit), (1, 10 ** 9)), True
+
+
+def chances_between():
+    """In version 1 those of the other call; in any version they enclose the figures, and are refused as these are."""
+    for data in random_files(109, 240):
+        for system in (0, 1, 2, 33):
+            answer, packed = chance_between(data, system), rate(data, system)
+            if isinstance(answer, Refusal):
+                yield 2 ** 64 - 2 ** 32 + answer.number, packed
+                continue
+            unit, low, high = UNITS[read_deck(data).version], packed >> 32, packed & 2 ** 32 - 1
+            yield Fraction(answer[0]) * unit <= low <= high <= Fraction(answer[1]) * unit, True
+            if unit == UNIT:
+                yield tuple(map(Fraction, answer)), chance(data, system)
+
+
+GROUPS = (own_values, chances_told, whole_numbers, doubles_enclosed, widest_doubles, grid_as_figures, refusals_of_doubles, chances_of_files,
+          nearest_doubles, chances_between)

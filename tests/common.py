@@ -79,9 +79,9 @@ def started(program, *words):
 DONE, REFUSED, FAILED = 0, 1, 2
 
 
-def printed(words, data):
+def printed(words, data, **more):
     """What a program that prints what a file holds prints of it; its status says whether the file was refused."""
-    done = subprocess.run([str(word) for word in words], input=data, stdout=subprocess.PIPE)
+    done = subprocess.run([str(word) for word in words], input=data, stdout=subprocess.PIPE, **more)
     refused = done.stdout.startswith(b"file refused ") or re.search(rb"^files refused 1\b", done.stdout, re.M)
     if done.returncode != (REFUSED if refused else DONE):
         raise subprocess.CalledProcessError(done.returncode, done.args, done.stdout)
@@ -93,6 +93,11 @@ def tools():
     """The compiler's name, and the words that start a static program that it built."""
     compiler, emulator = run([root / "tests/tools.sh"]).decode().split("\n")[:2]
     return compiler, [emulator] if emulator else []
+
+
+def plus():
+    """The compiler for C++ beside the one for C."""
+    return tools()[0].removesuffix("gcc") + "g++"
 
 
 def build(source, program, *words, compiler=None, standard="-std=c99"):
@@ -121,9 +126,9 @@ def sample(name):
     return root / f"samples/{name}.c"
 
 
-def compare_samples(what, words, output, by_name=False):
+def compare_samples(what, words, output, by_name=False, **more):
     """The sample decks through a program, each on its standard input, and where the program opens it itself by its name too."""
-    got = [printed([*words, *([deck] if by_name else [])], deck.read_bytes()).decode() for deck in decks()]
+    got = [printed([*words, *([deck] if by_name else [])], deck.read_bytes(), **more).decode() for deck in decks()]
     return compare(f"samples through {what}", got, [once(output, deck.read_bytes()) for deck in decks()])
 
 

@@ -1,6 +1,7 @@
 """The office's calls over doubles against the second program, bit for bit.
 
-Out: 600 random deck files of every version, sound and damaged, and the samples, each asked for its systems and for some that it has not. In: every
+Out: 600 random deck files of every version, sound and damaged, and the samples, each asked for its systems and for some that it has not, by both calls;
+and by the one for every version 5,952 systems of one fan each, whose figure is the fan's own number, at the ends of both units, about the powers of two and at random. In: every
 edge of the doubles, the grid's points and their neighbours, one fan each; 2,000 random lists under every kind; and 1,280 with every choice of things wrong,
 so that the order of the refusals shows. All of it through a C program linked with libfoambeetle_office.a, with guard pages on either side of what it
 lends.
@@ -13,14 +14,14 @@ import sys
 
 from common import OFFICE, compare, decks, ready, root, run, sample, static
 
-from doubles import bits_of, chance, planned
+from doubles import bits_of, chance, chance_between, planned
 from doubles_samples import CHANCES, NO_CHANCES, about_grid, grid_points, random_plan, wrong_plans
 from files import random_files
-from foambeetle import Refusal, Rule, packed, read_deck
+from foambeetle import BOARDS_VERSION, MOST_SYSTEMS, NO_BOARDS, UNITS, Boards, Deck, Refusal, Rule, System, deck_bytes, packed, read_deck
 
-FILES, LISTS, WRONG, GRID = 600, 2000, 1280, 500
+FILES, LISTS, WRONG, GRID, SINGLES = 600, 2000, 1280, 500, 60
 HUGE = (2 ** 32 + 1, 2 ** 63, 2 ** 64 - 1)
-OUT, IN = 0, 1
+OUT, IN, BETWEEN = 0, 1, 2
 NO_SUCH_SYSTEM = 14
 
 
@@ -31,14 +32,27 @@ def files():
         yield data, (*range(count + 2), *HUGE)
 
 
-def to_tell(data, systems):
+def singles():
+    """Files of 32 fans, each with a system of its own that fails if it does."""
+    rng = random.Random(63)
+    systems = [System(Rule(1, 1, 0), fan, fan) for fan in range(1, MOST_SYSTEMS + 1)]
+    for version, unit in UNITS.items():
+        powers = [2 ** power + beside for power in range(31) for beside in (-1, 0, 1) if 2 ** power + beside <= unit]
+        numbers = [*powers, unit, unit - 1, *(rng.randint(0, unit) for _ in range(SINGLES * MOST_SYSTEMS))]
+        for at in range(0, len(numbers) - MOST_SYSTEMS + 1, MOST_SYSTEMS):
+            fans = numbers[at:at + MOST_SYSTEMS]
+            boards = Boards([0] * MOST_SYSTEMS, [unit]) if version == BOARDS_VERSION else NO_BOARDS
+            yield deck_bytes(Deck(fans, [0] * MOST_SYSTEMS, systems, version, boards)), range(1, MOST_SYSTEMS + 1)
+
+
+def to_tell(data, systems, what=OUT):
     """A file as tests/doubles_test.c reads it."""
-    return struct.pack(f"<QI{len(data)}sI{len(systems)}Q", OUT, len(data), data, len(systems), *systems)
+    return struct.pack(f"<QI{len(data)}sI{len(systems)}Q", what, len(data), data, len(systems), *systems)
 
 
-def told(data, system):
+def told(data, system, call=chance):
     """The line that tests/doubles_test.c prints."""
-    answer = chance(data, system)
+    answer = call(data, system)
     if isinstance(answer, Refusal):
         return f"system {system} refused {answer.number}"
     return f"system {system} " + " ".join(f"{bits_of(float(end)):016x}" for end in answer)
@@ -95,11 +109,17 @@ def main():
     program = static(root / "tests/doubles_test.c", "doubles_test", OFFICE)
     out = run(program, b"".join(to_tell(*one) for one in lent)).decode().splitlines()
     good = compare("chances through the office's call", out, [told(data, system) for data, systems in lent for system in systems])
+    lent += singles()
+    about = run(program, b"".join(to_tell(*one, BETWEEN) for one in lent)).decode().splitlines()
+    wanted = [told(data, system, chance_between) for data, systems in lent for system in systems]
+    good &= compare("chances between two doubles", about, wanted)
     said = run(program, b"".join(to_rate(*one) for one in asked)).decode().splitlines()
     good &= compare("ratings asked in doubles", said, [f"{packed(planned(*one)):x}" for one in asked])
-    met = {line.split("refused ")[1] if "refused" in line else "0" for line in out}, {refused(line) for line in said}
-    print(f"refusals met: {sorted(map(int, met[0]))}, {sorted(number or 0 for number in met[1])}")
-    good &= met[0] >= set("0 1 2 3 4 5 6 10 11 12 13 14".split()) and met[1] == {None, 1, 2, 3, 5, 6, 18, 19}
+    met = [{int(line.split("refused ")[1]) if "refused" in line else 0 for line in lines} for lines in (out, about)]
+    met.append({refused(line) or 0 for line in said})
+    print(f"refusals met: {', '.join(str(sorted(numbers)) for numbers in met)}")
+    of_files = {0, 1, 2, 3, 4, 5, 6, 10, 11, 12, 13, 14}
+    good &= met[0] >= of_files and met[1] >= of_files | {20, 21} and met[2] == {0, 1, 2, 3, 5, 6, 18, 19}
     return 0 if good & samples_agree() else 1
 
 

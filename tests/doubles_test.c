@@ -1,8 +1,9 @@
-/* Calls the office's two calls over doubles for every case of standard input and prints a line for each. A case begins with a number of 8 bytes:
+/* Calls the office's calls over doubles for every case of standard input and prints a line for each. A case begins with a number of 8 bytes:
  *   0  a deck's chances: the length of a file in 4 bytes, its bytes, how many systems are asked for in 4 bytes, and their numbers in 8 each
  *   1  a rating: kind, first, second, a and b in 8 bytes each; how many further numbers, doubles and weights there are in 4 bytes each; then the
  *      further numbers in 8 bytes, the doubles in 8 and the weights in 2
- * all lowest byte first. A line of the first has the refusal or the bits of both ends, one of the second the answer in hex.
+ *   2  a deck's chances as 0 has them, by foambeetle_chance_between
+ * all lowest byte first. A line of a chance has the refusal or the bits of both ends, one of a rating the answer in hex.
  *
  * Every call is made twice, with what it is lent ending at a page that may not be touched and beginning behind another, so that a step past either end
  * stops the program. The ends are painted before. The two answers must be one, the lists as they were, the bytes beside the ends still painted, and the
@@ -59,14 +60,17 @@ static void make_list(struct list *list) {
         stop("no memory for a list");
 }
 
-/* One call for a deck's chance; the two ends afterwards. */
-static uint64_t chance_at(int last, uint64_t system, uint64_t *bits) {
+/* A call for a deck's chance. */
+typedef uint64_t chance_call(const uint8_t *file, size_t length, uint64_t system, double *ends);
+
+/* One such call; the two ends afterwards. */
+static uint64_t chance_at(chance_call *call, int last, uint64_t system, uint64_t *bits) {
     uint8_t *ends = last ? ends_page + PAGE - BOTH_ENDS : ends_page, *beside = last ? ends - BESIDE : ends + BOTH_ENDS;
     uint64_t refusal;
 
     lend(&file, last);
     memset(ends_page, PAINT, PAGE);
-    refusal = foambeetle_chance(file.lent, file.bytes, system, (double *)ends);
+    refusal = call(file.lent, file.bytes, system, (double *)ends);
     see_unchanged(&file);
     if (!painted(beside, BESIDE))
         stop("a byte beside the ends was changed");
@@ -76,10 +80,10 @@ static uint64_t chance_at(int last, uint64_t system, uint64_t *bits) {
     return refusal;
 }
 
-static void print_chance(uint64_t system) {
-    uint64_t upper[2], lower[2], refusal = chance_at(1, system, upper);
+static void print_chance(chance_call *call, uint64_t system) {
+    uint64_t upper[2], lower[2], refusal = chance_at(call, 1, system, upper);
 
-    if (refusal != chance_at(0, system, lower) || memcmp(upper, lower, sizeof upper))
+    if (refusal != chance_at(call, 0, system, lower) || memcmp(upper, lower, sizeof upper))
         stop("the two places are answered differently");
     if (refusal)
         printf("system %" PRIu64 " refused %" PRIu64 "\n", system, refusal);
@@ -87,7 +91,7 @@ static void print_chance(uint64_t system) {
         printf("system %" PRIu64 " %016" PRIx64 " %016" PRIx64 "\n", system, lower[0], lower[1]);
 }
 
-static void print_chances(void) {
+static void print_chances(chance_call *call) {
     uint64_t count, system;
 
     read_size(&file, 1);
@@ -97,7 +101,7 @@ static void print_chances(void) {
     while (count-- > 0) {
         if (!read_number(8, &system))
             stop("a system is cut short");
-        print_chance(system);
+        print_chance(call, system);
     }
 }
 
@@ -144,10 +148,10 @@ int main(void) {
     make_list(&weights);
     ends_page = make_pages(1);
     while (read_number(8, &what)) {
-        if (what)
+        if (what == 1)
             print_rating();
         else
-            print_chances();
+            print_chances(what ? foambeetle_chance_between : foambeetle_chance);
     }
     return 0;
 }

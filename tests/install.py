@@ -1,19 +1,23 @@
-"""What make install puts below a folder: programs that start without the kit, libraries that a program finds by pkg-config, man pages. make
-uninstall takes all of it away again."""
+"""What make install puts below a folder: programs that start without the kit, libraries that a program finds by pkg-config, a Python package that finds
+them beside it and by pkg-config, man pages. make uninstall takes all of it away again."""
 
 import os
+import platform
 import shutil
 import sys
 from pathlib import Path
 
 from common import (
     EVERY_PROGRAM, LIBRARIES, MAKER, MENDER, OFFICE, PAGER, PROGRAMS, SAMPLES, SHIP, WRITER, build, compare_example, compare_samples, compare_written, decks, held,
-    make, room, root, run, sample, started, texts, tools,
+    make, rated_lines, room, root, run, sample, started, texts, tools,
 )
 
 STAGE = room / "stage"
 PREFIX = "/usr"
 PLACE = STAGE / PREFIX[1:]
+# what has pkg-config read what was installed there
+STAGED = {"PKG_CONFIG_LIBDIR": str(PLACE / "lib/pkgconfig"), "PKG_CONFIG_SYSROOT_DIR": str(STAGE), "PKG_CONFIG_ALLOW_SYSTEM_CFLAGS": "1",
+          "PKG_CONFIG_ALLOW_SYSTEM_LIBS": "1"}
 
 
 def installed():
@@ -40,9 +44,7 @@ def pages_there():
 
 def library_words(library):
     """The words that pkg-config gives for what was installed."""
-    own = {**os.environ, "PKG_CONFIG_LIBDIR": str(PLACE / "lib/pkgconfig"), "PKG_CONFIG_SYSROOT_DIR": str(STAGE), "PKG_CONFIG_ALLOW_SYSTEM_CFLAGS": "1",
-           "PKG_CONFIG_ALLOW_SYSTEM_LIBS": "1"}
-    return run(["pkg-config", "--cflags", "--libs", library], env=own).decode().split()
+    return run(["pkg-config", "--cflags", "--libs", library], env={**os.environ, **STAGED}).decode().split()
 
 
 def installed_sample(name, library):
@@ -61,6 +63,18 @@ def samples_agree():
     return good
 
 
+def package_agrees():
+    """The installed Python package, which finds the libraries beside it; and the one of the sources, which finds them by pkg-config."""
+    if platform.machine() != "x86_64":
+        print(f"skipped: the installed Python package, since this Python is for {platform.machine()}")
+        return True
+    plain = {name: value for name, value in os.environ.items() if name != "FOAMBEETLE_LIBRARY"}
+    ways = {"the installed Python package": {"PYTHONPATH": str(PLACE / "lib/foambeetle/python")}}
+    if shutil.which("pkg-config"):
+        ways["the Python package by pkg-config"] = {"PYTHONPATH": str(root / "python"), "PYTHONDONTWRITEBYTECODE": "1", **STAGED}
+    return all([compare_samples(what, [sys.executable, root / "samples/rate.py"], rated_lines, by_name=True, env={**plain, **more}) for what, more in ways.items()])
+
+
 def spoilt():
     """The sample decks, the first without its last byte, the others with more and more behind them."""
     for place, deck in enumerate(decks()):
@@ -77,7 +91,7 @@ def main():
     for what, program, inputs in (("samples cut and run on", MENDER, spoilt()), ("the samples' texts", MAKER, map(Path.read_bytes, texts()))):
         good &= compare_written(what, program, [*tools()[1], PLACE / "bin" / program], list(inputs))
     good &= compare_samples(f"the installed {PAGER}", [*tools()[1], PLACE / "bin" / PAGER], lambda data: run(started(PAGER), data).decode())
-    good &= samples_agree()
+    good &= samples_agree() & package_agrees()
     make("uninstall", f"DESTDIR={STAGE}", f"PREFIX={PREFIX}")
     print(f"left by uninstall: {installed()}")
     return 0 if good and not installed() else 1

@@ -1,26 +1,37 @@
 """Each library as C programs meet it: it exports its header's calls and nothing else, needs memcpy and memset alone, and answers in a static
-program, a position-independent one, over the shared library, from C++ and through Python's ctypes.
+program, a position-independent one, over the shared library, from C++ and through Python's ctypes. The headers compile by every standard of C and C++
+that the compiler knows, and a null pointer with length 0 is an empty list.
 
 Where the machine is not x86-64 the programs run under the emulator; what cannot is skipped with a line that says so.
 """
 
 import ctypes
 import platform
+import re
 import shutil
+import subprocess
 import sys
 from pathlib import Path
 
 from common import (
-    LIBRARIES, OFFICE, SAMPLES, SHIP, WRITER, build, compare, compare_example, compare_samples, decks, prototypes, ready, root, run, sample, static,
-    tools,
+    LIBRARIES, OFFICE, SAMPLES, SHIP, WRITER, build, compare, compare_example, compare_samples, decks, plus, printed, prototypes, rated_lines, ready, room,
+    root, run, sample, static, tools,
 )
 
-from foambeetle import NO_BOARDS, UNITS, Boards, Refusal, rate, read_deck, system_numbers, unit_of_file, worth_of_file, write_deck
+from doubles import bits_of, chance, chance_between, planned
+from foambeetle import (
+    NO_BOARDS, UNIT, UNITS, Boards, Refusal, Rule, decklist_output, packed, rate, read_deck, system_numbers, unit_of_file, worth_of_file, write_deck,
+)
 
 LIBRARY = root / "target/lib"
 NEEDED = {"memcpy", "memset"}
 NATIVE = platform.machine() == "x86_64"
 HERE = f"-I{LIBRARY}", f"-L{LIBRARY}", f"-Wl,-rpath,{LIBRARY}"
+
+
+# From the first standard of each language on; a standard that is still worked on has another name before.
+C_STANDARDS = ("c89", "iso9899:199409", "c99", "c11", "c17", ("c23", "c2x"))
+PLUS_STANDARDS = ("c++98", "c++03", "c++11", "c++14", "c++17", "c++20", ("c++23", "c++2b"))
 
 
 def archive(library):
@@ -62,11 +73,67 @@ def built(name, library):
     pie = build(source, f"{name}_pie", "-pie", "-fPIE", *HERE, archive(library))
     yield "a position-independent program", [*starter(), pie]
     yield "the shared library", [*starter(), build(source, f"{name}_shared", *HERE, f"-l{library}")]
-    plus = tools()[0].removesuffix("gcc") + "g++"
-    if shutil.which(plus) is None:
-        print(f"skipped: the library from C++, since there is no {plus}")
+    if shutil.which(plus()) is None:
+        print(f"skipped: the library from C++, since there is no {plus()}")
         return
-    yield "C++", [*starter(), build(source, f"{name}_plus", *HERE, f"-l{library}", compiler=plus, standard="-std=c++17")]
+    yield "C++", [*starter(), build(source, f"{name}_plus", *HERE, f"-l{library}", compiler=plus(), standard="-std=c++17")]
+
+
+def known(compiler, names):
+    """The standard's name that a compiler knows, if it knows one."""
+    for name in [names] if isinstance(names, str) else names:
+        asked = [compiler, f"-std={name}", "-fsyntax-only", "-x", "c++" if compiler == plus() else "c", "-"]
+        if subprocess.run(asked, input=b"", capture_output=True).returncode == 0:
+            return f"-std={name}"
+    print(f"skipped: {names}, which {compiler} does not know")
+    return None
+
+
+def empty_lists():
+    """What tests/empty_test.c prints, by the second program: no file, no lists, then one fan and one system, with no room and with some."""
+    one = [UNIT // 2], [0], NO_BOARDS, [1, 1, 0, 1, 1]
+    files = ("unit", unit_of_file(b"")), ("rate", rate(b"", 1)), ("worth", worth_of_file(b"", 1, 1).number), ("chance", chance(b"", 1).number)
+    files += ("chance_between", chance_between(b"", 1).number), ("read", 1)
+    lists = [("write", write_deck(1, *typed, b"\0" * length)[0]) for typed, length in ((([], [], NO_BOARDS, []), 0), (one, 0), (one, 812))]
+    rated = [("rate_doubles", packed(planned(Rule(1, 1, 0), 1, 1, chances, []))) for chances in ([], [bits_of(0.5)])]
+    answers = [(call, packed(answer) if isinstance(answer, Refusal) else answer) for call, answer in (*files, *lists, *rated)]
+    return "".join(f"{call} {answer:x} {answer % 2 ** 32 if answer >> 32 == 2 ** 32 - 1 else 0}\n" for call, answer in answers)
+
+
+def every_standard():
+    """tests/empty_test.c, by every standard that is known, as strictly as it goes."""
+    wanted, got, by = empty_lists(), [], []
+    for compiler, standards in ((tools()[0], C_STANDARDS), (plus(), PLUS_STANDARDS)):
+        if shutil.which(compiler) is None:
+            print(f"skipped: the headers by {compiler}, which is not there")
+            continue
+        by += [(compiler, standard) for standard in (known(compiler, names) for names in standards) if standard]
+    for compiler, standard in by:
+        words = "-pedantic", "-static", f"-I{LIBRARY}", archive(OFFICE), archive(SHIP)
+        got.append(run([*tools()[1], build(root / "tests/empty_test.c", "empty_test", *words, compiler=compiler, standard=standard)]).decode())
+    print("the headers by", *(standard for _, standard in by))
+    return compare("empty lists by a null pointer, in every standard", got, [wanted] * len(by))
+
+
+def lent(library):
+    """Every call that takes a list has its function in the header that lends an address where the list is empty, and tests/empty_test.c calls it."""
+    text, test = (LIBRARY / f"{library}.h").read_text(), (root / "tests/empty_test.c").read_text()
+    calls = [name for name, (_, parameters) in prototypes(text).items() if any(one.startswith("size_t ") for one in parameters)]
+    wrong = [name for name in calls if not re.search(rf"^#define {name} {name}_lent$", text, re.M) or f" {name}(" not in test]
+    print(f"{library}: calls without their function for empty lists, or not called with one: {wrong}")
+    return not wrong
+
+
+def plus_sample():
+    """The sample of C++, which lends a vector: the sample decks, and an empty file."""
+    if shutil.which(plus()) is None:
+        print(f"skipped: samples/rate.cc, since there is no {plus()}")
+        return True
+    words = [*starter(), build(root / "samples/rate.cc", "rate_cc", "-pedantic", *HERE, f"-l{SHIP}", compiler=plus(), standard="-std=c++11")]
+    empty = room / "empty.deck"
+    empty.write_bytes(b"")
+    good = compare("an empty vector by rate.cc", [printed([*words, empty], b"").decode()], [decklist_output(b"")])
+    return good & compare_samples("C++, by rate.cc", words, rated_lines, by_name=True)
 
 
 def rated_by_ctypes(library, data, system):
@@ -123,12 +190,13 @@ def python_answers():
 
 def main():
     ready("lib")
-    good = all([names(library) for library in LIBRARIES])
+    good = all([names(library) & lent(library) for library in LIBRARIES]) & every_standard()
     for name, output in SAMPLES.items():
         for what, words in built(name, SHIP):
             good &= compare_samples(f"{what}, by {name}", words, output, by_name=True)
     for what, words in built(WRITER, OFFICE):
         good &= compare_example(what, words)
+    good &= plus_sample()
     if NATIVE:
         good &= python_answers() & python_written()
     else:

@@ -49,6 +49,7 @@ TESTS = tuple(Test(*line) for line in (
     ("deckstate against the second program", "python3 tests/states.py"),
     ("refusals in words, and what they advise carried out", "python3 tests/words.py"),
     ("the office's calls over doubles against the second program", "python3 tests/doubles.py"),
+    ("the Python package against the second program", "python3 tests/python.py"),
     ("what is installed runs, and goes again", "python3 tests/install.py"),
     ("the libraries link every way, and export their calls alone", "python3 tests/library.py"),
     ("the stored cases are the second program's", "tests/cases.sh", False),

@@ -1,4 +1,4 @@
-"""The file VERSION, the header, the man pages and the programs name one version; tests/install.py sees to the pkg-config file."""
+"""The file VERSION, the header, the man pages, the Python package and the programs name one version; tests/install.py sees to the pkg-config file."""
 
 import re
 import sys
@@ -12,6 +12,8 @@ def named():
     yield "include/foambeetle.h", re.findall(r'^#define FOAMBEETLE_VERSION "(.*)"$', header, re.M)
     for page in sorted((root / "man").iterdir()):
         yield f"man/{page.name}", re.findall(r'^\.TH .* "Foambeetle (.*)"$', page.read_text(), re.M)
+    yield "python/pyproject.toml", re.findall(r'^version = "(.*)"$', (root / "python/pyproject.toml").read_text(), re.M)
+    yield "python/foambeetle/__init__.py", re.findall(r'^__version__ = "(.*)"$', (root / "python/foambeetle/__init__.py").read_text(), re.M)
     prove()
     for program in EVERY_PROGRAM:
         yield f"{program} --version", re.findall(rf"^{program} (.*)$", run(started(program, "--version")).decode(), re.M)

@@ -1,14 +1,20 @@
 """samples/README.md is true as printed: its text is samples/hold1.txt, of which its deckmake command makes samples/hold1.deck, and README.md begins with
-it; a slip in it is told as it says; its make command, its C program, built as printed, and its deckworth and deckshow commands print what it says."""
+it; a slip in it is told as it says; its make command, its programs in C, C++ and Python, built and run as printed, and its deckworth and deckshow
+commands print what it says. So do the office's walk in docs/GUIDE.md, its Python line by line and its C program."""
 
+import os
+import platform
 import re
+import shutil
 import sys
 
-from common import held, make, prove, ready, room, root, run, started, static, written
+from common import OFFICE, build, held, make, plus, prove, ready, room, root, run, started, static, tools, written
+
+GUIDE, SAMPLES = "docs/GUIDE.md", "samples/README.md"
 
 
-def blocks(kind):
-    return re.findall(rf"^```{kind}\n(.*?)^```$", (root / "samples/README.md").read_text(), re.S | re.M)
+def blocks(kind, page=SAMPLES):
+    return re.findall(rf"^```{kind}\n(.*?)^```$", (root / page).read_text(), re.S | re.M)
 
 
 def command(first):
@@ -53,10 +59,52 @@ def printed_as_said():
 def called_as_said():
     """The command is for x86-64; the tests' own compiler stands in for it. Its last word is the deck."""
     program, = blocks("c")
-    source = room / "walk.c"
+    return run(static(kept("walk.c", program), "walk"), (root / command("cc").split()[-1]).read_bytes()).decode() == blocks("text")[1]
+
+
+def kept(name, program):
+    """A program as printed, in a file."""
     room.mkdir(parents=True, exist_ok=True)
-    source.write_text(program)
-    return run(static(source, "walk"), (root / command("cc").split()[-1]).read_bytes()).decode() == blocks("text")[1]
+    (room / name).write_text(program)
+    return room / name
+
+
+def called_from_plus_as_said():
+    if shutil.which(plus()) is None:
+        print(f"skipped: the walk's C++, since there is no {plus()}")
+        return True
+    program, = blocks("cpp")
+    library = root / "target/lib"
+    words = [*tools()[1], build(kept("walk.cc", program), "walk_plus", "-static", f"-I{library}", library / "libfoambeetle.a", compiler=plus(), standard="-std=c++11")]
+    return run(words, (root / command("c++").split()[-1]).read_bytes()).decode() == blocks("text")[1]
+
+
+def native():
+    """Can this Python load the shared libraries?"""
+    if platform.machine() != "x86_64":
+        print(f"skipped: what Python is said to print, since this one is for {platform.machine()}")
+    return platform.machine() == "x86_64"
+
+
+def called_from_python_as_said():
+    """The command as it stands, but for where the program is."""
+    if not native():
+        return True
+    program, = blocks("python")
+    line = command("PYTHONPATH=python").replace(" python3 two.py ", f" PYTHONDONTWRITEBYTECODE=1 {sys.executable} {kept('walk.py', program)} ")
+    return run(["sh", "-c", line], cwd=root).decode() == blocks("text")[1]
+
+
+def guided_as_said():
+    """docs/GUIDE.md: its Python by doctest, in one session, and its C program, which prints the block behind it."""
+    program, = blocks("c", GUIDE)
+    good = run(static(kept("guide.c", program), "guide", OFFICE)).decode() == blocks("text", GUIDE)[0]
+    own = {**os.environ, "PYTHONPATH": str(root / "python"), "FOAMBEETLE_LIBRARY": str(root / "target/lib"), "PYTHONDONTWRITEBYTECODE": "1"}
+    if native():
+        said = run([sys.executable, "-m", "doctest", "-o", "NORMALIZE_WHITESPACE", root / GUIDE], statuses=(0, 1), env=own, cwd=room).decode()
+        print(said, end="")
+        good &= not said and ">>> " in (root / GUIDE).read_text()
+    return good
 
 
 def worth_as_said():
@@ -70,7 +118,9 @@ def shown_as_said():
 def main():
     ready("lib")
     prove()
-    return 0 if held(made_as_said, begun_as_said, told_as_said, printed_as_said, called_as_said, worth_as_said, shown_as_said) else 1
+    checks = (made_as_said, begun_as_said, told_as_said, printed_as_said, called_as_said, called_from_plus_as_said, called_from_python_as_said, worth_as_said,
+              shown_as_said, guided_as_said)
+    return 0 if held(*checks) else 1
 
 
 if __name__ == "__main__":

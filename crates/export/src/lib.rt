@@ -2,6 +2,7 @@
 ghost use Prim.Native.Nat.{_≤_};
 ghost use Rattle.rules.specs.State.{S};
 ghost use Rattle.rules.specs.Within.{WithinUnit};
+ghost use Rattle.doubles.specs.Floats.{Over};
 ghost use Rattle.export.specs.Outcome.{Both, Tells, Exported};
 use rules::Rating;
 
@@ -20,7 +21,7 @@ pub enum Chance {
 // Low and high, each divided by 2^30.
 fn ends_of(low: u64, high: u64) -> Ends
     requires { ⌜ (low ≤ S) × (high ≤ S) ⌝ }
-    ensures { λ r. ⌜ Both low high r ⌝ }
+    ensures { λ r. ⌜ Both Over Over low high r ⌝ }
 {
     let lower = doubles::divided(low);
     let upper = doubles::divided(high);
@@ -33,7 +34,7 @@ fn ends_of(low: u64, high: u64) -> Ends
 // Figures as one answer for the planning office.
 fn told(rating: Rating) -> Chance
     requires { ⌜ WithinUnit rating ⌝ }
-    ensures { λ r. ⌜ Tells rating r ⌝ }
+    ensures { λ r. ⌜ Tells Over Over rating r ⌝ }
 {
     match rating {
         Rating::Range { low, high } => Chance::Range(ends_of(low, high)),

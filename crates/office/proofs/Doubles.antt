@@ -15,39 +15,47 @@ use Rattle.rules.specs.Doubles.{Planned, plannedRating, exportOf}
 use Rattle.rules.proofs.Tests.{by-test}
 use Rattle.packing.proofs.Packed.{packed-tells, planned-packable}
 use Rattle.doubles.specs.Floats.{Over}
-use Rattle.doubles.proofs.Once.{over-once}
-use Rattle.rules.specs.Within.{WithinUnit}
 use Rattle.export.specs.declared.Chance.{Chance}
 use Rattle.export.specs.declared.Chance.the-variants as chance
 use Rattle.export.specs.Outcome.{Tells}
-use Rattle.export.proofs.Outcome.{export-within}
-use Rattle.office.specs.Outcome.{numberOf, endsAfter, Handed, Told, Answered}
+use Rattle.export.proofs.Outcome.{Ones, over-ones, export-within}
+use Rattle.between.specs.Outcome.{Below, Above}
+use Rattle.between.proofs.Outcome.{enclosed-ones}
+use Rattle.office.specs.Outcome.{numberOf, endsAfter, Handed, Told, Bounded, Answered}
 
-pub handed : (q : Rating) (r : Chance) (before : List Float) → Tells q r → Handed q before (endsAfter r before) (numberOf r)
-handed (rating.Range low high) (chance.Range e) before h = (refl, refl, h .lower, h .upper)
-handed (rating.Range low high) (chance.Refused n) before h = absurd h
-handed (rating.Refused number) (chance.Range e) before h = absurd h
-handed (rating.Refused number) (chance.Refused n) before h = (h, refl)
+pub handed : (Low High : ℕ → Float → Type 0) (q : Rating) (r : Chance) (before : List Float) → Tells Low High q r
+    → Handed Low High q before (endsAfter r before) (numberOf r)
+handed Low High (rating.Range low high) (chance.Range e) before h = (refl, refl, h .lower, h .upper)
+handed Low High (rating.Range low high) (chance.Refused n) before h = absurd h
+handed Low High (rating.Refused number) (chance.Range e) before h = absurd h
+handed Low High (rating.Refused number) (chance.Refused n) before h = (h, refl)
 
 -- ---- any two outcomes that a contract allows are equal
 
-two-same : (low high : ℕ) → WithinUnit (rating.Range low high) → (e d : List Float) → length e ≡ 2 → length d ≡ 2
-    → Over low (getD e 0 nan) → Over low (getD d 0 nan) → Over high (getD e 1 nan) → Over high (getD d 1 nan) → e ≡ d
-two-same low high s (x ∷ y ∷ []) (z ∷ w ∷ []) l m a b c d = ap₂ (λ (p q : Float). p ∷ q ∷ []) (over-once low x z (s .0) a b) (over-once high y w (s .1) c d)
-two-same low high s [] d l m a b c f = absurd (omega arith)
-two-same low high s (x ∷ []) d l m a b c f = absurd (omega arith)
-two-same low high s (x ∷ y ∷ v ∷ e) d l m a b c f = absurd (omega arith)
-two-same low high s (x ∷ y ∷ []) [] l m a b c f = absurd (omega arith)
-two-same low high s (x ∷ y ∷ []) (z ∷ []) l m a b c f = absurd (omega arith)
-two-same low high s (x ∷ y ∷ []) (z ∷ w ∷ v ∷ d) l m a b c f = absurd (omega arith)
+two-same : (P Q : Float → Type 0) → ((x y : Float) → P x → P y → x ≡ y) → ((x y : Float) → Q x → Q y → x ≡ y) → (e d : List Float) → length e ≡ 2 → length d ≡ 2
+    → P (getD e 0 nan) → P (getD d 0 nan) → Q (getD e 1 nan) → Q (getD d 1 nan) → e ≡ d
+two-same P Q p q (x ∷ y ∷ []) (z ∷ w ∷ []) l m a b c d = ap₂ (λ (p q : Float). p ∷ q ∷ []) (p x z a b) (q y w c d)
+two-same P Q p q [] d l m a b c f = absurd (omega arith)
+two-same P Q p q (x ∷ []) d l m a b c f = absurd (omega arith)
+two-same P Q p q (x ∷ y ∷ v ∷ e) d l m a b c f = absurd (omega arith)
+two-same P Q p q (x ∷ y ∷ []) [] l m a b c f = absurd (omega arith)
+two-same P Q p q (x ∷ y ∷ []) (z ∷ []) l m a b c f = absurd (omega arith)
+two-same P Q p q (x ∷ y ∷ []) (z ∷ w ∷ v ∷ d) l m a b c f = absurd (omega arith)
 
-same-handed : (q : Rating) → WithinUnit q → (before e d : List Float) (r t : ℕ) → Handed q before e r → Handed q before d t → (r ≡ t) × (e ≡ d)
-same-handed (rating.Range low high) s before e d r t h k =
-    (h .0 ∙ sym (k .0), two-same low high s e d (h .1) (k .1) (h .2) (k .2) (h .3) (k .3))
-same-handed (rating.Refused number) s before e d r t h k = (h .0 ∙ sym (k .0), h .1 ∙ sym (k .1))
+same-handed : (Low High : ℕ → Float → Type 0) (q : Rating) → Ones Low High q → (before e d : List Float) (r t : ℕ) → Handed Low High q before e r
+    → Handed Low High q before d t → (r ≡ t) × (e ≡ d)
+same-handed Low High (rating.Range low high) s before e d r t h k =
+    (h .0 ∙ sym (k .0), two-same (Low low) (High high) (s .0) (s .1) e d (h .1) (k .1) (h .2) (k .2) (h .3) (k .3))
+same-handed Low High (rating.Refused number) s before e d r t h k = (h .0 ∙ sym (k .0), h .1 ∙ sym (k .1))
 
 pub same-told : {file : List ℕ} {system : ℕ} {before e d : List Float} {r t : ℕ} → Told file system before e r → Told file system before d t → (r ≡ t) × (e ≡ d)
-same-told {file} {system} {before} {e} {d} {r} {t} h k = same-handed (exportOf file system) (export-within file system) before e d r t (h .answer) (k .answer)
+same-told {file} {system} {before} {e} {d} {r} {t} h k =
+    same-handed Over Over (exportOf file system) (over-ones (exportOf file system) (export-within file system)) before e d r t (h .answer) (k .answer)
+
+pub same-bounded : {file : List ℕ} {system : ℕ} {before e d : List Float} {r t : ℕ} → Bounded file system before e r → Bounded file system before d t
+    → (r ≡ t) × (e ≡ d)
+same-bounded {file} {system} {before} {e} {d} {r} {t} h k =
+    same-handed (Below file) (Above file) (loadingOf file system) (enclosed-ones file system) before e d r t (h .answer) (k .answer)
 
 pub same-answered : {q : Planned} {r t : ℕ} → Answered q r → Answered q t → r ≡ t
 same-answered h k = h .number ∙ sym (k .number)
@@ -68,7 +76,10 @@ unfolding unless
 numbered zero answer h = h
 numbered (suc r) answer h = omega arith
 
+pub loading-numbered : (file : List ℕ) (system : ℕ) → Numbered (loadingOf file system)
+unfolding loadingOf systemOf figuresOf
+loading-numbered file system = numbered _ _ (by-test Numbered (badNumber file system) _ _ (λ b. omega arith) (λ b. numbered _ _ tt))
+
 pub export-numbered : (file : List ℕ) (system : ℕ) → Numbered (exportOf file system)
-unfolding exportOf loadingOf systemOf figuresOf
-export-numbered file system =
-    numbered _ _ (numbered _ _ (by-test Numbered (badNumber file system) _ _ (λ b. omega arith) (λ b. numbered _ _ tt)))
+unfolding exportOf
+export-numbered file system = numbered _ _ (loading-numbered file system)

@@ -1,11 +1,12 @@
-// The office's calls for its C programs: the deck file's writer; a deck's chances as doubles; a rating asked in
-// doubles.
+// The office's calls for its C programs: the deck file's writer; a deck's chances as doubles, exactly or between the
+// nearest two; a rating asked in doubles.
 ghost use mathlib.Core.Path.{_≡_};
 ghost use Rattle.rules.specs.State.{ruleOf};
 ghost use Rattle.rules.specs.Writing.{typedOf};
 ghost use Rattle.rules.specs.Doubles.{plannedOf};
 ghost use Rattle.doubles.specs.Floats.{bitsOf};
 ghost use Rattle.office.specs.Outcome.{packedWriting, Packable, Filed, numberOf, endsAfter, Told, Answered};
+ghost use Rattle.office.specs.Outcome.{Bounded};
 use export::Chance;
 use rules::Rule;
 use rules::Writing;
@@ -69,6 +70,15 @@ pub extern "C" fn foambeetle_chance(file: &[u8], system: u64, ends: &mut [f64; 2
     ensures { λ r. ⌜ Told (now (file .entry)) system (now (ends .entry)) (now (ends .exit)) r ⌝ }
 {
     tell(export::chance_of(file, system), ends)
+}
+
+// What the C program calls for the chances of a deck of any version:
+// `uint64_t foambeetle_chance_between(const uint8_t *file, size_t length, uint64_t system, double ends[2])`.
+#[no_mangle]
+pub extern "C" fn foambeetle_chance_between(file: &[u8], system: u64, ends: &mut [f64; 2]) -> u64
+    ensures { λ r. ⌜ Bounded (now (file .entry)) system (now (ends .entry)) (now (ends .exit)) r ⌝ }
+{
+    tell(between::chance_between(file, system), ends)
 }
 
 // What the C program calls for a rating asked in doubles: `uint64_t foambeetle_rate_doubles(uint64_t kind, uint64_t

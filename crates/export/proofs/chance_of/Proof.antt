@@ -5,6 +5,7 @@ use Rattle.rules.specs.declared.Rating.{Rating}
 use Rattle.rules.specs.Doubles.{exportOf}
 use Rattle.rules.proofs.Unless.{unless-none, unless-some}
 use Rattle.rules.proofs.Within.{loading-within}
+use Rattle.doubles.specs.Floats.{Over}
 use Rattle.export.specs.Outcome.{Tells}
 use Rattle.export.proofs.chance_of.Statement.{statement}
 use Rattle.export.proofs.chance_of.Tie as tie
@@ -28,7 +29,7 @@ returns-2 : tie.Need-returns-2
 unfolding exportOf
 returns-2 c =
     let none = sym (c .before .before .before .other-refusal .ensures) ∙ c .before .before .if1 .left in
-    record { answer = subst (λ (q : Rating). Tells q (c .told .result)) (c .before .rate-file .ensures ∙ sym (unless-none _ _ _ none)) (c .told .ensures) }
+    record { answer = subst (λ (q : Rating). Tells Over Over q (c .told .result)) (c .before .rate-file .ensures ∙ sym (unless-none _ _ _ none)) (c .told .ensures) }
 
 pub chance-of-spec : {M : Type 1} → statement M
 chance-of-spec =

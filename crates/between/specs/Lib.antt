@@ -1,0 +1,2 @@
+-- What is answered of a chance between two doubles.
+pub mod Outcome
