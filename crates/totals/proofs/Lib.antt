@@ -5,4 +5,5 @@ pub mod Spare
 pub mod Sorted
 pub mod Growing
 pub mod Streams
+pub mod Fronts
 pub mod Complete
