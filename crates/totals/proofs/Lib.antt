@@ -6,4 +6,5 @@ pub mod Sorted
 pub mod Growing
 pub mod Streams
 pub mod Fronts
+pub mod Examples
 pub mod Complete
