@@ -23,7 +23,8 @@ array-share-prefix-part c = search needs
 
 slice-aggregate-asks : tie.Need-slice-aggregate-asks
 slice-aggregate-asks c =
-    let start = c .before .before .before .before .before in
+    let known = c .before .before in
+    let start = known .before .before .before in
     sym (length-take-le _ _ (omega (arith, start .pre .room, start .pre .within)))
 
 asks-requires : tie.Need-asks-requires
@@ -31,12 +32,14 @@ asks-requires c κs = search needs
 
 sub-result : tie.Need-sub-result
 sub-result c =
-    let at-open = c .before .before .before .before .before in
+    let tested = c .before .before in
+    let at-open = tested .before .before .before in
     omega (arith, at-open .before .pre .ongoing (at-open .if1 .left) .asking, c .asks .ensures .0)
 
 returns-3 : tie.Need-returns-3
 returns-3 c =
-    let at-open = c .before .before .before .before .before in
+    let tested = c .before .before in
+    let at-open = tested .before .before .before in
     let asking = at-open .before .pre .ongoing (at-open .if1 .left) .asking in
     let asked = c .asks .ensures in
     (omega (arith, asking, asked), omega (arith, asked), λ now-open left. (omega (arith, asking, asked), omega (arith, asking, asked)))

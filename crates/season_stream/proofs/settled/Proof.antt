@@ -20,7 +20,8 @@ array-share-prefix-part c = search needs
 
 slice-aggregate-plus-file : tie.Need-slice-aggregate-plus-file
 slice-aggregate-plus-file c =
-    let start = c .before .before .before .before .before in
+    let known = c .before .before in
+    let start = known .before .before .before in
     sym (length-take-le _ _ (omega (arith, start .pre .room, start .pre .within)))
 
 plus-file-requires : tie.Need-plus-file-requires

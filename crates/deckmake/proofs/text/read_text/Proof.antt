@@ -43,17 +43,20 @@ fail-requires c κs = search needs
 
 same-length : tie.Need-same-length Inv-loop μ-loop
 same-length c =
-    let read = c .before .before .before .before .before in
+    let passed = c .before .before in
+    let read = passed .before .before .before in
     read .before .before .before .loop .inv .4
 
 same-length-2 : tie.Need-same-length-2 Inv-loop μ-loop
 same-length-2 c =
-    let read = c .before .before .before .before .before in
+    let passed = c .before .before in
+    let read = passed .before .before .before in
     read .before .before .before .loop .inv .5
 
 returns : tie.Need-returns Inv-loop μ-loop
 returns c =
-    let read = c .before .before .before .before .before in
+    let passed = c .before .before in
+    let read = passed .before .before .before in
     let inv = read .before .before .before .loop .inv in
     (inv .2, omega (arith, inv .0, inv .1))
 

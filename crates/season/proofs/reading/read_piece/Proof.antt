@@ -26,7 +26,8 @@ same-length c = search needs
 returns : tie.Need-returns
 returns c =
     let read = c .before .before in
-    let start = read .before .before .before .before .before in
+    let known = read .before .before in
+    let start = known .before .before .before in
     let lent = length-take-le (start .args .wanted) (start .args .piece .now) (start .pre .1) in
     record { front = omega (arith, same-length c, read .read-more .ensures .front, read .read-more .kept, lent, start .pre .1); labelled = read .read-more .ensures .labelled }
 

@@ -67,21 +67,27 @@ show-requires c κs = search needs
 
 add-pieces : tie.Need-add-pieces Inv-loop μ-loop
 add-pieces c =
-    let read = c .before .before .before .before .before .before in
-    let at-test = read .before .before .before .before .before .before in
+    let passed = c .before .before .before in
+    let read = passed .before .before .before in
+    let asked = read .before .before .before in
+    let at-test = asked .before .before .before in
     omega (arith, at-test .loop-test .taken)
 
 loop-less : tie.Need-loop-less Inv-loop μ-loop
 loop-less c =
-    let read = c .before .before .before .before .before .before in
-    let at-test = read .before .before .before .before .before .before in
+    let passed = c .before .before .before in
+    let read = passed .before .before .before in
+    let asked = read .before .before .before in
+    let at-test = asked .before .before .before in
     omega (arith, at-test .loop-test .taken)
 
 loop-again : tie.Need-loop-again Inv-loop μ-loop
 loop-again c =
     let fed = c .before in
-    let read = fed .before .before .before .before .before in
-    let at-test = read .before .before .before .before .before .before in
+    let passed = fed .before .before in
+    let read = passed .before .before .before in
+    let asked = read .before .before .before in
+    let at-test = asked .before .before .before in
     let inv = at-test .before .loop .inv in
     (omega (arith, at-test .loop-test .taken), fed .feed .ensures .sane, omega (arith, read .read-piece .kept, inv .2), read .read-piece .ensures .labelled)
 
