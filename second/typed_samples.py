@@ -26,8 +26,8 @@ SOUND = {
     2: b"fan 0.985\nfans 2 998000000 weight 7\nsystem fails at 2 in a row round\nsystem needs 1 of any 2 from 2 to 3\n",
     3: b"version 3\nboard 0.9\nboard 5\nfan 0.25 weight 1 on 2\nfans 2 7 on 1\nsystem fails at weight 1\n",
 }
-# The buffer that a text goes through.
-PIECE = 131072
+# So many bytes of a text are read at a time.
+PIECE = 65536
 MILLION = 10 ** 6
 
 

@@ -1,2 +1,2 @@
--- What deckmake has read.
-pub mod Pieces
+-- What deckmake writes.
+pub mod Made

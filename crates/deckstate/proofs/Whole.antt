@@ -11,15 +11,15 @@ use Rattle.rules.specs.File.{fileRefusal}
 use Rattle.printing.specs.Lines.{fileText, printText}
 use Rattle.printing.specs.Front.{Front, WholePrinted}
 use Rattle.deckstate.specs.declared.hearing.Said.{Said}
-use Rattle.deckstate.specs.Words.{saidIn, SaidBy}
+use Rattle.deckstate.specs.Words.{saidIn}
 use Rattle.deckstate.specs.Lines.{statesText}
 
-pub words-printed : (buffer out : List ℕ) (filled end : ℕ) (said : Said) (by : SaidBy (take filled buffer) said)
+pub words-printed : (buffer out : List ℕ) (filled end : ℕ) (said : Said) (words : List (List ℕ)) → said ≡ saidIn (take filled buffer) words
     → WholePrinted (statesText (said .state)) buffer filled out end
     → (input : List ℕ) → Front input buffer filled → length input ≤ length buffer
-    → take end out ≡ printText (λ bytes. statesText (saidIn bytes (by .words) .state) bytes) input
+    → take end out ≡ printText (λ bytes. statesText (saidIn bytes words .state) bytes) input
 unfolding printText
-words-printed buffer out filled end said by printed input front fits =
+words-printed buffer out filled end said words by printed input front fits =
     let whole : take filled buffer ≡ input = front .same ∙ take-all filled input (omega (arith, front .most)) in
-    let same : said .state ≡ saidIn input (by .words) .state = ap (λ s. s .state) (by .is) ∙ ap (λ bytes. saidIn bytes (by .words) .state) whole in
+    let same : said .state ≡ saidIn input words .state = ap (λ (s : Said). s .state) by ∙ ap (λ bytes. saidIn bytes words .state) whole in
     printed .stands input front ∙ ap (λ state. unless (fileRefusal input) fileText (statesText state input)) same

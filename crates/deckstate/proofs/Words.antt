@@ -1,9 +1,15 @@
 -- Words heard one after another are what all of them say. Assumes nothing.
-use mathlib.Core.Path.{_≡_, refl, sym, ap, ap₂, _∙_}
+use mathlib.Core.Path.{_≡_, refl, sym, ap, _∙_}
+use mathlib.Core.Bool.{Bool, true, false, cond}
 use mathlib.Core.List.{List, [], _∷_}
-use Prim.Native.Nat.{ℕ, suc, _≤_}
+use Prim.Native.Nat.{ℕ, suc, _+_, _≤_}
+use native.Mathlib.Numerals.{add-one}
 use native.Mathlib.Omega.{arith}
+use lib.Dec.{eqb}
 use lib.ListN.{length}
+use borrow.Author.Tests.{eq-eqb, ne-eqb}
+use Rattle.options.specs.declared.Asked.{Asked}
+use Rattle.options.specs.Words as options
 use Rattle.rules.specs.Refusal.{most}
 use Rattle.rules.specs.File.{versionIn, fansIn, boardFans, boardBytes, boardsOffset, nthNumber, boardCountIn, deckIn, fileRefusal}
 use Rattle.rules.proofs.Lists.{below-length}
@@ -11,39 +17,65 @@ use Rattle.rules.proofs.Unless.{unless-none, unless-some}
 use Rattle.deck.proofs.Sound.{sound}
 use Rattle.layout.proofs.Versions.{fans-bound}
 use Rattle.deckstate.specs.declared.hearing.Said.{Said}
-use Rattle.deckstate.specs.Words.{nothing, heard, heardAll, ended, saidIn, HeardAll, SaidBy}
+use Rattle.deckstate.specs.declared.hearing.Hearing.{Hearing}
+use Rattle.deckstate.specs.Words.{nothing, heard, heardAll, ended, optionTable, mostWords, askedAfter, operandsOf, hearingNone, hearingOf, hearsWord, saidIn, SaidOf}
 
--- so many words were heard
-pub record Heard (n g : ℕ) (boards : List ℕ) (count : ℕ) (s : Said) : Type 0 where
-  pub words : List (List ℕ)
-  pub many : length words ≡ count
-  pub is : s ≡ heardAll n g boards words
+module _ (n g : ℕ) (boards : List ℕ) where
+  -- before the first word, and one word more
+  pub none-heard : hearingNone ≡ hearingOf n g boards []
+  unfolding askedAfter operandsOf heardAll
+  none-heard = refl
 
-module _ {n g : ℕ} {boards : List ℕ} where
-  pub none-heard : {s : Said} → s ≡ nothing → Heard n g boards 0 s
-  unfolding heardAll
-  none-heard e = record { words = []; many = refl; is = e }
+  pub heard-more : (word : List ℕ) (words : List (List ℕ)) → hearsWord n g boards (suc (length words)) word (hearingOf n g boards words) ≡ hearingOf n g boards (word ∷ words)
+  unfolding askedAfter operandsOf heardAll
+  heard-more word words = go (eqb (next .operands) (askedAfter words .operands))
+    where
+      next : Asked
+      next = options.heard optionTable mostWords (askedAfter words) (suc (length words)) word
 
-  pub heard-more : {count : ℕ} {s : Said} → Heard n g boards count s → (word : List ℕ) → Heard n g boards (suc count) (heard n g boards (suc count) word s)
-  unfolding heardAll
-  heard-more h word = record {
-    words = word ∷ h .words;
-    many = ap suc (h .many);
-    is = ap₂ (λ k x. heard n g boards (suc k) word x) (sym (h .many)) (h .is);
-  }
+      own : List (List ℕ)
+      own = operandsOf words
 
-  pub all-heard : {count : ℕ} {s r : Said} → Heard n g boards count s → r ≡ ended n count s → HeardAll n g boards r
-  all-heard h e = record { words = h .words; is = e ∙ ap₂ (λ k x. ended n k x) (sym (h .many)) (h .is) }
+      before : Bool → Hearing
+      before b =
+          cond b (record { asked = next; heard = length own; said = heardAll n g boards own })
+          (record { asked = next; heard = length own + 1; said = heard n g boards (length own + 1) word (heardAll n g boards own) })
+
+      after : Bool → Hearing
+      after b = record { asked = next; heard = length (cond b own (word ∷ own)); said = heardAll n g boards (cond b own (word ∷ own)) }
+
+      go : (b : Bool) → before b ≡ after b
+      go true = refl
+      go false = rw (add-one (length own))
+
+  -- by what its options are heard to ask for: an option, or not
+  module _ (place : ℕ) (word : List ℕ) (h : Hearing) (next : Asked) (is : next ≡ options.heard optionTable mostWords (h .asked) place word) where
+    abbrev either : (b : Bool) → Asked → Hearing
+    either b x =
+        cond b (record { asked = x; heard = h .heard; said = h .said })
+        (record { asked = x; heard = h .heard + 1; said = heard n g boards (h .heard + 1) word (h .said) })
+
+    turned : (b : Bool) → eqb (next .operands) (h .asked .operands) ≡ b → hearsWord n g boards place word h ≡ either b next
+    turned b e = ap (λ (x : Asked). either (eqb (x .operands) (h .asked .operands)) x) (sym is) ∙ ap (λ t. either t next) e
+
+    pub option-heard : next .operands ≡ h .asked .operands → record { asked = next; heard = h .heard; said = h .said } ≡ hearsWord n g boards place word h
+    option-heard e = sym (turned true (eq-eqb (next .operands) (h .asked .operands) e))
+
+    pub operand-heard : (next .operands ≡ h .asked .operands → ⊥) → (said : Said) → said ≡ heard n g boards (h .heard + 1) word (h .said)
+        → record { asked = next; heard = h .heard + 1; said = said } ≡ hearsWord n g boards place word h
+    operand-heard other said e = (λ i. record { asked = next; heard = h .heard + 1; said = e i }) ∙ sym (turned false (ne-eqb (next .operands) (h .asked .operands) other))
+
+module _ (bytes : List ℕ) {h : Hearing} {r : Said} where
+  pub said-heard : fileRefusal bytes ≡ 0 → r ≡ ended (fansIn bytes) (h .heard) (h .said) → SaidOf bytes h r
+  unfolding saidIn
+  said-heard none e words holds =
+      e ∙ ap (λ (x : Hearing). ended (fansIn bytes) (x .heard) (x .said)) (holds none) ∙ sym (unless-none _ _ _ none)
+
+  pub said-refused : (fileRefusal bytes ≡ 0 → ⊥) → r ≡ nothing → SaidOf bytes h r
+  unfolding saidIn
+  said-refused some e words holds = e ∙ sym (unless-some _ (λ _. nothing) _ some)
 
 module _ (bytes : List ℕ) where
-  pub said-heard : {r : Said} → fileRefusal bytes ≡ 0 → HeardAll (fansIn bytes) (boardCountIn bytes) (deckIn bytes .boards) r → SaidBy bytes r
-  unfolding saidIn
-  said-heard none h = record { words = h .words; is = h .is ∙ sym (unless-none _ _ _ none) }
-
-  pub said-refused : {r : Said} → (fileRefusal bytes ≡ 0 → ⊥) → r ≡ nothing → SaidBy bytes r
-  unfolding saidIn
-  said-refused some e = record { words = []; is = e ∙ sym (unless-some _ (λ _. nothing) _ some) }
-
   -- no file has board numbers of more than 64 fans
   pub boards-few : fileRefusal bytes ≡ 0 → length (deckIn bytes .boards) ≤ most
   unfolding deckIn

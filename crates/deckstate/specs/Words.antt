@@ -12,7 +12,10 @@ use Rattle.rules.specs.File.{fansIn, boardCountIn, deckIn, fileRefusal}
 use Rattle.text.specs.Decimal.{text}
 use Rattle.options.specs.Texts.{sameText}
 use Rattle.states.specs.States.{fanFailed, boardFailed}
+use Rattle.options.specs.declared.Asked.{Asked}
+use Rattle.options.specs.Words as options
 use Rattle.deckstate.specs.declared.hearing.Said.{Said}
+use Rattle.deckstate.specs.declared.hearing.Hearing.{Hearing}
 
 -- the most digits of a word
 abbrev pub longestWord : ℕ
@@ -65,17 +68,51 @@ heardAll n g boards (word ∷ words) = heard n g boards (suc (length words)) wor
 abbrev pub ended : (n count : ℕ) → Said → Said
 ended n count said = cond (said .due) (faulty (said .state) count n) said
 
--- what the words say of a file's deck; those of a refused file are not looked at
+-- the program's own table of options, and any number of words
+abbrev pub optionTable : List ℕ
+optionTable = text "-f         ="
+
+abbrev pub mostWords : ℕ
+mostWords = 4294967296
+
+-- what all words ask for, the last one first, and those that are no options
+unfoldable pub askedAfter : (words : List (List ℕ)) → Asked
+askedAfter [] = options.nothing
+askedAfter (word ∷ words) = options.heard optionTable mostWords (askedAfter words) (suc (length words)) word
+
+unfoldable pub operandsOf : (words : List (List ℕ)) → List (List ℕ)
+operandsOf [] = []
+operandsOf (word ∷ words) =
+    cond (eqb (options.heard optionTable mostWords (askedAfter words) (suc (length words)) word .operands) (askedAfter words .operands))
+    (operandsOf words)
+    (word ∷ operandsOf words)
+
+-- what is heard of them
+abbrev pub hearingOf : (n g : ℕ) (boards : List ℕ) (words : List (List ℕ)) → Hearing
+hearingOf n g boards words = record {
+  asked = askedAfter words;
+  heard = length (operandsOf words);
+  said = heardAll n g boards (operandsOf words);
+}
+
+-- nothing yet, and one word more
+abbrev pub hearingNone : Hearing
+hearingNone = record { asked = options.nothing; heard = 0; said = nothing }
+
+abbrev pub hearsWord : (n g : ℕ) (boards : List ℕ) (place : ℕ) (word : List ℕ) → Hearing → Hearing
+hearsWord n g boards place word h =
+    let next = options.heard optionTable mostWords (h .asked) place word in
+    cond (eqb (next .operands) (h .asked .operands))
+    (record { asked = next; heard = h .heard; said = h .said })
+    (record { asked = next; heard = h .heard + 1; said = heard n g boards (h .heard + 1) word (h .said) })
+
+-- what the words of the program say of a file's deck; those of a refused file are not looked at
 unfoldable pub saidIn : (bytes : List ℕ) (words : List (List ℕ)) → Said
 saidIn bytes words =
     let n = fansIn bytes in
-    unless (fileRefusal bytes) (λ r. nothing) (ended n (length words) (heardAll n (boardCountIn bytes) (deckIn bytes .boards) words))
+    let own = operandsOf words in
+    unless (fileRefusal bytes) (λ r. nothing) (ended n (length own) (heardAll n (boardCountIn bytes) (deckIn bytes .boards) own))
 
--- what hearing promises: what was said is what some words say, the words that the program was started with; no contract can say which these are
-pub record HeardAll (n g : ℕ) (boards : List ℕ) (r : Said) : Type 0 where
-  pub words : List (List ℕ)
-  pub is : r ≡ ended n (length words) (heardAll n g boards words)
-
-pub record SaidBy (bytes : List ℕ) (r : Said) : Type 0 where
-  pub words : List (List ℕ)
-  pub is : r ≡ saidIn bytes words
+-- whatever words were heard, that is what they say
+abbrev pub SaidOf : (bytes : List ℕ) → Hearing → Said → Type 0
+SaidOf bytes h r = (words : List (List ℕ)) → (fileRefusal bytes ≡ 0 → h ≡ hearingOf (fansIn bytes) (boardCountIn bytes) (deckIn bytes .boards) words) → r ≡ saidIn bytes words

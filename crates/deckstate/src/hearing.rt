@@ -1,12 +1,14 @@
 // What the words say: which fans have failed, or which word is wrong.
 ghost use mathlib.Core.Path.{_≡_};
-ghost use Prim.Native.Nat.{_≤_};
+ghost use Prim.Native.Nat.{_+_, _≤_, _<_};
 ghost use lib.ListN.{length};
 ghost use Rattle.rules.specs.Refusal.{most};
 ghost use Rattle.deck.specs.Outcome.{Opens};
+ghost use Rattle.options.specs.Words.{Sound};
 ghost use Rattle.deckstate.specs.Words.{numberIn, nothing, fanHeard, boardHeard, asksBoard, heard, ended};
-ghost use Rattle.deckstate.specs.Words.{HeardAll, SaidBy};
+ghost use Rattle.deckstate.specs.Words.{hearingNone, hearsWord, SaidOf};
 use deck::Opened;
+use options::Asked;
 
 // Room for the longest number, so that a longer word, which is cut to none, is none either.
 const WORD: usize = 16;
@@ -149,39 +151,89 @@ fn end_words(n: u64, count: u64, said: Said) -> Said
     said
 }
 
-// What all words say that are no options, over a deck of n fans on these boards, of which there are g.
-fn hear_words(n: u64, g: u64, boards: &[u8]) -> Said
+// What all words of the program so far ask for, how many of them are no options, and what those say.
+pub struct Hearing {
+    pub asked: Asked,
+    pub heard: u64,
+    pub said: Said,
+}
+
+// Before the first word.
+fn silence() -> Hearing
+    ensures { λ r. ⌜ (r ≡ hearingNone) × Sound (r .asked) ⌝ }
+{
+    let asked = options::nothing();
+    let said = nothing_said();
+    Hearing {
+        asked,
+        heard: 0,
+        said,
+    }
+}
+
+// One word of the program more, at its place.
+fn hear(n: u64, g: u64, boards: &[u8], hearing: Hearing, place: usize, word: &[u8]) -> Hearing
     requires { ⌜ (n ≤ most) × (length (now boards) ≤ most) ⌝ }
-    ensures { λ r. ⌜ HeardAll n g (now (boards .entry)) r ⌝ }
+    requires { ⌜ Sound (hearing .asked) × (hearing .heard < place) ⌝ }
+    ensures { λ r. ⌜ r ≡ hearsWord n g (now (boards .entry)) place (now (word .entry)) hearing ⌝ }
+    ensures { λ r. ⌜ Sound (r .asked) × (r .heard ≤ hearing .heard + 1) ⌝ }
+{
+    let before = hearing.asked;
+    let said = hearing.said;
+    let next = options::hear(b"-f         =", MOST_WORDS, before, place, word);
+    if next.operands == before.operands {
+        return Hearing {
+            asked: next,
+            heard: hearing.heard,
+            said,
+        };
+    }
+    let heard = hearing.heard + 1;
+    let more = hear_word(n, g, boards, heard, word, said);
+    Hearing {
+        asked: next,
+        heard,
+        said: more,
+    }
+}
+
+// The loop over the words of the program, for a deck of n fans on these boards, of which there are g.
+fn hear_words(n: u64, g: u64, boards: &[u8]) -> Hearing
+    requires { ⌜ (n ≤ most) × (length (now boards) ≤ most) ⌝ }
 {
     let count = os::arg_count();
     let mut word = [0u8; WORD];
-    let mut asked = options::nothing();
-    let mut said = nothing_said();
-    let mut heard: usize = 0;
+    let mut hearing = silence();
     let mut i: usize = 1;
     while i < count {
         let length = os::arg(i, &mut word);
-        let next = options::hear(b"-f         =", MOST_WORDS, asked, i, &word[..length]);
-        if next.operands != asked.operands {
-            heard += 1;
-            said = hear_word(n, g, boards, heard as u64, &word[..length], said);
-        }
-        asked = next;
+        hearing = hear(n, g, boards, hearing, i, &word[..length]);
         i += 1;
     }
-    end_words(n, heard as u64, said)
+    hearing
 }
 
-// What the words say of the deck of a file that was opened; those of a refused file are not looked at.
-pub fn said_of(file: &[u8], opened: Opened) -> Said
+// The same for the deck of a file that was opened; of a refused file no word is heard.
+pub fn hear_all(file: &[u8], opened: Opened) -> Hearing
     requires { ⌜ Opens (now file) opened ⌝ }
-    ensures { λ r. ⌜ SaidBy (now (file .entry)) r ⌝ }
+{
+    if opened.refusal != 0 {
+        return silence();
+    }
+    let head = opened.head;
+    let boards = deck::boards_in(file, head);
+    hear_words(head.fans as u64, head.boards as u64, boards)
+}
+
+// What the words that were heard say of that deck.
+pub fn settled(file: &[u8], opened: Opened, hearing: Hearing) -> Said
+    requires { ⌜ Opens (now file) opened ⌝ }
+    ensures { λ r. ⌜ SaidOf (now (file .entry)) hearing r ⌝ }
 {
     if opened.refusal != 0 {
         return nothing_said();
     }
     let head = opened.head;
-    let boards = deck::boards_in(file, head);
-    hear_words(head.fans as u64, head.boards as u64, boards)
+    let said = hearing.said;
+    end_words(head.fans as u64, hearing.heard, said)
 }

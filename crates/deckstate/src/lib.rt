@@ -29,7 +29,8 @@ fn judge_front(input: &[u8; printing::INPUT], filled: usize) -> i32
 {
     let file = printing::front_of(input, filled);
     let opened = deck::open(file);
-    let said = hearing::said_of(file, opened);
+    let hearing = hearing::hear_all(file, opened);
+    let said = hearing::settled(file, opened, hearing);
     if said.wrong != 0 {
         return tell_wrong(said.wrong, said.most);
     }

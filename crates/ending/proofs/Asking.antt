@@ -2,12 +2,12 @@
 -- stream ends before, they are the file at the stream's front: the header's numbers are the stream's. Assumes nothing.
 use mathlib.Core.Path.{_≡_, refl, sym, ap, _∙_}
 use mathlib.Core.Bool.{true, false, cond}
-use mathlib.Core.List.{List}
+use mathlib.Core.List.{List, _++_}
 use Prim.Native.Nat.{ℕ, _+_, _≤_, _<_}
 use native.Mathlib.Omega.{arith}
 use native.Mathlib.Decide.{decLe}
-use lib.ListN.{length, take}
-use lib.Seq.{length-take-le, take-all, getD-take}
+use lib.ListN.{length, take, drop, length-append, length-drop}
+use lib.Seq.{length-take-le, take-all, getD-take, take-append-seam, drop-append-seam}
 use borrow.Author.Tests.{lt-ltb, le-ltb, not-false}
 use Rattle.rules.specs.Boards.{hasBoards}
 use Rattle.rules.specs.Refusal.{mostBoards}
@@ -18,7 +18,7 @@ use Rattle.rules.proofs.Accepted.{none-first}
 use Rattle.rules.proofs.Tests.{by-test}
 use Rattle.rules.proofs.Unless.{unless-some, unless-none, unless-by}
 use Rattle.deck.specs.Head.{headOf, countsRefusal}
-use Rattle.ending.specs.Ending.{asksBy, asks, fileAt, longest}
+use Rattle.ending.specs.Ending.{asksBy, asks, fileAt, restAt, longest}
 use Rattle.layout.proofs.Numbers.{number-same}
 use Rattle.layout.proofs.Versions.{header-bounds, header-some, by-boards, fans-bound, without-boards, few-boards}
 
@@ -106,7 +106,7 @@ module _ (stream : List ℕ) (k : ℕ) (within : k ≤ length stream) where
       (rw (← version-same) (omega arith), rw (boards-same, version-same, fans-same, count-same, zero-same))
 
   -- as many bytes as they ask for
-  pub asked-front : asks front ≡ k → asks stream ≡ k
+  asked-front : asks front ≡ k → asks stream ≡ k
   asked-front e =
       elim (decLe shortestHeader k) [
         | no g ↦ absurd (omega (arith, size, asks-short front (omega (arith, size)), e))
@@ -119,12 +119,24 @@ module _ (stream : List ℕ) (k : ℕ) (within : k ≤ length stream) where
             ]
       ]
 
-  pub file-whole : asks front ≡ k → fileAt stream ≡ front
-  file-whole e = ap (λ n. take n stream) (asked-front e)
+-- bytes that are as many as they ask for, whatever stands behind them: they are the file, and that is the rest
+module _ (bytes rest : List ℕ) (whole : asks bytes ≡ length bytes) where
+  together : asks (bytes ++ rest) ≡ length bytes
+  together = asked-front (bytes ++ rest) (length bytes) (omega (arith, length-append bytes rest)) (ap asks (take-append-seam bytes rest) ∙ whole)
 
--- fewer, where the stream ends
-pub file-short : (stream : List ℕ) → length stream < asks stream → fileAt stream ≡ stream
-file-short stream l = take-all (asks stream) stream (omega arith)
+  pub front-whole : fileAt (bytes ++ rest) ≡ bytes
+  front-whole = ap (λ n. take n (bytes ++ rest)) together ∙ take-append-seam bytes rest
+
+  pub rest-whole : restAt (bytes ++ rest) ≡ rest
+  rest-whole = ap (λ n. drop n (bytes ++ rest)) together ∙ drop-append-seam bytes rest
+
+-- fewer, where the stream ends: nothing is behind them
+module _ (stream : List ℕ) (l : length stream < asks stream) where
+  pub file-short : fileAt stream ≡ stream
+  file-short = take-all (asks stream) stream (omega arith)
+
+  pub rest-short : length (restAt stream) ≡ 0
+  rest-short = omega (arith, length-drop (asks stream) stream)
 
 -- a file asks for its header at least
 header-least : (bytes : List ℕ) → shortestHeader ≤ length bytes → headerLength (versionIn bytes) ≤ asks bytes

@@ -1,22 +1,19 @@
--- Lines read one after another: those that were read and those of what is left are all lines of the text. Assumes nothing.
-use mathlib.Core.Path.{_≡_, refl, sym, ap, _∙_}
+-- Lines read one after another: each is counted once, and those that were read are those of the text so far. Assumes nothing.
+use mathlib.Core.Path.{_≡_, refl}
 use mathlib.Core.Bool.{Bool, true, false, cond}
-use mathlib.Core.List.{List, [], _∷_, _++_, append-assoc, append-nil}
-use Prim.Native.Nat.{ℕ, _+_, _≤_, _<_}
+use mathlib.Core.List.{List, [], _∷_, _++_}
+use Prim.Native.Nat.{ℕ, _+_, _≤_}
 use native.Mathlib.Omega.{arith}
 use lib.Dec.{eqb, ltb}
-use lib.ListN.{length, getD, drop, length-append}
+use lib.ListN.{length, getD, length-append}
 use Rattle.rules.specs.Refusal.{mostBoards}
 use Rattle.rules.specs.File.{mostFans, mostSystems}
-use Rattle.typing.specs.Words.{linesOn, linesOf, wordsOf}
+use Rattle.typing.specs.Words.{newline, linesOn, linesOf, wordsOf}
 use Rattle.typing.specs.Grammar.{ofNumber, ofThing, aVersion, someFans, aBoard}
-use Rattle.typing.specs.Stands.{part}
 use Rattle.typing.specs.Line.{readLine}
 use Rattle.typing.specs.Text.{Listed, longestLine, added, thing, wordy, withLine, withLines}
 use Rattle.listing.specs.declared.Listing.{Listing}
 use Rattle.listing.specs.Holds.{Held, Steps}
-use Rattle.listing.specs.Lines.{LineEnds}
-use Rattle.listing.proofs.Ends.{beyond}
 
 -- lines read in two parts
 pub lines-more : (s : Listed) (a b : List (List ℕ)) → withLines s (a ++ b) ≡ withLines (withLines s a) b
@@ -50,35 +47,40 @@ unfolding withLines
 lines-counted [] s = omega arith
 lines-counted (line ∷ lines) s = omega (arith, lines-counted lines (withLine s line), lines-line s line)
 
--- what was read up to a place
-pub record ReadUpTo (text : List ℕ) (before : Listing) (out : List ℕ) (after : Listing) (then : List ℕ) (at : ℕ) : Type 0 where
-  pub done : List (List ℕ)
-  pub rest : linesOf text ≡ done ++ linesOf (drop at text)
-  pub few : length done ≤ at
-  pub holds : Steps before out after then (λ s. withLines s done)
+-- a text has no more lines than bytes
+lines-few : (text soFar : List ℕ) → length (linesOn soFar text) ≤ length text + length soFar
+unfolding linesOn
+lines-few [] [] = omega arith
+lines-few [] (b ∷ soFar) = omega arith
+lines-few (x ∷ text) soFar = go (eqb x newline) (lines-few text []) (lines-few text (soFar ++ (x ∷ [])))
+  where
+    go : (t : Bool) → length (linesOn [] text) ≤ length text + 0 → length (linesOn (soFar ++ (x ∷ [])) text) ≤ length text + length (soFar ++ (x ∷ []))
+        → length (cond t (soFar ∷ linesOn [] text) (linesOn (soFar ++ (x ∷ [])) text)) ≤ length (x ∷ text) + length soFar
+    go true p q = omega arith
+    go false p q = omega (arith, length-append soFar (x ∷ []))
 
-pub read-none : (text : List ℕ) (l : Listing) (out : List ℕ) → ReadUpTo text l out l out 0
+pub lines-within : {before after : Listing} {out then : List ℕ} (text : List ℕ) → Held before out → Steps before out after then (λ s. withLines s (linesOf text))
+    → after .lines ≤ before .lines + length text
+lines-within text h step =
+    omega (arith, step (h .state) (h .holds) .lines, h .holds .lines, lines-counted (linesOf text) (h .state), lines-few text [])
+
+pub line-within : {before after : Listing} {out then : List ℕ} (line : List ℕ) → Held before out → Steps before out after then (λ s. withLine s line)
+    → after .lines ≡ before .lines + 1
+line-within line h step = omega (arith, step (h .state) (h .holds) .lines, h .holds .lines, lines-line (h .state) line)
+
+-- it still holds something
+pub held-on : {before after : Listing} {out then : List ℕ} {step : Listed → Listed} → Held before out → Steps before out after then step → Held after then
+held-on {step} h steps = record { state = step (h .state); holds = steps (h .state) (h .holds) }
+
+-- nothing was read yet, and one line more
+pub steps-none : (l : Listing) (out : List ℕ) → Steps l out l out (λ s. withLines s (linesOf []))
+unfolding linesOn withLines
+steps-none l out s h = h
+
+pub steps-on : {before after next : Listing} {out then last : List ℕ} (done more : List ℕ) (line : List ℕ)
+    → linesOf more ≡ linesOf done ++ (line ∷ [])
+    → Steps before out after then (λ s. withLines s (linesOf done))
+    → Steps after then next last (λ s. withLine s line)
+    → Steps before out next last (λ s. withLines s (linesOf more))
 unfolding withLines
-read-none text l out = record { done = []; rest = refl; few = omega arith; holds = λ s h. h }
-
-module _ {text : List ℕ} {before after : Listing} {out then : List ℕ} {at : ℕ} (x : ReadUpTo text before out after then at) where
-  pub read-held : Held before out → Held after then
-  read-held h = record { state = withLines (h .state) (x .done); holds = x .holds (h .state) (h .holds) }
-
-  pub read-few : Held before out → after .lines ≤ before .lines + at
-  read-few h =
-      omega (arith, x .holds (h .state) (h .holds) .lines, lines-counted (x .done) (h .state), h .holds .lines, x .few)
-
-  pub read-on : {next : Listing} {last : List ℕ} {end : ℕ} → LineEnds text at end → at < length text → Steps after then next last (λ s. withLine s (part text at end))
-      → ReadUpTo text before out next last (end + 1)
-  unfolding withLines
-  read-on {end = end} e l step = record {
-    done = x .done ++ (part text at end ∷ []);
-    rest = x .rest ∙ ap (λ y. x .done ++ y) (e .lines l) ∙ sym (append-assoc (x .done) (part text at end ∷ []) (linesOf (drop (end + 1) text)));
-    few = omega (arith, length-append (x .done) (part text at end ∷ []), x .few, e .low);
-    holds = λ s h. rw (lines-more s (x .done) (part text at end ∷ [])) (step (withLines s (x .done)) (x .holds s h));
-  }
-
-  pub read-all : length text ≤ at → Steps before out after then (λ s. withLines s (linesOf text))
-  unfolding linesOn
-  read-all l s h = rw (x .rest, beyond at text l, append-nil (x .done)) (x .holds s h)
+steps-on done more line is before step s h = rw (is, lines-more s (linesOf done) (line ∷ [])) (step (withLines s (linesOf done)) (before s h))

@@ -1,20 +1,19 @@
 // What a typed text lists, line by line, its faults told into a lent buffer.
 mod adding; // adding.rt: what a line adds
 mod ending; // ending.rt: what is told at its end
-mod lines; // lines.rt: where its lines end
+pub mod lines; // lines.rt: where its lines end
 
 ghost use mathlib.Core.Path.{_≡_};
 ghost use mathlib.Core.Bool.{true, _&&_};
 ghost use lib.Dec.{eqb};
 ghost use Prim.Native.Nat.{_+_, _≤_, _<_};
 ghost use lib.ListN.{length};
-ghost use Rattle.typing.specs.Words.{linesOf};
 ghost use Rattle.typing.specs.Grammar.{grammar};
 ghost use Rattle.typing.specs.Stands.{part};
-ghost use Rattle.typing.specs.Text.{counted, thing, withLine, withLines};
+ghost use Rattle.typing.specs.Text.{counted, thing, withLine};
 ghost use Rattle.typing.specs.Line.{readLine};
-ghost use Rattle.typed_lists.specs.Told.{toldRoom};
-ghost use Rattle.listing.specs.Holds.{Starts, Held, Steps, Counts, mostLines, ended, HoldsText};
+ghost use Rattle.listing.specs.Holds.{Starts, Held, Steps, Counts, mostLines, ended};
+ghost use Rattle.listing.specs.Lines.{ReadLines};
 use rules::limit;
 use typed_lists::fans::Fans;
 use typed_lists::listed::Systems;
@@ -140,24 +139,38 @@ fn with_line(table: &[u64; ENTRIES], listing: Listing, line: &[u8], out: &mut [u
     with_words(table, listing, line, from, upto, out)
 }
 
-// All lines of a text, or of a piece of one that ends with a line: the listing then.
-pub fn read_lines(listing: Listing, text: &[u8], out: &mut [u8]) -> Listing
+// One line more, by itself.
+pub fn read_line(listing: Listing, line: &[u8], out: &mut [u8]) -> Listing
+    requires { ⌜ Held listing (now out) × (listing .lines < mostLines) ⌝ }
+    ensures { λ r. ⌜ Steps listing (now (out .entry)) r (now (out .exit)) (λ s. withLine s (now (line .entry))) ⌝ }
+{
+    let table = grammar::table();
+    with_line(&table, listing, line, out)
+}
+
+// What was read of a text: the listing then, and where its rest begins.
+pub struct Reached {
+    pub listing: Listing,
+    pub at: usize,
+}
+
+// All lines that end in a text; its last one may go on.
+pub fn read_lines(listing: Listing, text: &[u8], out: &mut [u8]) -> Reached
     requires { ⌜ Held listing (now out) × (listing .lines + length (now text) ≤ mostLines) ⌝ }
-    ensures { λ r. ⌜ Steps listing (now (out .entry)) r (now (out .exit))
-        (λ s. withLines s (linesOf (now (text .entry)))) ⌝ }
+    ensures { λ r. ⌜ ReadLines (now (text .entry)) listing (now (out .entry)) r (now (out .exit)) ⌝ }
 {
     let table = grammar::table();
     let mut next = listing;
     let mut at: usize = 0;
     while at < text.len() {
         let end = lines::line_end(text, at);
-        next = with_line(&table, next, &text[at..end], out);
         if end == text.len() {
-            return next;
+            break;
         }
+        next = with_line(&table, next, &text[at..end], out);
         at = end + 1;
     }
-    next
+    Reached { listing: next, at }
 }
 
 // Whether a version has boards and there is none.
@@ -191,13 +204,4 @@ pub fn last(listing: Listing, out: &mut [u8]) -> Listing
     let fourth = ending::unplaced(third, fans, g, out);
     next.told = fourth;
     next
-}
-
-// What a whole text lists, and its faults.
-pub fn whole(text: &[u8], out: &mut [u8]) -> Listing
-    requires { ⌜ (toldRoom ≤ length (now out)) × (length (now text) < mostLines) ⌝ }
-    ensures { λ r. ⌜ HoldsText r (now (text .entry)) (now (out .exit)) ⌝ }
-{
-    let read = read_lines(none(), text, out);
-    last(read, out)
 }

@@ -1,4 +1,4 @@
--- What is written for lines that were read: where a fault is told, the faults alone; else the file, and the warnings of its systems. Assumes nothing.
+-- What is written for a text that was read: where a fault is told, the faults alone; else the file, and the warnings of its systems. Assumes nothing.
 use mathlib.Core.Path.{_≡_, refl, sym, ap, _∙_}
 use mathlib.Core.List.{List, [], _∷_}
 use Prim.Native.Nat.{ℕ, _≤_}
@@ -10,13 +10,14 @@ use Rattle.io.specs.Counts.{Counts}
 use Rattle.rules.specs.Writing.{bytesFor, writeRefusal}
 use Rattle.text.specs.Added.{Added}
 use Rattle.text.proofs.Adding.{added-counts}
+use Rattle.typing.specs.Words.{linesOf}
 use Rattle.typing.specs.Text.{Fault, typedBy}
 use Rattle.listing.specs.declared.Listing.{Listing}
-use Rattle.listing.specs.Holds.{Holds}
+use Rattle.listing.specs.Holds.{HoldsText}
 use Rattle.listing.proofs.Handed.{none-told, some-told}
 use Rattle.making.specs.declared.Made.{Made}
 use Rattle.making.specs.Lines.{warningsText}
-use Rattle.making.specs.Made.{fileOut, saidOut, listedBy, HeardAll, FileOf, fileRoom, MadeOf}
+use Rattle.making.specs.Made.{fileOut, saidOut, listedBy, HeldText, FileOf, fileRoom, MadeOf}
 use Rattle.making.proofs.Filing.{written-lines}
 
 no-faults : (x : List Fault) → length x ≡ 0 → x ≡ []
@@ -25,32 +26,33 @@ no-faults (f ∷ x) e = absurd (omega arith)
 
 module _ {l : Listing} {out : List ℕ} where
   -- something is told
-  pub told-made : HeardAll l out → (l .told .count ≡ 0 → ⊥) → (file : List ℕ) → MadeOf l out file out (record { size = 0; end = l .told .end })
+  pub told-made : HeldText l out → (l .told .count ≡ 0 → ⊥) → (file : List ℕ) → MadeOf l out file out (record { size = 0; end = l .told .end })
   unfolding fileOut saidOut
-  told-made heard some file =
-      let long : l .told .end ≤ length out = omega (arith, heard .holds .told .room) in
+  told-made held some file =
+      let long : l .told .end ≤ length out = omega (arith, held .holds .told .room) in
       record {
         file-counts = (omega arith, refl);
         out-counts = (long, sym (length-take-le (l .told .end) out long));
-        stands = λ lines h.
-            let faulty = ne-eqb (length (listedBy lines .faults)) 0 (λ z. some (some-told (h .told) (no-faults (listedBy lines .faults) z))) in
+        stands = λ text h.
+            let faults = listedBy (linesOf text) .faults in
+            let faulty = ne-eqb (length faults) 0 (λ z. some (some-told (h .told) (no-faults faults z))) in
             (rw faulty, rw faulty (h .told .text));
       }
 
   -- nothing is told
   module _ (none : l .told .count ≡ 0) (room : List ℕ) (long : fileRoom ≤ length room) {file : List ℕ} {size : ℕ} (is : FileOf l room file size) where
-    pub file-made : (lines : List (List ℕ)) → Holds l (listedBy lines) out → Counts size file × (take size file ≡ bytesFor (typedBy (listedBy lines)))
-    file-made lines h = is .stands (listedBy lines) out h (written-lines lines room (none-told (h .told) none) long)
+    pub file-made : (text : List ℕ) → HoldsText l text out → Counts size file × (take size file ≡ bytesFor (typedBy (listedBy (linesOf text))))
+    file-made text h = is .stands (listedBy (linesOf text)) out h (written-lines (linesOf text) room (none-told (h .told) none) long)
 
-    pub none-made : {said : List ℕ} {end : ℕ} → HeardAll l out → Added (warningsText (take size file) (l .systems .count)) out 0 said end
+    pub none-made : {said : List ℕ} {end : ℕ} → HeldText l out → Added (warningsText (take size file) (l .systems .count)) out 0 said end
         → MadeOf l out file said (record { size = size; end = end })
     unfolding fileOut saidOut
-    none-made heard added =
+    none-made held added =
         record {
-          file-counts = file-made (heard .lines) (heard .holds) .0;
+          file-counts = file-made (held .text) (held .holds) .0;
           out-counts = added-counts added;
-          stands = λ lines h.
-              let same = file-made lines h .1 in
-              let sound = eq-eqb (length (listedBy lines .faults)) 0 (ap length (none-told (h .told) none)) in
+          stands = λ text h.
+              let same = file-made text h .1 in
+              let sound = eq-eqb (length (listedBy (linesOf text) .faults)) 0 (ap length (none-told (h .told) none)) in
               (rw sound same, rw (sound, ← same, ← (h .systems .count)) (added .stands));
         }

@@ -9,10 +9,11 @@ use Rattle.io.specs.Counts.{Counts}
 use Rattle.rules.specs.Refusal.{lastVersion, mostBoards}
 use Rattle.rules.specs.File.{fileLength, mostFans, mostSystems}
 use Rattle.rules.specs.Writing.{bytesFor, writeRefusal}
-use Rattle.typing.specs.Text.{Listed, nothing, withLines, listed, typedBy}
+use Rattle.typing.specs.Words.{linesOf}
+use Rattle.typing.specs.Text.{Listed, nothing, withLines, typedBy}
 use Rattle.faults.specs.Told.{faultsText, mostTold}
 use Rattle.listing.specs.declared.Listing.{Listing}
-use Rattle.listing.specs.Holds.{Holds, ended}
+use Rattle.listing.specs.Holds.{Holds, ended, HoldsText}
 use Rattle.making.specs.Lines.{warningsText}
 use Rattle.making.specs.declared.Made.{Made}
 
@@ -31,14 +32,10 @@ saidOut s = cond (faultless s) (warningsText (bytesFor (typedBy s)) (length (s .
 abbrev pub listedBy : (lines : List (List ℕ)) → Listed
 listedBy lines = ended (withLines nothing lines)
 
--- some lines were read to their end; no contract can say which
-pub record Heard (l : Listing) (out : List ℕ) : Type 0 where
-  pub lines : List (List ℕ)
-  pub holds : Holds l (withLines nothing lines) out
-
-pub record HeardAll (l : Listing) (out : List ℕ) : Type 0 where
-  pub lines : List (List ℕ)
-  pub holds : Holds l (listedBy lines) out
+-- a listing holds some text to its end, as making asks
+pub record HeldText (l : Listing) (out : List ℕ) : Type 0 where
+  pub text : List ℕ
+  pub holds : HoldsText l text out
 
 -- a listing holds something
 pub record HoldsSome (l : Listing) : Type 0 where
@@ -54,9 +51,9 @@ pub record FileOf (l : Listing) (before after : List ℕ) (size : ℕ) : Type 0 
 abbrev pub fileRoom : ℕ
 fileRoom = fileLength lastVersion mostFans mostBoards mostSystems
 
--- the first bytes of two buffers are what deckmake writes, whichever lines were read
+-- the first bytes of two buffers are what deckmake writes for the text, whichever it is
 pub record MadeOf (l : Listing) (before file out : List ℕ) (r : Made) : Type 0 where
   pub file-counts : Counts (r .size) file
   pub out-counts : Counts (r .end) out
-  pub stands : (lines : List (List ℕ)) → Holds l (listedBy lines) before
-      → (take (r .size) file ≡ fileOut (listedBy lines)) × (take (r .end) out ≡ saidOut (listedBy lines))
+  pub stands : (text : List ℕ) → HoldsText l text before
+      → (take (r .size) file ≡ fileOut (listedBy (linesOf text))) × (take (r .end) out ≡ saidOut (listedBy (linesOf text)))

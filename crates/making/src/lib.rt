@@ -5,7 +5,7 @@ ghost use lib.ListN.{length};
 ghost use Rattle.rules.specs.File.{mostSystems};
 ghost use Rattle.text.specs.Added.{Added};
 ghost use Rattle.making.specs.Lines.{warningText, warningRoom, warningsText, warningsRoom};
-ghost use Rattle.making.specs.Made.{fileRoom, HoldsSome, FileOf, HeardAll, MadeOf};
+ghost use Rattle.making.specs.Made.{fileRoom, HoldsSome, FileOf, HeldText, MadeOf};
 use listing::Listing;
 use rules::Rating;
 use rules::Writing;
@@ -91,7 +91,7 @@ fn put_file(listing: Listing, file: &mut [u8]) -> usize
 
 // Both.
 pub fn make(listing: Listing, file: &mut [u8], out: &mut [u8]) -> Made
-    requires heard { ⌜ HeardAll listing (now out) ⌝ }
+    requires held { ⌜ HeldText listing (now out) ⌝ }
     requires room { ⌜ (fileRoom ≤ length (now file)) × (warningsRoom ≤ length (now out)) ⌝ }
     ensures { λ r. ⌜ MadeOf listing (now (out .entry)) (now (file .exit)) (now (out .exit)) r ⌝ }
 {

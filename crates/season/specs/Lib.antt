@@ -1,2 +1,2 @@
--- What season reads.
-pub mod Reading
+-- How season ends.
+pub mod Status

@@ -1,12 +1,12 @@
 // Prints the totals of deck files, one after another.
-mod reading; // reading.rt: the files, and their totals
+mod reading; // reading.rt: the loop over the stream
 
-ghost use Prim.Native.Nat.{_≤_};
-ghost use Rattle.shell.specs.Edges.{labelRoom};
 ghost use Rattle.shell.specs.Status.{Status};
+ghost use Rattle.season_stream.specs.Reading.{Sane};
+ghost use Rattle.season.specs.Status.{EndsBy};
 use libc::STDERR_FILENO;
 use options::Asked;
-use reading::Season;
+use season_stream::Reading;
 use shell::names::LABEL;
 use shell::sources;
 use shell::starting;
@@ -22,14 +22,16 @@ fn wipe(shown: bool) {
     }
 }
 
-// Prints the report of a season that was read.
-fn print_report(season: Season, waiting: u64) -> i32
+// Prints the report on what was read.
+fn print_report(reading: Reading) -> i32
+    requires { ⌜ Sane reading ⌝ }
+    ensures { λ r. ⌜ EndsBy reading r ⌝ }
     ensures { λ r. ⌜ Status r ⌝ }
 {
     let mut out = [0u8; season_report::OUTPUT];
-    let totals = season.totals;
-    let end = season_report::put_report(totals, waiting, &mut out);
-    starting::print(b"season", &out[..end], totals.refused != 0)
+    let report = season_stream::put_report(reading, &mut out);
+    let end = report.end;
+    starting::print(b"season", &out[..end], report.refused)
 }
 
 // Reports on the files that are asked for; nothing is reported where one cannot be read. Where standard error is a
@@ -43,16 +45,13 @@ fn report(asked: Asked) -> i32
     if source.fd < 0 {
         return shell::FAILED;
     }
-    let season = reading::read_files(shown, asked, source, &mut label);
+    let got = reading::read_stream(shown, asked, source, &mut label);
     wipe(shown);
-    if season.failed {
+    if got.failed {
         return shell::FAILED;
     }
-    let waiting = reading::read_waiting(asked, season, &mut label);
-    if waiting.failed {
-        return shell::FAILED;
-    }
-    print_report(season, waiting.filled as u64)
+    let reading = got.reading;
+    print_report(reading)
 }
 
 // What the program does, by its words: its status.

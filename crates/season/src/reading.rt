@@ -1,69 +1,25 @@
-// Reading a stream of files, each by just the bytes that it asks for, and their totals.
+// The loop over a season's stream: each read brings just the bytes that are asked for, and they are fed.
 ghost use Prim.Native.Nat.{_≤_};
 ghost use lib.ListN.{length};
-ghost use Rattle.ending.specs.Ending.{longest};
-ghost use Rattle.shell.specs.Edges.{labelRoom};
-ghost use Rattle.season.specs.Reading.{FileRead, SeasonRead};
+ghost use Rattle.shell.specs.Edges.{labelRoom, FitsNext};
+ghost use Rattle.season_stream.specs.Reading.{Sane};
 use ending::LONGEST;
 use options::Asked;
-use rules::limit;
+use season_stream::Reading;
 use shell::names::LABEL;
 use shell::sources;
+use shell::sources::More;
 use shell::sources::Source;
 use shell::writing;
-use totals::Totals;
 
-// What reading one file gave: so many bytes at the buffer's front, and where the reading goes on; or a read that
-// failed, which was told.
+// What was read of the stream; or a read that failed, which was told.
 pub struct Got {
-    pub source: Source,
-    pub filled: usize,
+    pub reading: Reading,
     pub failed: bool,
 }
 
-// Reads one file of the stream into the buffer's front.
-pub fn read_file(asked: Asked, source: Source, label: &mut [u8; LABEL], file: &mut [u8]) -> Got
-    requires { ⌜ (longest ≤ length (now file)) × (source .end ≤ labelRoom) ⌝ }
-    ensures { λ r. ⌜ FileRead (now (file .exit)) r ⌝ }
-{
-    let mut source = source;
-    let mut filled = 0;
-    let mut wanted = ending::asks(&file[..filled]);
-    while filled < wanted {
-        let more = sources::read_more(b"season", asked, source, label, &mut file[filled..wanted]);
-        source = more.source;
-        if more.failed {
-            return Got {
-                source,
-                filled: 0,
-                failed: true,
-            };
-        }
-        if more.filled == 0 {
-            return Got {
-                source,
-                filled,
-                failed: false,
-            };
-        }
-        filled += more.filled;
-        wanted = ending::asks(&file[..filled]);
-    }
-    Got {
-        source,
-        filled,
-        failed: false,
-    }
-}
-
-// What is known when the reading has ended: the totals of so many files, and where the reading goes on; or that a read
-// failed.
-pub struct Season {
-    pub totals: Totals,
-    pub files: u64,
-    pub source: Source,
-    pub failed: bool,
-}
+// More pieces than the files of a season have bytes: 2^40.
+const MOST_PIECES: u64 = 1099511627776;
 
 // So many decks are told at a time.
 const TOLD: u64 = 100;
@@ -71,73 +27,59 @@ const TOLD: u64 = 100;
 // Room for what is told.
 const LINE: usize = 32;
 
-// Tells how many decks were read, on a line that the next number takes.
-fn show(shown: bool, decks: u64) {
-    if !shown {
+// Tells how many decks were read, on a line that the next number takes, each time that so many are whole.
+fn show(shown: bool, reading: Reading) {
+    if !shown || reading.closed || reading.kept != 0 {
         return;
     }
-    if decks % TOLD == 0 {
+    let totals = reading.totals;
+    if totals.decks % TOLD == 0 {
         let mut line = [0u8; LINE];
-        let end = text::put_named(b"\rdecks ", decks, &mut line, 0);
+        let end = text::put_named(b"\rdecks ", totals.decks, &mut line, 0);
         writing::say(&line[..end]);
     }
 }
 
-// The files of the stream, up to its end, a refused file or the most that are read.
-pub fn read_files(shown: bool, asked: Asked, source: Source, label: &mut [u8; LABEL]) -> Season
-    requires { ⌜ source .end ≤ labelRoom ⌝ }
-    ensures { λ r. ⌜ SeasonRead r ⌝ }
+// Reads on, so many bytes at most, into the buffer's front.
+fn read_piece(
+    asked: Asked,
+    source: Source,
+    label: &mut [u8; LABEL],
+    wanted: usize,
+    piece: &mut [u8],
+) -> More
+    requires { ⌜ (source .end ≤ labelRoom) × (wanted ≤ length (now piece)) ⌝ }
+    ensures { λ r. ⌜ FitsNext (length (now (piece .exit))) r ⌝ }
 {
-    let mut file = [0u8; LONGEST];
-    let mut totals = totals::none();
-    let mut files: u64 = 0;
-    let mut source = source;
-    while files < limit::FILES {
-        let got = read_file(asked, source, label, &mut file);
-        source = got.source;
-        let filled = got.filled;
-        if filled == 0 {
-            return Season {
-                totals,
-                files,
-                source,
-                failed: got.failed,
-            };
-        }
-        totals = season_files::plus_file(totals, &file[..filled]);
-        files += 1;
-        show(shown, totals.decks);
-        if totals.refused != 0 {
-            break;
-        }
-    }
-    Season {
-        totals,
-        files,
-        source,
-        failed: false,
-    }
+    sources::read_more(b"season", asked, source, label, &mut piece[..wanted])
 }
 
-// Whether bytes are waiting behind the most files that are read: 1 or 0; a read that fails is told.
-pub fn read_waiting(asked: Asked, season: Season, label: &mut [u8; LABEL]) -> Got
-    requires { ⌜ season .source .end ≤ labelRoom ⌝ }
-    ensures { λ r. ⌜ r .filled ≤ 1 ⌝ }
+// Reads until the stream ends, or nothing more is read of it.
+pub fn read_stream(shown: bool, asked: Asked, source: Source, label: &mut [u8; LABEL]) -> Got
+    requires { ⌜ source .end ≤ labelRoom ⌝ }
+    ensures { λ r. ⌜ Sane (r .reading) ⌝ }
 {
-    let source = season.source;
-    if season.files < limit::FILES {
-        return Got {
-            source,
-            filled: 0,
-            failed: false,
-        };
+    let mut piece = [0u8; LONGEST];
+    let mut reading = season_stream::start();
+    let mut source = source;
+    let mut pieces: u64 = 0;
+    while pieces < MOST_PIECES && !reading.closed {
+        let wanted = season_stream::lacks(reading);
+        let more = read_piece(asked, source, label, wanted, &mut piece);
+        source = more.source;
+        let filled = more.filled;
+        if filled == 0 {
+            return Got {
+                reading,
+                failed: more.failed,
+            };
+        }
+        reading = season_stream::feed(reading, &piece[..filled]);
+        show(shown, reading);
+        pieces += 1;
     }
-    let mut byte = [0u8; 1];
-    let more = sources::read_more(b"season", asked, source, label, &mut byte);
-    let after = more.source;
     Got {
-        source: after,
-        filled: more.filled,
-        failed: more.failed,
+        reading,
+        failed: false,
     }
 }

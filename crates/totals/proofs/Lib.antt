@@ -5,4 +5,6 @@ pub mod Spare
 pub mod Sorted
 pub mod Growing
 pub mod Streams
+pub mod Fronts
+pub mod Examples
 pub mod Complete

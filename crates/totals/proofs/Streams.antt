@@ -1,9 +1,10 @@
 -- A stream's files added one after another are its totals; and after each file that was not refused there is room for the next. Assumes nothing.
 use mathlib.Core.Path.{_≡_, refl, sym, ap, _∙_}
-use mathlib.Core.Bool.{Bool, true, false, cond}
+use mathlib.Core.Bool.{Bool, true, false, cond, not}
 use mathlib.Core.List.{List, [], _∷_, _++_, append-assoc, append-nil}
 use Prim.Native.Nat.{ℕ, zero, suc, _+_, _*_, _≤_}
 use native.Mathlib.Omega.{arith}
+use lib.Dec.{eqb, eqb·suc-zero}
 use lib.ListN.{length}
 use Rattle.rules.specs.declared.Rating.{Rating}
 use Rattle.rules.specs.Below.{within}
@@ -14,17 +15,12 @@ use Rattle.ending.specs.Ending.{fileAt, restAt}
 use Rattle.deck.proofs.Sound.{sound}
 use Rattle.totals.specs.declared.Totals.{Totals}
 use Rattle.totals.specs.Season.{chosen, isRefused, lastKind, totalsOf}
-use Rattle.totals.specs.Plus.{systemPlus, systemsPlus, deckPlus, refusalPlus, filePlus}
+use Rattle.totals.specs.Plus.{oneIf, systemPlus, systemsPlus, deckPlus, refusalPlus, filePlus, filesPlus}
 use Rattle.totals.specs.Room.{mostFiles, Room}
 use Rattle.totals.specs.Stream.{isEmpty, filesIn, filesOf}
 use Rattle.totals.proofs.Chosen.{chosen-out}
 use Rattle.totals.proofs.Spare.{totals-more, systems-room}
 use Rattle.totals.proofs.Growing.{totals-plus}
-
--- files one after another
-unfoldable pub filesPlus : Totals → List (List ℕ) → Totals
-filesPlus t [] = t
-filesPlus t (file ∷ files) = filesPlus (filePlus t file) files
 
 -- behind files of which none was refused
 stream-plus : (most : ℕ) (stream : List ℕ) (files : List (List ℕ)) → totalsOf files .refused ≡ 0
@@ -73,23 +69,28 @@ systems-keep t bytes (suc m) =
     let before = systems-keep t bytes m in
     (step .0 ∙ before .0, step .1 ∙ before .1)
 
--- a file is one deck more, or none, and the totals keep their room
-pub record Kept (t after : Totals) : Type 0 where
+-- a file is one deck more, or one refused, and the totals keep their room
+pub record Kept (t : Totals) (file : List ℕ) (after : Totals) : Type 0 where
   pub most : after .decks ≤ t .decks + 1
+  pub refused : after .refused ≡ t .refused + oneIf (isRefused file)
   pub room : Room (mostSystems * after .decks) after
 
-pub file-kept : (t : Totals) (file : List ℕ) → Room (mostSystems * t .decks) t → Kept t (filePlus t file)
+pub file-kept : (t : Totals) (file : List ℕ) → Room (mostSystems * t .decks) t → Kept t file (filePlus t file)
 unfolding filePlus unless
 file-kept t file room = go (fileRefusal file) refl
   where
-    go : (r : ℕ) → fileRefusal file ≡ r → Kept t (unless r (refusalPlus t) (systemsPlus (deckPlus t) file (countIn file)))
+    go : (r : ℕ) → fileRefusal file ≡ r → Kept t file (unless r (refusalPlus t) (systemsPlus (deckPlus t) file (countIn file)))
     go zero accepted =
         let keep = systems-keep (deckPlus t) file (countIn file) .0 in
+        let none : oneIf (isRefused file) ≡ 0 = ap (λ n. oneIf (not (eqb n 0))) accepted in
         let start : Room (mostSystems * t .decks) (deckPlus t) = record { other = room .other; eight = room .eight; kinds = room .kinds } in
         let few = sound file accepted .most-systems in
         record {
           most = omega (arith, keep);
+          refused = omega (arith, none, systems-keep (deckPlus t) file (countIn file) .1);
           room = totals-more (mostSystems * t .decks + countIn file) (mostSystems * systemsPlus (deckPlus t) file (countIn file) .decks) (omega (arith, keep)) _
               (systems-room (mostSystems * t .decks) (deckPlus t) file (countIn file) start);
         }
-    go (suc r) refused = record { most = omega arith; room = record { other = room .other; eight = room .eight; kinds = room .kinds } }
+    go (suc r) refused =
+        let one : oneIf (isRefused file) ≡ 1 = ap (λ b. oneIf (not b)) (ap (λ n. eqb n 0) refused ∙ eqb·suc-zero r) in
+        record { most = omega arith; refused = omega (arith, one); room = record { other = room .other; eight = room .eight; kinds = room .kinds } }

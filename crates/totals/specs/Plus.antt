@@ -1,6 +1,6 @@
 -- How the totals grow by one answer, and by one file: the steps that the program takes. That they lead to the totals of request 13 is a theorem (proofs/Growing).
 use mathlib.Core.Bool.{Bool, cond, _||_}
-use mathlib.Core.List.{List}
+use mathlib.Core.List.{List, [], _∷_}
 use Prim.Native.Nat.{ℕ, zero, suc, _+_, _*_, _-_}
 use lib.Dec.{ltb, eqb}
 use lib.ListN.{getD, set}
@@ -87,3 +87,8 @@ refusalPlus t number = record { decks = t .decks; refused = t .refused + 1; numb
 -- a file
 unfoldable pub filePlus : Totals → (bytes : List ℕ) → Totals
 filePlus t bytes = unless (fileRefusal bytes) (refusalPlus t) (systemsPlus (deckPlus t) bytes (countIn bytes))
+
+-- files one after another
+unfoldable pub filesPlus : Totals → (files : List (List ℕ)) → Totals
+filesPlus t [] = t
+filesPlus t (file ∷ files) = filesPlus (filePlus t file) files

@@ -24,10 +24,13 @@ leftIn zero stream = stream
 leftIn (suc most) stream =
     cond (isEmpty stream) [] (cond (isRefused (fileAt stream)) (restAt stream) (leftIn most (restAt stream)))
 
--- those that are read
+-- so many were read, and bytes are left
+abbrev pub waitingIn : (most : ℕ) (stream : List ℕ) → Bool
+waitingIn most stream = eqb (length (filesIn most stream)) most && not (isEmpty (leftIn most stream))
+
+-- those that are read, and whether bytes are waiting behind the most
 abbrev pub filesOf : (stream : List ℕ) → List (List ℕ)
 filesOf stream = filesIn mostFiles stream
 
--- so many were read, and bytes are left
 abbrev pub isWaiting : (stream : List ℕ) → Bool
-isWaiting stream = eqb (length (filesOf stream)) mostFiles && not (isEmpty (leftIn mostFiles stream))
+isWaiting stream = waitingIn mostFiles stream

@@ -10,8 +10,11 @@ front-of-requires c κs = search needs
 open-requires : tie.Need-open-requires
 open-requires c κs = search needs
 
-said-of-requires : tie.Need-said-of-requires
-said-of-requires c κs = search needs
+hear-all-requires : tie.Need-hear-all-requires
+hear-all-requires c κs = search needs
+
+settled-requires : tie.Need-settled-requires
+settled-requires c κs = search needs
 
 tell-wrong-requires : tie.Need-tell-wrong-requires
 tell-wrong-requires c κs = search needs
@@ -24,7 +27,8 @@ slice-aggregate-state-front c = search needs
 
 state-front-requires : tie.Need-state-front-requires
 state-front-requires c κs =
-    let opened = c .before .before .before .before in
+    let heard = c .before .before .before .before in
+    let opened = heard .before in
     let front = opened .before in
     (front .before .pre, (rw (front .front-of .ensures .is) at (opened .«open» .ensures), omega arith))
 
@@ -49,7 +53,8 @@ judge-front-spec =
     (tie.spec
     front-of-requires
     open-requires
-    said-of-requires
+    hear-all-requires
+    settled-requires
     tell-wrong-requires
     returns
     slice-aggregate-state-front

@@ -1,16 +1,21 @@
--- `read_lines` meets its contract: a turn reads one line. The measure is what is left. Assumes nothing.
-use mathlib.Core.Path.{_≡_, refl}
-use Prim.Native.Nat.{_-_, _≤_}
+-- `read_lines` meets its contract: a turn reads one line that ends in the text. The measure is what is left. Assumes nothing.
+use mathlib.Core.Path.{_≡_, refl, sym, ap, _∙_}
+use Prim.Native.Nat.{_+_, _-_, _≤_, _<_}
 use native.Mathlib.Omega.{arith}
-use lib.ListN.{length}
+use lib.ListN.{length, take, drop}
+use lib.Seq.{length-take-le}
+use Rattle.typing.specs.Words.{linesOf}
 use Rattle.typing.specs.Grammar.{grammar}
-use Rattle.listing.proofs.Reading.{ReadUpTo, read-none, read-held, read-few, read-on, read-all}
+use Rattle.typing.specs.Text.{withLines}
+use Rattle.listing.specs.Holds.{Steps}
+use Rattle.listing.proofs.Ends.{Whole, whole-none, whole-on, lines-on, lines-end, last-goes-on, one-none, beyond}
+use Rattle.listing.proofs.Reading.{lines-within, held-on, steps-none, steps-on}
 use borrow.Author.Needs.{needs}
 use Rattle.listing.proofs.read_lines.Statement.{statement}
 use Rattle.listing.proofs.read_lines.Tie as tie
 
 abbrev Inv-loop : tie.InvT-loop
-Inv-loop text out₀ table next₀ at₀ out next at = (at ≤ length text) × (table ≡ grammar) × ReadUpTo text next₀ out₀ next out at × (length out ≡ length out₀)
+Inv-loop text out₀ table next₀ at₀ out next at = (at ≤ length text) × (table ≡ grammar) × Whole (take at text) × Steps next₀ out₀ next out (λ s. withLines s (linesOf (take at text))) × (length out ≡ length out₀)
 
 abbrev μ-loop : tie.MeasureT-loop
 μ-loop text out₀ table next₀ at₀ out next at = length text - at
@@ -19,64 +24,89 @@ table-requires : tie.Need-table-requires Inv-loop μ-loop
 table-requires c κs = search needs
 
 loop-holds : tie.Need-loop-holds Inv-loop μ-loop
-loop-holds c = (omega arith, c .table .ensures, read-none _ _ _, refl)
+loop-holds c = (omega arith, c .table .ensures, whole-none, steps-none _ _, refl)
 
 line-end-requires : tie.Need-line-end-requires Inv-loop μ-loop
 line-end-requires c κs = omega arith
 
 sub-with-line : tie.Need-sub-with-line Inv-loop μ-loop
-sub-with-line c = omega (arith, c .before .line-end .ensures .low)
+sub-with-line c =
+    let ended = c .before .before in
+    omega (arith, ended .line-end .ensures .low)
 
 part-with-line-start : tie.Need-part-with-line-start Inv-loop μ-loop
-part-with-line-start c = omega (arith, c .before .line-end .ensures .low)
+part-with-line-start c =
+    let ended = c .before .before in
+    omega (arith, ended .line-end .ensures .low)
 
 part-with-line-end : tie.Need-part-with-line-end Inv-loop μ-loop
-part-with-line-end c = omega (arith, c .before .line-end .ensures .high)
+part-with-line-end c =
+    let ended = c .before .before in
+    omega (arith, ended .line-end .ensures .high)
 
 with-line-requires : tie.Need-with-line-requires Inv-loop μ-loop
 with-line-requires c κs =
-    let going = c .before .before .before .before .loop-test in
-    let pre = c .before .before .before .before .before .before .before .before .before .pre in
-    let l = c .before .before .before .before .before .loop in
-    (l .inv .1, read-held (l .inv .2) (pre .0), omega (arith, read-few (l .inv .2) (pre .0), pre .1, going .taken))
-
-same-length : tie.Need-same-length Inv-loop μ-loop
-same-length c =
-    let turn = c .before .before .before .before .before .before .before .before .before .loop in
-    let with-line = c .before .before .before .with-line in
-    omega (arith, turn .inv .3, with-line .kept)
-
-returns : tie.Need-returns Inv-loop μ-loop
-returns c =
-    let l = c .before .before .before .before .before .before .before .before .before .loop in
-    let t = c .before .before .before .before .before .before .before .before .loop-test .taken in
-    let e = c .before .before .before .before .before .before .before .line-end .ensures in
-    read-all (read-on (l .inv .2) e t (c .before .before .before .with-line .ensures)) (omega (arith, c .if1 .taken))
+    let ended = c .before .before .before .before in
+    let going = ended .before in
+    let l = going .before .loop in
+    let known = going .before .before .before in
+    let start = known .before .before in
+    let so-far = length-take-le (l .at) (start .args .text .now) (l .inv .0) in
+    let few = lines-within (take (l .at) (start .args .text .now)) (start .pre .0) (l .inv .3) in
+    (l .inv .1, held-on (start .pre .0) (l .inv .3), omega (arith, few, so-far, start .pre .1, going .loop-test .taken))
 
 add-at : tie.Need-add-at Inv-loop μ-loop
-add-at c = omega (arith, c .before .before .before .before .before .before .before .line-end .ensures .high, c .if1 .left)
+add-at c =
+    let read = c .before .before in
+    let tested = read .before .before .before .before in
+    omega (arith, tested .before .line-end .ensures .high, tested .if1 .left)
 
 loop-less : tie.Need-loop-less Inv-loop μ-loop
 loop-less c =
-    let line-end = c .before .before .before .before .before .before .before .line-end in
-    let going = c .before .before .before .before .before .before .before .before .loop-test in
-    omega (arith, line-end .ensures .low, line-end .ensures .high, c .if1 .left, going .taken)
+    let read = c .before .before in
+    let tested = read .before .before .before .before in
+    let line-end = tested .before .line-end .ensures in
+    omega (arith, line-end .low, line-end .high, tested .if1 .left, tested .before .before .loop-test .taken)
 
 loop-again : tie.Need-loop-again Inv-loop μ-loop
 loop-again c =
-    let going = c .before .before .before .before .before .before .before .before .loop-test in
-    let line-end = c .before .before .before .before .before .before .before .line-end in
-    let with-line = c .before .before .before .with-line in
-    let l = c .before .before .before .before .before .before .before .before .before .loop in
-    let t = going .taken in
-    let e = line-end .ensures in
-    (omega (arith, e .high, c .if1 .left), l .inv .1, read-on (l .inv .2) e t (with-line .ensures), omega (arith, l .inv .3, with-line .kept))
+    let read = c .before .before in
+    let tested = read .before .before .before .before in
+    let ended = tested .before in
+    let at-loop = ended .before .before in
+    let start = at-loop .before .before .before .before in
+    let l = at-loop .loop in
+    let text = start .args .text .now in
+    let e = ended .line-end .ensures in
+    let end = ended .line-end .result in
+    let more : end < length text = omega (arith, e .high, tested .if1 .left) in (
+      omega arith,
+      l .inv .1,
+      whole-on text (l .at) (l .inv .2) end e more,
+      steps-on (take (l .at) text) (take (end + 1) text) _ (lines-on text (l .at) (l .inv .2) end e more) (l .inv .3) (read .with-line .ensures),
+      omega (arith, l .inv .4, read .with-line .kept),
+    )
+
+same-length : tie.Need-same-length Inv-loop μ-loop
+same-length c = omega (arith, c .before .loop .inv .4)
+
+returns : tie.Need-returns Inv-loop μ-loop
+returns c =
+    let l = c .before .loop in
+    let known = c .before .before .before in
+    let text = known .before .before .args .text .now in
+    record { end = lines-end text (l .at) (l .inv .2) (l .inv .0) (one-none (beyond (l .at) text (c .loop-test .left))); holds = l .inv .3 }
 
 same-length-2 : tie.Need-same-length-2 Inv-loop μ-loop
-same-length-2 c = omega (arith, c .before .loop .inv .3)
+same-length-2 c = omega (arith, c .before .before .before .loop .inv .4)
 
 returns-2 : tie.Need-returns-2 Inv-loop μ-loop
-returns-2 c = read-all (c .before .loop .inv .2) (omega (arith, c .loop-test .left))
+returns-2 c =
+    let at-loop = c .before .before .before in
+    let l = at-loop .loop in
+    let known = at-loop .before .before in
+    let text = known .before .before .args .text .now in
+    record { end = last-goes-on text (l .at) (l .inv .2) (rw (c .if1 .taken) at (c .before .line-end .ensures)); holds = l .inv .3 }
 
 pub read-lines-spec : {M : Type 1} → statement M
 read-lines-spec =
@@ -91,10 +121,10 @@ read-lines-spec =
     part-with-line-start
     part-with-line-end
     with-line-requires
-    same-length
-    returns
     add-at
     loop-less
     loop-again
+    same-length
+    returns
     same-length-2
     returns-2)

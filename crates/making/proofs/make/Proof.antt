@@ -1,6 +1,7 @@
 -- `making::make` meets its contract: where something is told, that is what is said; else nothing is, the writer does not refuse, and the warnings are said. Assumes nothing.
 use native.Mathlib.Omega.{arith}
 use borrow.Author.Needs.{needs}
+use Rattle.typing.specs.Words.{linesOf}
 use Rattle.making.specs.Made.{listedBy}
 use Rattle.making.proofs.Saying.{told-made, file-made, none-made}
 use Rattle.making.proofs.make.Statement.{statement}
@@ -12,19 +13,19 @@ returns c = told-made (c .before .before .before .before .before .pre .0) (c .if
 put-file-requires : tie.Need-put-file-requires
 put-file-requires c κs =
     let start = c .before .before .before .before .before .before .before in
-    record { state = listedBy (start .pre .0 .lines); told = start .args .out .now; holds = start .pre .0 .holds }
+    record { state = listedBy (linesOf (start .pre .0 .text)); told = start .args .out .now; holds = start .pre .0 .holds }
 
 slice-reshare-prefix-put-warnings : tie.Need-slice-reshare-prefix-put-warnings
 slice-reshare-prefix-put-warnings c =
     let start = c .before .before .before .before .before .before .before .before .before .before in
-    let heard = start .pre .0 in
-    file-made (c .before .before .before .before .before .if1 .left) (start .args .file .now) (start .pre .1 .0) (c .before .before .put-file .ensures) (heard .lines) (heard .holds) .0 .0
+    let held = start .pre .0 in
+    file-made (c .before .before .before .before .before .if1 .left) (start .args .file .now) (start .pre .1 .0) (c .before .before .put-file .ensures) (held .text) (held .holds) .0 .0
 
 slice-aggregate-put-warnings : tie.Need-slice-aggregate-put-warnings
 slice-aggregate-put-warnings c =
     let start = c .before .before .before .before .before .before .before .before .before .before .before in
-    let heard = start .pre .0 in
-    file-made (c .before .before .before .before .before .before .if1 .left) (start .args .file .now) (start .pre .1 .0) (c .before .before .before .put-file .ensures) (heard .lines) (heard .holds) .0 .1
+    let held = start .pre .0 in
+    file-made (c .before .before .before .before .before .before .if1 .left) (start .args .file .now) (start .pre .1 .0) (c .before .before .before .put-file .ensures) (held .text) (held .holds) .0 .1
 
 put-warnings-requires : tie.Need-put-warnings-requires
 put-warnings-requires c κs =

@@ -1,37 +1,36 @@
--- `text::read_text` meets its contract: the lines read so far are held, whatever each read brings. The measure is the number of pieces left. Assumes nothing.
+-- `text::read_text` meets its contract: what was fed is held, whatever each read brings. The measure is how many pieces may still come. Assumes nothing.
 use mathlib.Core.Path.{_≡_, refl, sym}
-use Prim.Native.Nat.{_-_, _*_, _≤_}
+use mathlib.Core.List.{[]}
+use Prim.Native.Nat.{ℕ, _*_, _-_, _≤_}
 use native.Mathlib.Omega.{arith}
-use lib.ListN.{length, drop, length-take}
+use lib.ListN.{length, length-replicate}
+use lib.Seq.{length-take-le}
+use Rattle.text_stream.specs.Feeding.{Held}
+use Rattle.text_stream.proofs.Pieces.{held-fed}
 use borrow.Author.Needs.{needs}
-use Rattle.typing.specs.Stands.{part}
-use Rattle.listing.proofs.Pieces.{lines-within}
-use Rattle.deckmake.specs.Pieces.{pieceRoom}
-use Rattle.making.specs.Made.{Heard}
-use Rattle.deckmake.proofs.Pieces.{heard-none, heard-held, heard-more}
 use Rattle.deckmake.proofs.text.read_text.Statement.{statement}
 use Rattle.deckmake.proofs.text.read_text.Tie as tie
 
 abbrev Inv-loop : tie.InvT-loop
-Inv-loop fd label out₀ buffer₀ listing₀ kept₀ long₀ pieces₀ out buffer listing kept long pieces = (kept ≤ pieceRoom) × (pieces ≤ 1099511627776) × (length out ≡ length out₀) × (listing .lines ≤ pieces * pieceRoom) × Heard listing out × (length buffer ≡ pieceRoom)
+Inv-loop fd label line₀ out₀ piece₀ feeding₀ pieces₀ line out piece feeding pieces = (pieces ≤ 1099511627776) × (feeding .listing .lines ≤ pieces * 65536) × Held feeding line out × (length piece ≡ 65536) × (length line ≡ length line₀) × (length out ≡ length out₀)
 
 abbrev μ-loop : tie.MeasureT-loop
-μ-loop fd label out₀ buffer₀ listing₀ kept₀ long₀ pieces₀ out buffer listing kept long pieces = 1099511627776 - pieces
+μ-loop fd label line₀ out₀ piece₀ feeding₀ pieces₀ line out piece feeding pieces = 1099511627776 - pieces
 
-none-requires : tie.Need-none-requires Inv-loop μ-loop
-none-requires c κs = search needs
+start-requires : tie.Need-start-requires Inv-loop μ-loop
+start-requires c κs = search needs
 
 loop-holds : tie.Need-loop-holds Inv-loop μ-loop
 loop-holds c =
-    let start = c .before .before .before in
-    let told = start .args .out .now in
-    (omega arith, omega arith, refl, omega (arith, c .none .ensures told (start .pre) .lines), heard-none (c .none .ensures) told (start .pre), refl)
+    let start = c .before .before .before .before in
+    let none = c .start .ensures .holds (start .args .line .now) (start .args .out .now) (start .pre .1) in
+    (omega arith, omega (arith, c .start .ensures .none), record { bytes = []; holds = none }, length-replicate {A = ℕ} 65536 0, refl, refl)
 
-slice-aggregate-fill : tie.Need-slice-aggregate-fill Inv-loop μ-loop
-slice-aggregate-fill c = sym (c .before .before .loop .inv .5)
+slice-aggregate-read-some : tie.Need-slice-aggregate-read-some Inv-loop μ-loop
+slice-aggregate-read-some c = sym (c .before .before .loop .inv .3)
 
-fill-requires : tie.Need-fill-requires Inv-loop μ-loop
-fill-requires c κs = omega (arith, c .before .before .loop .inv .0, c .before .before .loop .inv .5)
+read-some-requires : tie.Need-read-some-requires Inv-loop μ-loop
+read-some-requires c κs = search needs
 
 enum-known-filled : tie.Need-enum-known-filled Inv-loop μ-loop
 enum-known-filled c = search needs
@@ -39,71 +38,111 @@ enum-known-filled c = search needs
 enum-told : tie.Need-enum-told Inv-loop μ-loop
 enum-told c = search needs
 
+fail-requires : tie.Need-fail-requires Inv-loop μ-loop
+fail-requires c κs = search needs
+
 same-length : tie.Need-same-length Inv-loop μ-loop
-same-length c = c .before .before .before .before .before .before .loop .inv .2
-
-returns : tie.Need-returns Inv-loop μ-loop
-returns c = (c .before .before .before .before .before .before .loop .inv .4, omega (arith, c .before .before .before .before .before .before .loop .inv .1, c .before .before .before .before .before .before .loop .inv .3))
-
-piece-of-requires : tie.Need-piece-of-requires Inv-loop μ-loop
-piece-of-requires c κs =
-    let full = rw (c .before .before .filled .given .1) at (c .before .before .before .before .before .fill .ensures) in
-    omega (arith, full, c .before .before .before .before .before .before .before .before .loop .inv .5)
-
-read-piece-requires : tie.Need-read-piece-requires Inv-loop μ-loop
-read-piece-requires c κs =
-    let full = rw (c .before .before .before .before .before .filled .given .1) at (c .before .before .before .before .before .before .before .before .fill .ensures) in
-    let l = c .before .before .before .before .before .before .before .before .before .before .before .loop in
-    let piece = c .before .before .piece-of .ensures in
-    ((heard-held (l .inv .4), omega (arith, l .inv .1, l .inv .3)), record { low = piece .low; high = omega (arith, piece .high, full, l .inv .5) })
+same-length c =
+    let passed = c .before .before in
+    let read = passed .before .before .before in
+    read .before .before .before .loop .inv .4
 
 same-length-2 : tie.Need-same-length-2 Inv-loop μ-loop
-same-length-2 c = omega (arith, c .before .before .before .read-piece .kept, c .before .before .before .before .before .before .before .before .before .before .before .before .before .before .before .loop .inv .2)
+same-length-2 c =
+    let passed = c .before .before in
+    let read = passed .before .before .before in
+    read .before .before .before .loop .inv .5
 
-returns-2 : tie.Need-returns-2 Inv-loop μ-loop
-returns-2 c =
-    let full = rw (c .before .before .before .before .before .before .before .before .before .filled .given .1) at (c .before .before .before .before .before .before .before .before .before .before .before .before .fill .ensures) in
-    let l = c .before .before .before .before .before .before .before .before .before .before .before .before .before .before .before .loop in
-    let lines = c .before .before .before .read-piece in
-    let piece = c .before .before .before .before .before .before .piece-of in
-    let read = lines-within (part (c .before .before .before .before .before .before .before .before .before .before .before .before .fill .last .1 .1 .0) (piece .result .from) (piece .result .upto)) (heard-held (l .inv .4)) (lines .ensures) in
-    let short = length-take (piece .result .upto - piece .result .from) (drop (piece .result .from) (c .before .before .before .before .before .before .before .before .before .before .before .before .fill .last .1 .1 .0)) in
-    (heard-more _ (l .inv .4) (lines .ensures), omega (arith, read, l .inv .1, l .inv .3, short, piece .ensures .high, full, l .inv .5))
+returns : tie.Need-returns Inv-loop μ-loop
+returns c =
+    let passed = c .before .before in
+    let read = passed .before .before .before in
+    let inv = read .before .before .before .loop .inv in
+    (inv .2, omega (arith, inv .0, inv .1))
 
-slice-aggregate-to-front : tie.Need-slice-aggregate-to-front Inv-loop μ-loop
-slice-aggregate-to-front c = omega (arith, c .before .before .before .before .before .before .before .before .before .before .before .before .before .fill .kept, c .before .before .before .before .before .before .before .before .before .before .before .before .before .before .before .before .loop .inv .5)
+array-share-prefix-piece : tie.Need-array-share-prefix-piece Inv-loop μ-loop
+array-share-prefix-piece c =
+    let given = c .before .before in
+    let read = given .before .before .before in
+    rw (given .filled .given .1) at (read .read-some .ensures)
 
-to-front-requires : tie.Need-to-front-requires Inv-loop μ-loop
-to-front-requires c κs =
-    let full = rw (c .before .before .before .before .before .before .before .before .before .before .filled .given .1) at (c .before .before .before .before .before .before .before .before .before .before .before .before .before .fill .ensures) in
-    omega (arith, full, c .before .before .before .before .before .before .before .before .before .before .before .before .before .fill .kept, c .before .before .before .before .before .before .before .before .before .before .before .before .before .before .before .before .loop .inv .5, c .before .before .before .before .before .before .before .piece-of .ensures .high)
+slice-aggregate-feed : tie.Need-slice-aggregate-feed Inv-loop μ-loop
+slice-aggregate-feed c = sym (length-take-le _ _ (array-share-prefix-piece (c .before)))
+
+feed-requires : tie.Need-feed-requires Inv-loop μ-loop
+feed-requires c κs =
+    let passed = c .before .before .before in
+    let given = passed .before .before in
+    let read = given .before .before .before in
+    let at-loop = read .before .before .before in
+    let known = at-loop .before .before in
+    let start = known .before .before .before in
+    let inv = at-loop .loop .inv in
+    let full = array-share-prefix-piece passed in
+    let size = slice-aggregate-feed (c .before .before) in
+    ((inv .2, omega (arith, inv .4, start .pre .0)), omega (arith, inv .0, inv .1, inv .3, size, full, read .read-some .kept))
 
 add-pieces : tie.Need-add-pieces Inv-loop μ-loop
-add-pieces c = omega (arith, c .before .before .before .before .before .before .before .before .before .before .before .before .before .before .before .before .before .loop-test .taken)
+add-pieces c =
+    let fed = c .before .before .before .before in
+    let passed = fed .before .before .before .before in
+    let given = passed .before .before in
+    let read = given .before .before .before in
+    omega (arith, read .before .before .loop-test .taken)
 
 loop-less : tie.Need-loop-less Inv-loop μ-loop
-loop-less c = omega (arith, c .before .before .before .before .before .before .before .before .before .before .before .before .before .before .before .before .before .loop-test .taken)
+loop-less c =
+    let fed = c .before .before .before .before in
+    let passed = fed .before .before .before .before in
+    let given = passed .before .before in
+    let read = given .before .before .before in
+    omega (arith, read .before .before .loop-test .taken)
 
 loop-again : tie.Need-loop-again Inv-loop μ-loop
 loop-again c =
-    let full = rw (c .before .before .before .before .before .before .before .before .before .before .before .before .filled .given .1) at (c .before .before .before .before .before .before .before .before .before .before .before .before .before .before .before .fill .ensures) in
-    let l = c .before .before .before .before .before .before .before .before .before .before .before .before .before .before .before .before .before .before .loop in
-    let lines = c .before .before .before .before .before .before .read-piece in
-    let piece = c .before .before .before .before .before .before .before .before .before .piece-of in
-    let read = lines-within (part (c .before .before .before .before .before .before .before .before .before .before .before .before .before .before .before .fill .last .1 .1 .0) (piece .result .from) (piece .result .upto)) (heard-held (l .inv .4)) (lines .ensures) in (
-      omega (arith, c .before .to-front .ensures, c .before .before .before .before .before .before .before .before .before .before .before .before .before .before .before .fill .kept, l .inv .5),
-      omega (arith, c .before .before .before .before .before .before .before .before .before .before .before .before .before .before .before .before .before .loop-test .taken),
-      omega (arith, lines .kept, l .inv .2),
-      omega (arith, read, l .inv .3, length-take (piece .result .upto - piece .result .from) (drop (piece .result .from) (c .before .before .before .before .before .before .before .before .before .before .before .before .before .before .before .fill .last .1 .1 .0)), piece .ensures .high, full, l .inv .5),
-      heard-more _ (l .inv .4) (lines .ensures),
-      omega (arith, c .before .to-front .kept, c .before .before .before .before .before .before .before .before .before .before .before .before .before .before .before .fill .kept, l .inv .5),
+    let fed = c .before .before .before .before in
+    let passed = fed .before .before .before .before in
+    let given = passed .before .before in
+    let read = given .before .before .before in
+    let at-loop = read .before .before .before in
+    let inv = at-loop .loop .inv in
+    let full = array-share-prefix-piece passed in
+    let size = slice-aggregate-feed (fed .before .before .before) in
+    let is = fed .feed .ensures in (
+      omega (arith, read .before .before .loop-test .taken),
+      omega (arith, is .few, inv .1, inv .3, size, full, read .read-some .kept),
+      held-fed (inv .2) is,
+      omega (arith, inv .3, read .read-some .kept),
+      omega (arith, inv .4, fed .feed .kept),
+      omega (arith, inv .5, fed .feed .kept),
     )
 
 same-length-3 : tie.Need-same-length-3 Inv-loop μ-loop
-same-length-3 c = c .before .loop .inv .2
+same-length-3 c = c .before .loop .inv .4
+
+same-length-4 : tie.Need-same-length-4 Inv-loop μ-loop
+same-length-4 c = c .before .loop .inv .5
+
+returns-2 : tie.Need-returns-2 Inv-loop μ-loop
+returns-2 c =
+    let inv = c .before .loop .inv in
+    (inv .2, omega (arith, inv .0, inv .1))
+
+same-length-5 : tie.Need-same-length-5 Inv-loop μ-loop
+same-length-5 c =
+    let read = c .before .before .before .before in
+    read .before .before .before .loop .inv .4
+
+same-length-6 : tie.Need-same-length-6 Inv-loop μ-loop
+same-length-6 c =
+    let read = c .before .before .before .before in
+    read .before .before .before .loop .inv .5
 
 returns-3 : tie.Need-returns-3 Inv-loop μ-loop
-returns-3 c = (c .before .loop .inv .4, omega (arith, c .before .loop .inv .1, c .before .loop .inv .3))
+returns-3 c =
+    let read = c .before .before .before .before in
+    let inv = read .before .before .before .loop .inv in
+    (inv .2, omega (arith, inv .0, inv .1))
 
 pub read-text-spec : {M : Type 1} → statement M
 read-text-spec =
@@ -111,22 +150,25 @@ read-text-spec =
     (tie.spec
     Inv-loop
     μ-loop
-    none-requires
+    start-requires
     loop-holds
-    slice-aggregate-fill
-    fill-requires
+    slice-aggregate-read-some
+    read-some-requires
     enum-known-filled
     enum-told
+    fail-requires
     same-length
-    returns
-    piece-of-requires
-    read-piece-requires
     same-length-2
-    returns-2
-    slice-aggregate-to-front
-    to-front-requires
+    returns
+    array-share-prefix-piece
+    slice-aggregate-feed
+    feed-requires
     add-pieces
     loop-less
     loop-again
     same-length-3
+    same-length-4
+    returns-2
+    same-length-5
+    same-length-6
     returns-3)

@@ -39,7 +39,8 @@ outside-requires c κs = search needs
 returns-2 : tie.Need-returns-2 Inv-loop μ-loop
 returns-2 c =
     let l = c .before .before .before .before .loop in
-    let word = c .before .before .before .before .before .before .before .args .word .now in
+    let passed = c .before .before .before in
+    let word = passed .before .before .before .before .args .word .now in
     let other = not-true _ (sym (c .before .outside .ensures) ∙ c .if2 .taken) in
     rw (le-ltb longestWord (length word) (l .inv .2))
     (sym (sym (l .inv .3) ∙ no-digit (l .number) word (l .i) (omega arith) other))

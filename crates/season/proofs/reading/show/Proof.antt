@@ -1,7 +1,6 @@
 -- `reading::show` meets its contract: what is told fits its line. Assumes nothing.
-use lib.Seq.{length-take-le}
 use mathlib.Core.Path.{sym}
-use native.Mathlib.Omega.{arith}
+use lib.Seq.{length-take-le}
 use borrow.Author.Needs.{needs}
 use Rattle.season.proofs.reading.show.Statement.{statement}
 use Rattle.season.proofs.reading.show.Tie as tie

@@ -1,2 +1,0 @@
--- The laws of what deckmake reads.
-mod Pieces

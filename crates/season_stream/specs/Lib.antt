@@ -1,0 +1,2 @@
+-- What is held of a season's stream.
+pub mod Reading

@@ -1,0 +1,2 @@
+-- The laws of what is fed.
+pub mod Pieces

@@ -1,0 +1,2 @@
+-- What is held of a typed text.
+pub mod Feeding
