@@ -35,15 +35,12 @@ pub fn run() -> i32
     ensures { λ r. ⌜ Status r ⌝ }
 {
     let asked = starting::hear_all(b"--percent   --words     ", 1);
-    let task = asked.task;
-    match task {
-        options::WORK => list(asked),
-        options::HELP => starting::print(
-            b"decklist",
-            b"usage: decklist [--percent] [--words] [FILE]\n       decklist --help\n       decklist --version\n",
-            false,
-        ),
-        options::VERSION => starting::print_version(b"decklist"),
-        _ => starting::tell_wrong(b"decklist", asked),
+    if asked.task == options::WORK {
+        return list(asked);
     }
+    starting::answer(
+        b"decklist",
+        b"usage: decklist [--percent] [--words] [FILE]\n       decklist --help\n       decklist --version\n",
+        asked,
+    )
 }

@@ -77,15 +77,12 @@ pub fn run() -> i32
     ensures { λ r. ⌜ Status r ⌝ }
 {
     let asked = starting::hear_all(b"-o         =", 1);
-    let task = asked.task;
-    match task {
-        options::WORK => make(asked),
-        options::HELP => starting::print(
-            b"deckmake",
-            b"usage: deckmake [-o OUT] [TEXT]\n       deckmake --help\n       deckmake --version\n",
-            false,
-        ),
-        options::VERSION => starting::print_version(b"deckmake"),
-        _ => starting::tell_wrong(b"deckmake", asked),
+    if asked.task == options::WORK {
+        return make(asked);
     }
+    starting::answer(
+        b"deckmake",
+        b"usage: deckmake [-o OUT] [TEXT]\n       deckmake --help\n       deckmake --version\n",
+        asked,
+    )
 }

@@ -34,15 +34,12 @@ pub fn run() -> i32
     ensures { λ r. ⌜ Status r ⌝ }
 {
     let asked = starting::hear_all(b"-o         =", 1);
-    let task = asked.task;
-    match task {
-        options::WORK => mend(asked),
-        options::HELP => starting::print(
-            b"deckmend",
-            b"usage: deckmend [-o OUT] [FILE]\n       deckmend --help\n       deckmend --version\n",
-            false,
-        ),
-        options::VERSION => starting::print_version(b"deckmend"),
-        _ => starting::tell_wrong(b"deckmend", asked),
+    if asked.task == options::WORK {
+        return mend(asked);
     }
+    starting::answer(
+        b"deckmend",
+        b"usage: deckmend [-o OUT] [FILE]\n       deckmend --help\n       deckmend --version\n",
+        asked,
+    )
 }

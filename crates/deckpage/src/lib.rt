@@ -100,15 +100,12 @@ pub fn run() -> i32
     ensures { λ r. ⌜ Status r ⌝ }
 {
     let asked = starting::hear_all(b"-o         =", 1);
-    let task = asked.task;
-    match task {
-        options::WORK => draw(asked),
-        options::HELP => starting::print(
-            b"deckpage",
-            b"usage: deckpage [-o OUT] [FILE]\n       deckpage --help\n       deckpage --version\n",
-            false,
-        ),
-        options::VERSION => starting::print_version(b"deckpage"),
-        _ => starting::tell_wrong(b"deckpage", asked),
+    if asked.task == options::WORK {
+        return draw(asked);
     }
+    starting::answer(
+        b"deckpage",
+        b"usage: deckpage [-o OUT] [FILE]\n       deckpage --help\n       deckpage --version\n",
+        asked,
+    )
 }

@@ -30,15 +30,12 @@ pub fn run() -> i32
     ensures { λ r. ⌜ Status r ⌝ }
 {
     let asked = starting::hear_all(b"-o         =", 1);
-    let task = asked.task;
-    match task {
-        options::WORK => show(asked),
-        options::HELP => starting::print(
-            b"deckshow",
-            b"usage: deckshow [-o OUT] [FILE]\n       deckshow --help\n       deckshow --version\n",
-            false,
-        ),
-        options::VERSION => starting::print_version(b"deckshow"),
-        _ => starting::tell_wrong(b"deckshow", asked),
+    if asked.task == options::WORK {
+        return show(asked);
     }
+    starting::answer(
+        b"deckshow",
+        b"usage: deckshow [-o OUT] [FILE]\n       deckshow --help\n       deckshow --version\n",
+        asked,
+    )
 }

@@ -56,15 +56,12 @@ pub fn run() -> i32
     ensures { λ r. ⌜ Status r ⌝ }
 {
     let asked = starting::hear_all(b"-f         =", hearing::MOST_WORDS);
-    let task = asked.task;
-    match task {
-        options::WORK => judge(asked),
-        options::HELP => starting::print(
-            b"deckstate",
-            b"usage: deckstate [-f FILE] [FAN | board BOARD]...\n       deckstate --help\n       deckstate --version\n",
-            false,
-        ),
-        options::VERSION => starting::print_version(b"deckstate"),
-        _ => starting::tell_wrong(b"deckstate", asked),
+    if asked.task == options::WORK {
+        return judge(asked);
     }
+    starting::answer(
+        b"deckstate",
+        b"usage: deckstate [-f FILE] [FAN | board BOARD]...\n       deckstate --help\n       deckstate --version\n",
+        asked,
+    )
 }

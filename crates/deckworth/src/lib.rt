@@ -29,15 +29,12 @@ pub fn run() -> i32
     ensures { λ r. ⌜ Status r ⌝ }
 {
     let asked = starting::hear_all(b"", 1);
-    let task = asked.task;
-    match task {
-        options::WORK => list(asked),
-        options::HELP => starting::print(
-            b"deckworth",
-            b"usage: deckworth [FILE]\n       deckworth --help\n       deckworth --version\n",
-            false,
-        ),
-        options::VERSION => starting::print_version(b"deckworth"),
-        _ => starting::tell_wrong(b"deckworth", asked),
+    if asked.task == options::WORK {
+        return list(asked);
     }
+    starting::answer(
+        b"deckworth",
+        b"usage: deckworth [FILE]\n       deckworth --help\n       deckworth --version\n",
+        asked,
+    )
 }

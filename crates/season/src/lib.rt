@@ -59,15 +59,12 @@ pub fn run() -> i32
     ensures { λ r. ⌜ Status r ⌝ }
 {
     let asked = starting::hear_all(b"", MOST_FILES);
-    let task = asked.task;
-    match task {
-        options::WORK => report(asked),
-        options::HELP => starting::print(
-            b"season",
-            b"usage: season [FILE]...\n       season --help\n       season --version\n",
-            false,
-        ),
-        options::VERSION => starting::print_version(b"season"),
-        _ => starting::tell_wrong(b"season", asked),
+    if asked.task == options::WORK {
+        return report(asked);
     }
+    starting::answer(
+        b"season",
+        b"usage: season [FILE]...\n       season --help\n       season --version\n",
+        asked,
+    )
 }

@@ -52,7 +52,7 @@ fn put_version(program: &[u8], out: &mut [u8; LINE]) -> usize
 }
 
 // Prints that.
-pub fn print_version(program: &[u8]) -> i32
+fn print_version(program: &[u8]) -> i32
     ensures { λ r. ⌜ OrFailed (statusOf false) r ⌝ }
     ensures { λ r. ⌜ Status r ⌝ }
 {
@@ -87,7 +87,7 @@ fn show(word: &[u8]) {
 }
 
 // Says which word is wrong and what to do.
-pub fn tell_wrong(program: &[u8], asked: Asked) -> i32
+fn tell_wrong(program: &[u8], asked: Asked) -> i32
     ensures { λ r. ⌜ r ≡ failed ⌝ }
     ensures { λ r. ⌜ Status r ⌝ }
 {
@@ -105,6 +105,18 @@ pub fn tell_wrong(program: &[u8], asked: Asked) -> i32
     writing::say(program);
     writing::say(b" --help says what it takes\n");
     crate::FAILED
+}
+
+// Answers words that ask for no work: how the program is started, its version, or which word is wrong.
+pub fn answer(program: &[u8], usage: &[u8], asked: Asked) -> i32
+    ensures { λ r. ⌜ Status r ⌝ }
+{
+    let task = asked.task;
+    match task {
+        options::HELP => print(program, usage, false),
+        options::VERSION => print_version(program),
+        _ => tell_wrong(program, asked),
+    }
 }
 
 // Hands over a file and what is told of it. Where there is no file, what is told says why: the status is that of a
