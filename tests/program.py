@@ -6,6 +6,8 @@ import re
 import shutil
 import subprocess
 import sys
+import tempfile
+from pathlib import Path
 
 from common import (
     DONE, EVERY_PROGRAM, FAILED, MAKER, REFUSED, compare, decks, held, linked, mapped, printed, prove, room, root, run, started, tools,
@@ -145,6 +147,24 @@ def failures_told(program):
     return good and outcome(program, "--nothing", streams=f'< "{file}" 2> /dev/full') == (FAILED, b"", "")
 
 
+def permission_told(program):
+    """A file that may not be read is told by its name. root may read every file, and so is nobody here."""
+    nobody = ["setpriv", "--reuid=65534", "--regid=65534", "--clear-groups"] if os.geteuid() == 0 else []
+    if nobody and not shutil.which(nobody[0]):
+        print(f"skipped: a file that may not be read, for which there is no {nobody[0]} here")
+        return True
+    with tempfile.TemporaryDirectory() as folder:
+        os.chmod(folder, 0o711)
+        file, copy = Path(folder) / "closed", Path(folder) / program
+        file.write_bytes(taken(program).read_bytes())
+        file.chmod(0)
+        shutil.copy(linked(program)[-1], copy)
+        copy.chmod(0o755)
+        words = [*nobody, *tools()[1], copy, *by_name(program, file)]
+        done = subprocess.run([str(word) for word in words], stdin=subprocess.DEVNULL, capture_output=True)
+    return (done.returncode, done.stdout, done.stderr.decode()) == (FAILED, b"", f"{program}: {file}: Permission denied\n")
+
+
 def refusals_by_status(program):
     """A refused file, or a text with a fault, has status 1 and leaves OUT as it was."""
     room.mkdir(parents=True, exist_ok=True)
@@ -219,7 +239,7 @@ def main():
                        stderr=subprocess.DEVNULL)
     good = percents()
     for program in EVERY_PROGRAM:
-        good &= held(words_answered, files_by_name, failures_told, refusals_by_status, out_whole_or_old, each_call_failed, of=[program])
+        good &= held(words_answered, files_by_name, failures_told, permission_told, refusals_by_status, out_whole_or_old, each_call_failed, of=[program])
     return 0 if good else 1
 
 
