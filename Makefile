@@ -34,8 +34,8 @@ installed := $(programs:%=bin/%) $(foreach name,$(libraries),$(call library_file
     $(package:python/foambeetle/%=$(package_place)/%) \
     $(foreach page,$(pages),share/man/man$(subst .,,$(suffix $(page)))/$(notdir $(page)))
 progress := tests/progress.py target/build.log
-# rt waits for a whole batch before it begins the next: twice as many crates at a time as there are processors leave none idle
-at_once := RT_JOBS=$${RT_JOBS:-$$((2 * $$(nproc)))}
+# rt waits for a whole batch before it begins the next: three times as many crates at a time as there are processors leave none idle
+at_once := RT_JOBS=$${RT_JOBS:-$$((3 * $$(nproc)))}
 # a compiler for x86-64, and the kit's C code for programs that take words or open files
 cc = $(shell tests/tools.sh | head -n 1)
 kit_code = $(shell dirname "$$(dirname "$$(readlink -f "$$(command -v rt)")")")/lib/libos_c.a

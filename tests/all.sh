@@ -12,8 +12,8 @@ command -v rt >/dev/null || {
     echo "0 passed, 1 failed"
     exit 1
 }
-# twice as many at a time as processors: rt waits for a whole batch before it begins the next
-RT_JOBS=${RT_JOBS:-$((2 * $(nproc)))} tests/progress.py "$log" rt ci
+# three times as many at a time as processors: rt waits for a whole batch before it begins the next
+RT_JOBS=${RT_JOBS:-$((3 * $(nproc)))} tests/progress.py "$log" rt ci
 rt_status=$?
 count=$(sed -n 's/^rt \([0-9]* passed, [0-9]* failed\)$/\1/p' "$log" | tail -n 1)
 passed=${count%% passed*} failed=${count##*, } failed=${failed%% failed*}
