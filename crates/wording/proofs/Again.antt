@@ -4,9 +4,8 @@ use mathlib.Core.Bool.{Bool, true, false, cond}
 use mathlib.Core.Logic.{_⊎_, inl, inr}
 use mathlib.Core.List.{List, [], _∷_, _++_, append-assoc, append-nil}
 use Prim.Native.Nat.{ℕ, _+_, _≤_, _<_}
-use native.Mathlib.Decide.{ℕ-discrete}
 use native.Mathlib.Omega.{arith}
-use lib.Dec.{eqb, ltb}
+use lib.Dec.{eqb}
 use lib.ListN.{length, set, replicate, length-append}
 use borrow.Author.Tests.{ne-eqb, eqb-true, eqb-false, le-ltb}
 use Rattle.rules.specs.Below as Below
@@ -18,10 +17,10 @@ use Rattle.text.specs.Lines.{named}
 use Rattle.typing.specs.Words.{newline, wordsOn, wordsOf}
 use Rattle.typing.specs.Numbers.{lettersOn, none, digitsOn, whole, parts}
 use Rattle.typing.specs.Grammar.{sets, mostNumber, reading, grammar}
-use Rattle.typing.specs.Line.{takes, rowFor, placeAfter, setAfter, walk, readLine, stopped}
+use Rattle.typing.specs.Line.{rowFor, placeAfter, setAfter, walk, readLine, stopped}
 use Rattle.typing.specs.Text.{longestLine, longLine, faultAt, told, Listed, nothing, counted, versioned, withFans, withSystem, added, thing, wordy, withLine}
 use Rattle.wording.specs.Numbers.{someText}
-use Rattle.wording.specs.Lines.{fanText, stretchText, systemText}
+use Rattle.wording.specs.Lines.{fanText, systemText}
 use Rattle.wording.proofs.Back.{whole-back}
 use Rattle.wording.proofs.Lengths.{fan-short, system-short}
 use Rattle.wording.proofs.Phrases.{clean, Plain, AllPlain, spaced, spaced-more, all-more, phrase-words, plain-number}
@@ -59,7 +58,7 @@ known v (inl e) = rw e known1
 known v (inr (inl e)) = rw e known2
 known v (inr (inr e)) = rw e known3
 
-plain-fan : Plain (text "fan")
+pub plain-fan : Plain (text "fan")
 unfolding clean
 plain-fan = plain-word (text "fan") refl (omega arith)
 
@@ -67,7 +66,7 @@ plain-on : Plain (text "on")
 unfolding clean
 plain-on = plain-word (text "on") refl (omega arith)
 
-plain-system : Plain (text "system")
+pub plain-system : Plain (text "system")
 unfolding clean
 plain-system = plain-word (text "system") refl (omega arith)
 

@@ -1,7 +1,7 @@
 -- A line of words with blanks between them has those words, and a newline ends it: byte by byte, none of a plain word's is a blank, a comment or a newline. Assumes
 -- nothing.
 use mathlib.Core.Path.{_≡_, refl, sym, ap, _∙_}
-use mathlib.Core.Bool.{Bool, true, false, cond, not, _&&_, _||_}
+use mathlib.Core.Bool.{Bool, true, false, cond, not, _&&_}
 use mathlib.Core.List.{List, [], _∷_, _++_, append-assoc, append-nil}
 use Prim.Native.Nat.{ℕ, zero, suc, _+_, _/_, _%_, _<_}
 use native.Mathlib.Decide.{decLt}
@@ -9,7 +9,7 @@ use native.Mathlib.Omega.{arith}
 use lib.Dec.{eqb}
 use lib.ListN.{length}
 use borrow.Author.Tests.{ne-eqb, lt-ltb, le-ltb}
-use Rattle.text.specs.Decimal.{text, digitsIn, decimal}
+use Rattle.text.specs.Decimal.{digitsIn, decimal}
 use Rattle.typing.specs.Words.{newline, comment, blank, closed, linesOn, linesOf, wordsOn, wordsOf}
 use Rattle.wording.proofs.Back.{some-digit, closed-some}
 

@@ -3,20 +3,20 @@ use mathlib.Core.Path.{_≡_, refl, sym, ap, _∙_}
 use mathlib.Core.Bool.{Bool, true, false, cond, _&&_, _||_}
 use mathlib.Core.Logic.{_⊎_, inl, inr}
 use mathlib.Core.List.{List, [], _∷_, _++_, append-assoc, append-nil}
-use Prim.Native.Nat.{ℕ, zero, suc, _+_, _≤_, _<_}
+use Prim.Native.Nat.{ℕ, _+_, _≤_, _<_}
 use native.Mathlib.Decide.{ℕ-discrete}
 use native.Mathlib.Omega.{arith}
 use lib.Dec.{eqb, ltb}
 use lib.ListN.{length, set, replicate}
-use borrow.Author.Tests.{eq-eqb, ne-eqb}
+use borrow.Author.Tests.{ne-eqb}
 use Rattle.rules.specs.Below as Below
-use Rattle.rules.specs.Below.{some, within}
+use Rattle.rules.specs.Below.{some}
 use Rattle.text.specs.Decimal.{text, decimal}
-use Rattle.typing.specs.Numbers.{lettersOn, none, digitsOn, whole, parts}
+use Rattle.typing.specs.Numbers.{lettersOn, none, digitsOn, whole}
 use Rattle.typing.specs.Grammar.{sets, asNumber, mostNumber, reading, grammar}
-use Rattle.typing.specs.Line.{rows, cell, takes, rowFor, placeAfter, setAfter, goesOn, walk, Read, stopped}
+use Rattle.typing.specs.Line.{rows, cell, takes, rowFor, placeAfter, setAfter, goesOn, walk, stopped}
 use Rattle.typing.proofs.Letters.{Bytes}
-use Rattle.wording.specs.Rule.{byNumbers, alone, byKind, ruleText}
+use Rattle.wording.specs.Rule.{byNumbers, ruleText}
 use Rattle.wording.specs.Lines.{stretchText}
 use Rattle.wording.proofs.Back.{whole-back}
 use Rattle.wording.proofs.Rows.{past, other-kind}

@@ -1,7 +1,7 @@
 -- A number where the grammar takes one: the first row of its place that takes it sets its slot and leads on. At two places a word of letters comes first, which no number
 -- is. Assumes nothing.
-use mathlib.Core.Path.{_≡_, refl, sym, ap, _∙_}
-use mathlib.Core.Bool.{Bool, true, false, cond, _&&_, _||_}
+use mathlib.Core.Path.{_≡_, sym, ap, _∙_}
+use mathlib.Core.Bool.{true, false, cond}
 use mathlib.Core.List.{List, [], _∷_, _++_}
 use Prim.Native.Nat.{ℕ, zero, suc, _+_, _/_, _%_, _≤_, _<_}
 use native.Mathlib.Decide.{decLt}
@@ -9,11 +9,11 @@ use native.Mathlib.Omega.{arith}
 use lib.Dec.{ltb}
 use lib.ListN.{set}
 use borrow.Author.Tests.{eq-eqb, lt-ltb, le-ltb, le-leb, lt-leb}
-use Rattle.rules.specs.Below.{first, some, within}
+use Rattle.rules.specs.Below.{some, within}
 use Rattle.rules.proofs.Lowest.{found}
-use Rattle.text.specs.Decimal.{text, digitsIn, decimal}
-use Rattle.typing.specs.Numbers.{lettersOn, lettersOf, longer, none, digitsOn, whole, parts}
-use Rattle.typing.specs.Grammar.{asNumber, reading, taken, grammar}
+use Rattle.text.specs.Decimal.{digitsIn, decimal}
+use Rattle.typing.specs.Numbers.{lettersOf, longer, none, whole}
+use Rattle.typing.specs.Grammar.{asNumber, reading, taken}
 use Rattle.typing.specs.Line.{rows, cell, takes, valueBy, rowFor, placeAfter, setAfter, goesOn, walk}
 use Rattle.typing.proofs.Letters.{Bytes, one-word}
 use Rattle.wording.proofs.Back.{whole-back}
