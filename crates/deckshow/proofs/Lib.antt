@@ -1,3 +1,4 @@
 -- The laws of the lines of a file.
 mod Lengths
 mod Shown
+pub mod Again

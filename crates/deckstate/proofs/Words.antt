@@ -11,7 +11,7 @@ use borrow.Author.Tests.{eq-eqb, ne-eqb}
 use Rattle.options.specs.declared.Asked.{Asked}
 use Rattle.options.specs.Words as options
 use Rattle.rules.specs.Refusal.{most}
-use Rattle.rules.specs.File.{versionIn, fansIn, boardFans, boardBytes, boardsOffset, nthNumber, boardCountIn, deckIn, fileRefusal}
+use Rattle.rules.specs.File.{versionIn, fansIn, boardFans, boardBytes, boardsOffset, nthNumber, deckIn, fileRefusal}
 use Rattle.rules.proofs.Lists.{below-length}
 use Rattle.rules.proofs.Unless.{unless-none, unless-some}
 use Rattle.deck.proofs.Sound.{sound}

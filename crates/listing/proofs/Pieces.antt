@@ -1,15 +1,15 @@
 -- A line that is too long is told, whatever it says: so it may be cut while it is still too long, and what follows is read alike. Assumes nothing.
-use mathlib.Core.Path.{_≡_, refl, sym, ap, _∙_}
+use mathlib.Core.Path.{_≡_, sym, ap}
 use mathlib.Core.Bool.{Bool, true, false, cond}
 use mathlib.Core.List.{List, [], _∷_, _++_}
-use Prim.Native.Nat.{ℕ, _+_, _≤_, _<_}
+use Prim.Native.Nat.{ℕ, _+_, _<_}
 use native.Mathlib.Decide.{decLe}
 use native.Mathlib.Omega.{arith}
 use lib.Dec.{eqb}
 use lib.ListN.{length, take, length-append}
 use lib.Seq.{take-all, length-take-le}
 use borrow.Author.Tests.{lt-ltb}
-use Rattle.typing.specs.Words.{newline, closed, linesOn, linesOf}
+use Rattle.typing.specs.Words.{newline, linesOn}
 use Rattle.typing.specs.Text.{Listed, longestLine, withLine, withLines}
 
 cut-line : (s : Listed) (line other : List ℕ) → longestLine < length line → longestLine < length other → withLine s line ≡ withLine s other

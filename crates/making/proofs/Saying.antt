@@ -1,5 +1,5 @@
 -- What is written for a text that was read: where a fault is told, the faults alone; else the file, and the warnings of its systems. Assumes nothing.
-use mathlib.Core.Path.{_≡_, refl, sym, ap, _∙_}
+use mathlib.Core.Path.{_≡_, refl, sym, ap}
 use mathlib.Core.List.{List, [], _∷_}
 use Prim.Native.Nat.{ℕ, _≤_}
 use native.Mathlib.Omega.{arith}
@@ -7,7 +7,7 @@ use lib.ListN.{length, take}
 use lib.Seq.{length-take-le}
 use borrow.Author.Tests.{eq-eqb, ne-eqb}
 use Rattle.io.specs.Counts.{Counts}
-use Rattle.rules.specs.Writing.{bytesFor, writeRefusal}
+use Rattle.rules.specs.Writing.{bytesFor}
 use Rattle.text.specs.Added.{Added}
 use Rattle.text.proofs.Adding.{added-counts}
 use Rattle.typing.specs.Words.{linesOf}
@@ -15,7 +15,6 @@ use Rattle.typing.specs.Text.{Fault, typedBy}
 use Rattle.listing.specs.declared.Listing.{Listing}
 use Rattle.listing.specs.Holds.{HoldsText}
 use Rattle.listing.proofs.Handed.{none-told, some-told}
-use Rattle.making.specs.declared.Made.{Made}
 use Rattle.making.specs.Lines.{warningsText}
 use Rattle.making.specs.Made.{fileOut, saidOut, listedBy, HeldText, FileOf, fileRoom, MadeOf}
 use Rattle.making.proofs.Filing.{written-lines}

@@ -10,7 +10,7 @@ use Rattle.rules.proofs.Lists.{below-length, below-get}
 use Rattle.totals.specs.declared.Totals.{Totals}
 use Rattle.totals.specs.Season.{chosen, someOf, singlesFrom, tallyOf, lastKind, kindsOf, totalsOf}
 use Rattle.totals.specs.Plus.{noTally}
-use Rattle.totals.specs.Room.{RoomTally, Room, Open}
+use Rattle.totals.specs.Room.{RoomTally, Open}
 
 no-tally : (k : ℕ) → getD (kindsOf []) k noTally ≡ noTally
 unfolding chosen someOf total

@@ -1,6 +1,6 @@
 -- What bytes that are fed do to a reading, a law for each way through `taken`; and what is told where the stream ends. Assumes nothing.
 use mathlib.Core.Path.{_≡_, refl, sym, ap, _∙_}
-use mathlib.Core.Bool.{Bool, true, false, cond, not, false≢true}
+use mathlib.Core.Bool.{Bool, true, false, not, false≢true}
 use mathlib.Core.List.{List, [], _++_, append-assoc, append-nil}
 use Prim.Native.Nat.{ℕ, suc, _+_, _-_, _≤_, _<_}
 use native.Mathlib.Decide.{decLt, ℕ-discrete}
@@ -14,7 +14,7 @@ use Rattle.ending.proofs.Asking.{asked-more, shortest-least}
 use Rattle.totals.specs.declared.Totals.{Totals}
 use Rattle.totals.specs.Season.{isRefused}
 use Rattle.totals.specs.Plus.{oneIf, filePlus}
-use Rattle.totals.specs.Room.{mostFiles, Open}
+use Rattle.totals.specs.Room.{mostFiles}
 use Rattle.totals.proofs.Streams.{Kept, file-kept}
 use Rattle.season_stream.specs.declared.Reading.{Reading}
 use Rattle.season_stream.specs.Reading.{seasonIn, partOf, goesOn, withFile, Ongoing, Sane, Takes, Fed}

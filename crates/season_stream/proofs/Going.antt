@@ -14,7 +14,6 @@ use Rattle.totals.specs.Room.{mostFiles}
 use Rattle.totals.specs.Stream.{filesIn, isWaiting}
 use Rattle.totals.proofs.Streams.{stream-totals}
 use Rattle.totals.proofs.Fronts.{files-none, waiting-none, waiting-some, files-apart, waiting-on, waiting-refused, waiting-ended, waiting-last}
-use Rattle.season_stream.specs.declared.Season.{Season}
 use Rattle.season_stream.specs.Reading.{seasonOf, seasonIn}
 
 nothing : (b : Bool) → cond {A = List (List ℕ)} b [] [] ≡ []

@@ -1,14 +1,10 @@
 -- What is fed adds to the bytes that are held; where the reading has ended, bytes that are not read change nothing; and the report on what is held is request 13's.
 -- Assumes nothing.
-use mathlib.Core.Path.{_≡_, refl, sym, ap, _∙_}
-use mathlib.Core.Bool.{true, not}
+use mathlib.Core.Path.{_≡_, sym, ap, _∙_}
+use mathlib.Core.Bool.{true}
 use mathlib.Core.List.{List, [], _++_, append-assoc, append-nil}
 use Prim.Native.Nat.{ℕ}
-use lib.Dec.{eqb}
-use Rattle.totals.specs.Plus.{oneIf}
-use Rattle.season_report.specs.Lines.{reportText, seasonText}
 use Rattle.season_stream.specs.declared.Reading.{Reading}
-use Rattle.season_stream.specs.declared.Season.{Season}
 use Rattle.season_stream.specs.Reading.{seasonOf, goesOn, Fed, Holds}
 
 pub holds-fed : {r after : Reading} {bytes piece : List ℕ} → Holds r bytes → Fed r piece after → Holds after (bytes ++ piece)

@@ -1,6 +1,6 @@
 -- What a reading holds of the bytes that were fed: whatever comes behind them, what is told of all is what the reading tells of the rest. And the report.
 use mathlib.Core.Path.{_≡_}
-use mathlib.Core.Bool.{Bool, true, false, cond, not}
+use mathlib.Core.Bool.{Bool, false, cond, not}
 use mathlib.Core.List.{List, _++_}
 use Prim.Native.Nat.{ℕ, _+_, _-_, _≤_, _<_}
 use lib.Dec.{eqb}

@@ -1,10 +1,9 @@
 // A typed text, fed in pieces of any size: each line is read when it is whole, and what is listed is what all bytes
 // that were fed list.
 ghost use mathlib.Core.Path.{_≡_};
-ghost use mathlib.Core.List.{[], _++_};
+ghost use mathlib.Core.List.{_++_};
 ghost use Prim.Native.Nat.{_+_, _≤_, _<_};
 ghost use lib.ListN.{length, take};
-ghost use Rattle.typed_lists.specs.Told.{toldRoom};
 ghost use Rattle.listing.specs.Holds.{mostLines};
 ghost use Rattle.text_stream.specs.Feeding.{lineRoom, Starts, Held, Fed, Ends};
 use listing::Listing;

@@ -1,14 +1,13 @@
 -- What is read of a stream by the file at its front: a whole one, with whatever stands behind it, or one that the stream's end cuts short. Assumes nothing.
 use mathlib.Core.Path.{_≡_, refl, ap, _∙_}
 use mathlib.Core.Bool.{Bool, true, false, cond, not, _&&_}
-use mathlib.Core.List.{List, [], _∷_, _++_}
-use Prim.Native.Nat.{ℕ, zero, suc, _≤_, _<_}
+use mathlib.Core.List.{List, [], _∷_}
+use Prim.Native.Nat.{ℕ, zero, suc, _<_}
 use native.Mathlib.Omega.{arith}
-use lib.Dec.{eqb, eqb·suc-suc, eqb·zero-suc}
-use lib.ListN.{length, length-append}
+use lib.Dec.{eqb, eqb·suc-suc}
+use lib.ListN.{length}
 use borrow.Author.Tests.{eq-eqb, ne-eqb}
-use Rattle.ending.specs.Ending.{asks, fileAt, restAt}
-use Rattle.ending.proofs.Asking.{front-whole, rest-whole, file-short, rest-short}
+use Rattle.ending.specs.Ending.{fileAt, restAt}
 use Rattle.totals.specs.Season.{isRefused}
 use Rattle.totals.specs.Stream.{isEmpty, filesIn, leftIn, waitingIn}
 

@@ -48,7 +48,7 @@ digits-back (suc most) n rest h fits =
           ∙ ap (λ k. digitsOn k rest) e)
     ]
 
-some-digit : (most n : ℕ) → 0 < length (digitsIn (suc most) n)
+pub some-digit : (most n : ℕ) → 0 < length (digitsIn (suc most) n)
 unfolding digitsIn
 some-digit most n = go (ltb n 10)
   where
@@ -79,7 +79,7 @@ digits-word (suc most) n soFar rest =
           ∙ ap (λ w. wordsOn w rest) (append-assoc soFar before last))
     ]
 
-closed-some : (w : List ℕ) (rest : List (List ℕ)) → 0 < length w → closed w rest ≡ w ∷ rest
+pub closed-some : (w : List ℕ) (rest : List (List ℕ)) → 0 < length w → closed w rest ≡ w ∷ rest
 closed-some [] rest l = absurd (omega arith)
 closed-some (b ∷ w) rest l = refl
 

@@ -2,5 +2,9 @@
 mod Rows
 mod Examples
 pub mod Back
+pub mod Phrases
+pub mod Walks
+pub mod Systems
+pub mod Again
 pub mod Reread
 pub mod Lengths

@@ -1,8 +1,8 @@
 -- `read_lines` meets its contract: a turn reads one line that ends in the text. The measure is what is left. Assumes nothing.
-use mathlib.Core.Path.{_≡_, refl, sym, ap, _∙_}
+use mathlib.Core.Path.{_≡_, refl}
 use Prim.Native.Nat.{_+_, _-_, _≤_, _<_}
 use native.Mathlib.Omega.{arith}
-use lib.ListN.{length, take, drop}
+use lib.ListN.{length, take}
 use lib.Seq.{length-take-le}
 use Rattle.typing.specs.Words.{linesOf}
 use Rattle.typing.specs.Grammar.{grammar}

@@ -1,10 +1,9 @@
 -- `lacks` meets its contract: one byte, or what the file still asks for. Assumes nothing.
-use mathlib.Core.Path.{_≡_, sym, ap, _∙_}
-use Prim.Native.Nat.{_+_, _-_}
+use mathlib.Core.Path.{sym}
+use Prim.Native.Nat.{_-_}
 use native.Mathlib.Omega.{arith}
 use lib.Seq.{length-take-le}
 use Rattle.ending.specs.Ending.{asks}
-use Rattle.season_stream.specs.Reading.{partOf}
 use Rattle.season_stream.proofs.Feeding.{takes-closed, takes-full}
 use borrow.Author.Needs.{needs}
 use Rattle.season_stream.proofs.lacks.Statement.{statement}

@@ -1,11 +1,10 @@
 -- `feed` meets its contract: the piece is within one line, or a line ends in it (Pieces). Assumes nothing.
-use mathlib.Core.Path.{_≡_, refl, sym, ap, _∙_}
-use mathlib.Core.List.{[], _++_}
-use Prim.Native.Nat.{_+_, _-_, _≤_, _<_}
+use mathlib.Core.Path.{_≡_, sym, ap, _∙_}
+use mathlib.Core.List.{_++_}
+use Prim.Native.Nat.{_+_, _-_, _<_}
 use native.Mathlib.Omega.{arith}
 use lib.ListN.{length, take, drop, length-drop, length-take}
 use lib.Seq.{length-take-le, take-all}
-use Rattle.listing.specs.Holds.{mostLines}
 use Rattle.listing.proofs.Reading.{held-on, lines-within, line-within}
 use Rattle.text_stream.specs.Feeding.{lineRoom}
 use Rattle.text_stream.proofs.Pieces.{held-listing, fed-part, fed-lines}

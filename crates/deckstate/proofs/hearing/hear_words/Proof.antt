@@ -3,7 +3,6 @@ use mathlib.Core.Path.{_≡_, sym, ap}
 use Prim.Native.Nat.{ℕ, _-_, _≤_, _<_}
 use native.Mathlib.Omega.{arith}
 use lib.ListN.{length, length-replicate}
-use lib.Seq.{length-take-le}
 use Rattle.options.specs.Words.{Sound}
 use Rattle.deckstate.specs.declared.hearing.Hearing.{Hearing}
 use Rattle.deckstate.specs.Words.{longestWord}
