@@ -22,14 +22,14 @@ use Rattle.rules.specs.Refusal.{most, cells, figuresRefusal}
 use Rattle.places.specs.Cells.{Kept}
 use Rattle.places.specs.declared.Ends.{Ends}
 use Rattle.places.proofs.Cells.{kept-trans}
-use Rattle.rules.specs.Worth.{sure, working, failing, badFan, worthRefusal}
+use Rattle.rules.specs.Worth.{swapped, working, failing, badFan, worthRefusal}
 use Rattle.rules.proofs.Units.{unit-most}
 use Rattle.rules.proofs.EachKind.{within-true}
 use Rattle.rules.proofs.Accepted.{first-same, none-first, in-stretch, figures-ratable}
 use Rattle.rules.proofs.Unless.{after-none}
 use Rattle.rules.proofs.Differences.{by-sign}
-use Rattle.rules.proofs.Sure.{after-first, sure-accepted, sure-within}
-use Rattle.rules.proofs.Alone.{part-same, alike-sure, alike-refusal, alike-rounded}
+use Rattle.rules.proofs.Sure.{after-first, swapped-accepted, swapped-within}
+use Rattle.rules.proofs.Alone.{part-same, alike-swapped, alike-refusal, alike-rounded}
 use Rattle.stretches.specs.Outcome.{Worked}
 use Rattle.worth.specs.Copied.{Copied}
 use Rattle.worth.specs.Outcome.{Found}
@@ -101,10 +101,10 @@ module _ (q : Asked) (fan : ℕ) (table : List ℕ) (none : worthRefusal q fan t
   room = figures-ratable q table accepted .2 .room
 
   pub works-within : (up : Bool) → roundedOf up (working fan q) ≤ unitIn q
-  works-within = sure-within q table fan (unitIn q) accepted (le-refl _)
+  works-within = swapped-within q table fan (unitIn q) accepted (le-refl _)
 
   pub fails-within : (up : Bool) → roundedOf up (failing fan q) ≤ unitIn q
-  fails-within = sure-within q table fan 0 accepted zero-le
+  fails-within = swapped-within q table fan 0 accepted zero-le
 
 -- the difference of two figures is a signed number of 64 bits
 pub less-fits : (a b : ℕ) → a ≤ S → b ≤ S → SFits w64 (subℕ a b)
@@ -113,17 +113,17 @@ less-fits a b h k = by-sign (SFits w64) a b (λ l. record { sfits = omega arith 
 -- ---- a copy of the stretch, its fan's number replaced by the unit and then by 0, is rated as the list so replaced
 
 module _ (q : Asked) (fan : ℕ) (table : List ℕ) (none : worthRefusal q fan table ≡ 0) (copy : List ℕ) (is : Copied (q .a - 1) (q .b) (q .survival) copy) where
-  replaced : (p : ℕ) → Alike (among q (set copy (fan - 1) p)) (sure fan p q)
+  replaced : (p : ℕ) → Alike (among q (set copy (fan - 1) p)) (swapped fan p q)
   replaced p =
       let place = placed q table fan (accepted q fan table none) (chosen q fan table none) in
       rw (take-set-lt (lengthOf q) copy (fan - 1) p (omega (arith, place)))
-      (alike-sure _ _ (copy-alike q table fan (accepted q fan table none) copy is) fan p)
+      (alike-swapped _ _ (copy-alike q table fan (accepted q fan table none) copy is) fan p)
 
   copy-accepted : (p : ℕ) → p ≤ unitIn q → {later : List ℕ} → Kept table later → figuresRefusal (among q (set copy (fan - 1) p)) later ≡ 0
   copy-accepted p small {later} k =
-      alike-refusal _ _ (replaced p) later ∙ sure-accepted q later fan p (second-accepted q fan table none later k) small
+      alike-refusal _ _ (replaced p) later ∙ swapped-accepted q later fan p (second-accepted q fan table none later k) small
 
-  copy-worked : (p : ℕ) {t₀ t : List ℕ} {r : Ends} → Worked (among q (set copy (fan - 1) p)) t₀ t r → Worked (sure fan p q) t₀ t r
+  copy-worked : (p : ℕ) {t₀ t : List ℕ} {r : Ends} → Worked (among q (set copy (fan - 1) p)) t₀ t r → Worked (swapped fan p q) t₀ t r
   copy-worked p w = record {
     low = w .low ∙ alike-rounded _ _ (replaced p) false;
     high = w .high ∙ alike-rounded _ _ (replaced p) true;
