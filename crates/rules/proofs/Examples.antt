@@ -105,10 +105,11 @@ pub gains : (weighed (ruleOf 1 2 0) 1 3 apart 1 ≡ Ends (pos (2 ^ 29)) (pos (2 
     × (gained (ruleOf 1 4 0) 1 3 apart 3 S ≡ worth.Refused 6)
     × (gained (ruleOf 1 4 0) 1 3 apart 3 (suc S) ≡ worth.Refused 4)
     × (gained (ruleOf 9 4 0) 1 3 apart 3 (suc S) ≡ worth.Refused 1)
+    × (gained (ruleOf 1 1 0) 2 4 four 4 0 ≡ worth.Refused 4)
     × (gained (ruleOf 1 2 0) 2 3 apart 1 S ≡ worth.Refused 17)
     × (gained (ruleOf 1 2 0) 2 3 apart 1 (suc S) ≡ worth.Refused 4)
 unfolding unitOf sumBelow held some listBelow total numberOf someWindow twoNear fails weightDown ones moved ended readingOf rounded value stretch boardDown behind combined someAbove weightsOut ranged firstOf after figuresRefusal unless worthOf gainOf
-gains = (refl, refl, refl, refl, refl, refl, refl, refl, refl, refl, refl, refl)
+gains = (refl, refl, refl, refl, refl, refl, refl, refl, refl, refl, refl, refl, refl)
 
 -- request 01: document 01's file in hex as the office types it, its room full, one byte short and one long, and the order of refusals
 abbrev three : Typed

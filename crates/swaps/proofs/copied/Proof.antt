@@ -6,9 +6,9 @@ use native.Mathlib.Decide.{ℕ-discrete}
 use native.Mathlib.Omega.{arith}
 use lib.ListN.{length, getD, length-set}
 use lib.Seq.{getD-set-same, getD-set-other}
-use Rattle.worth.specs.Copied.{Copied}
-use Rattle.worth.proofs.copied.Statement.{statement}
-use Rattle.worth.proofs.copied.Tie as tie
+use Rattle.swaps.specs.Copied.{Copied}
+use Rattle.swaps.proofs.copied.Statement.{statement}
+use Rattle.swaps.proofs.copied.Tie as tie
 
 abbrev Inv-loop : tie.InvT-loop
 Inv-loop from upto survival numbers₀ i₀ numbers i = (from ≤ i) × (i ≤ upto) × Copied from i survival numbers

@@ -1,11 +1,11 @@
--- `refusal` gives the figures' own, then 17. Assumes nothing.
+-- `fan_refusal` gives the figures' own, then 17. Assumes nothing.
 use borrow.Author.Needs.{needs}
 use mathlib.Core.Path.{sym, ap, _∙_}
 use mathlib.Core.Bool.{cond}
 use borrow.Author.Tests.{eqb-true, eqb-false, not-true, not-false}
 use Rattle.rules.proofs.Unless.{after-none, after-some}
-use Rattle.worth.proofs.refusal.Statement.{statement}
-use Rattle.worth.proofs.refusal.Tie as tie
+use Rattle.swaps.proofs.fan_refusal.Statement.{statement}
+use Rattle.swaps.proofs.fan_refusal.Tie as tie
 
 outside-requires : tie.Need-outside-requires
 outside-requires c κs = search needs
@@ -23,5 +23,5 @@ returns-3 c =
     let none = eqb-true _ _ (not-false _ (c .before .if1 .left)) in
     sym (after-none _ _ none ∙ ap (λ b. cond b 17 0) (sym (c .before .before .outside .ensures) ∙ c .if2 .left))
 
-pub refusal-spec : {M : Type 1} → statement M
-refusal-spec = tie.close (tie.spec outside-requires returns returns-2 returns-3)
+pub fan-refusal-spec : {M : Type 1} → statement M
+fan-refusal-spec = tie.close (tie.spec outside-requires returns returns-2 returns-3)

@@ -4,9 +4,9 @@ use native.Mathlib.Omega.{arith}
 use mir.Syntax.{w64}
 use mir.ValLaws.{toZ-pos, toZ-ofZ}
 use Rattle.rules.proofs.Differences.{signed-less}
-use Rattle.worth.proofs.Replaced.{less-fits}
-use Rattle.worth.proofs.less.Statement.{statement}
-use Rattle.worth.proofs.less.Tie as tie
+use Rattle.swaps.proofs.Replaced.{less-fits}
+use Rattle.swaps.proofs.less.Statement.{statement}
+use Rattle.swaps.proofs.less.Tie as tie
 
 cast-result : tie.Need-cast-result
 cast-result c = record { sfits = omega (arith, c .pre) }
