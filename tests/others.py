@@ -47,6 +47,7 @@ TESTS = tuple(Test(*line) for line in (
     ("the season report against the second program", "python3 tests/season.py"),
     ("the second program checks itself", "python3 second/selfcheck.py", False),
     ("deckstate against the second program", "python3 tests/states.py"),
+    ("deckspare against the second program", "python3 tests/spare.py"),
     ("the office's calls over doubles against the second program", "python3 tests/doubles.py"),
     ("what is installed runs, and goes again", "python3 tests/install.py"),
     ("the libraries link every way, and export their calls alone", "python3 tests/library.py"),

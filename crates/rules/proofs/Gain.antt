@@ -24,7 +24,7 @@ use Rattle.rules.specs.Refusal.{numbersAbove, ratingRefusal, figuresRefu
 use Rattle.rules.specs.Answer.{figuresOf}
 use Rattle.rules.specs.Worth.{swapped, working, failing, badFan}
 use Rattle.rules.specs.Better.{NoLower, rising}
-use Rattle.rules.specs.Gain.{ownOf, gainLower, gainUpper, gainRefusal, gainOf, GainBetween}
+use Rattle.rules.specs.Gain.{ownOf, gainLower, gainUpper, spareAbove, gainRefusal, gainOf, GainBetween}
 use Rattle.rules.proofs.Split.{exact-halves, exact-numbers}
 use Rattle.rules.proofs.Units.{unit-some}
 use Rattle.rules.proofs.Unless.{unless-none, after-none}
@@ -50,12 +50,19 @@ four-less true q table e =
     let p = none-first 20 _ _ (g .1) in
     absurd (true≢false (none-first 3 _ _ (p .1) .0))
 
+module _ (q : Asked) (p : ℕ) (table : List ℕ) (none : ratingRefusal (spareAbove q p) q table ≡ 0) where
+  pub rating-accepted : figuresRefusal q table ≡ 0
+  rating-accepted = four-less (ltb (unitIn q) p) q table none .1
+
+  pub rating-small : p ≤ unitIn q
+  rating-small = ltb-false (unitIn q) p (four-less (ltb (unitIn q) p) q table none .0)
+
 module _ (q : Asked) (fan p : ℕ) (table : List ℕ) (none : gainRefusal q fan p table ≡ 0) where
   pub gain-accepted : figuresRefusal q table ≡ 0
-  gain-accepted = four-less (ltb (unitIn q) p) q table (after-first _ _ none) .1
+  gain-accepted = rating-accepted q p table (after-first _ _ none)
 
   pub gain-small : p ≤ unitIn q
-  gain-small = ltb-false (unitIn q) p (four-less (ltb (unitIn q) p) q table (after-first _ _ none) .0)
+  gain-small = rating-small q p table (after-first _ _ none)
 
   pub gain-chosen : badFan q fan ≡ false
   gain-chosen = chosen-fan (badFan q fan) (sym (after-none _ _ (after-first _ _ none)) ∙ none)

@@ -95,7 +95,7 @@ pub fn rate(
 }
 
 // The difference of two figures.
-fn less(a: u64, b: u64) -> i64
+pub fn less(a: u64, b: u64) -> i64
     requires { ⌜ (a ≤ S) × (b ≤ S) ⌝ }
     ensures { λ r. ⌜ r ≡ subℕ a b ⌝ }
 {
