@@ -110,10 +110,9 @@ def rated_text(unit, figures):
     return f"low {figures[0]} high {figures[1]} {percents(unit, *figures)}"
 
 
-def group_lines(unit, group):
-    yield from (f"fan {place.fan} {rated_text(unit, place.figures)}" for place in group)
-    if len(group) > 1:
-        yield f"fans {' '.join(str(place.fan) for place in group)} alike"
+def group_lines(unit, rank, group):
+    """Places that are alike have one rank."""
+    return (f"rank {rank} alike {len(group)} fan {place.fan} {rated_text(unit, place.figures)}" for place in group)
 
 
 def system_lines(deck, system, p, best, pair):
@@ -130,8 +129,10 @@ def system_lines(deck, system, p, best, pair):
         first, second, figures = best_pair(stretch, system.a, p)
         yield f"fans {first} {second} {rated_text(stretch.unit, figures)}"
     elif best:
+        rank = 1
         for group in best_places(places(stretch, system.a, p), best):
-            yield from group_lines(stretch.unit, group)
+            yield from group_lines(stretch.unit, rank, group)
+            rank += len(group)
     else:
         yield from (f"fan {place.fan} lower {place.ends[0]} upper {place.ends[1]}" for place in places(stretch, system.a, p))
 

@@ -120,8 +120,8 @@ def ties_told():
     # like fans on a ring gain the same, whatever is rounded
     for n, unit in ((64, UNIT), (9, 10 ** 9)):
         ring = Deck([unit - unit // 97] * n, [0] * n, [System(Rule(5, 4, 0), 1, n)], 1 if unit == UNIT else 2, NO_BOARDS)
-        last = deckspare_output(deck_bytes(ring), b"1.0", best=1).splitlines()[-1]
-        yield last, f"system 1 fans {' '.join(map(str, range(1, n + 1)))} alike"
+        told = deckspare_output(deck_bytes(ring), b"1.0", best=1).splitlines()
+        yield [line.split(" low ")[0] for line in told], [f"system 1 rank 1 alike {n} fan {fan}" for fan in range(1, n + 1)]
 
 
 def best_pairs():

@@ -21,6 +21,7 @@ MILLION = 10 ** 6
 NEAR = (0, 1, 10, 11, 107, 108, 1073, 1074, 10737419)  # percents that begin or end in zeros, or just round
 # The words that have a program work, beside none at all; every program takes --help and --version.
 WORDS = {"decklist": ["--percent"], "deckworth": [], "deckspare": [], "deckmend": [], "season": [], "deckstate": [], "deckpage": [], "deckshow": [], MAKER: []}
+MORE = {"deckspare": ("--best",)}  # options with a word of their own, which its own tests try
 OUT = ("deckmend", "deckpage", "deckshow", MAKER)  # these take -o
 FANS, SEVERAL = "deckstate", "season"  # its operands are fans, and its file is -f's; any number of operands
 WRONG = (["--percents"], ["--percen"], ["-h"], ["-x" * 2500], ["--help=x"])
@@ -86,7 +87,7 @@ def words_answered(program):
     folder = f'< "{root}"'
     version = (root / "VERSION").read_text().strip()
     status, shown, said = outcome(program, "--help", streams=folder)
-    options = {"--help", "--version", *WORDS[program], *(["-o"] if program in OUT else ["-f"] if program == FANS else [])}
+    options = {"--help", "--version", *WORDS[program], *MORE.get(program, ()), *(["-o"] if program in OUT else ["-f"] if program == FANS else [])}
     good = (status, said) == (DONE, "") and set(re.findall(r"(?<![\w-])--?\w+", shown.decode())) == options and program in shown.decode()
     good &= outcome(program, "--version", streams=folder) == (DONE, f"{program} {version}\n".encode(), "")
     good &= outcome(program, "--help", "--nothing", streams=folder)[0] == DONE

@@ -1,4 +1,5 @@
-// Prints what a spare gains in each fan's place of each system of a deck file, a line each, or the file's refusal.
+// Prints what a spare gains in each fan's place of each system of a deck file, or the best places, a line each, or the
+// file's refusal.
 mod lines; // lines.rt: the lines
 
 ghost use Prim.Native.Nat.{_≤_};
@@ -15,6 +16,9 @@ use shell::writing;
 const NONE: u64 = 4294967296;
 
 const OFF_GRID: u64 = 4294967297;
+
+// Its options: how many of the best places are named.
+const BEST: usize = 0;
 
 // Room for two numbers in a message.
 const NUMBERS: usize = 96;
@@ -57,9 +61,28 @@ fn tell_number(p: u64) -> i32
     shell::FAILED
 }
 
+// Says that the word of an option is no number that it takes.
+fn tell_best() -> i32
+    ensures { λ r. ⌜ Status r ⌝ }
+{
+    writing::say(b"deckspare: --best: wanted a number from 1 to 4294967295\n");
+    shell::FAILED
+}
+
+// The number of the word at a place, from 1 on; 0 where it is none.
+fn number_at(place: usize) -> u64 {
+    let mut word = io::buffer();
+    let length = os::arg(place, &mut word);
+    let number = typing::numbers::whole(&word[..length]);
+    if number == NONE {
+        return 0;
+    }
+    number
+}
+
 // Lists an input of which the buffer holds the front, for the spare that a word names; nothing is printed where the
 // word is no survival number.
-fn list_front(word: &[u8], input: &[u8; printing::INPUT], filled: usize) -> i32
+fn list_front(word: &[u8], best: u64, input: &[u8; printing::INPUT], filled: usize) -> i32
     requires { ⌜ filled ≤ length (now input) ⌝ }
     ensures { λ r. ⌜ Status r ⌝ }
 {
@@ -72,7 +95,7 @@ fn list_front(word: &[u8], input: &[u8; printing::INPUT], filled: usize) -> i32
         }
     }
     let mut out = [0u8; lines::OUTPUT];
-    let end = lines::list_front(word, input, filled, &mut out);
+    let end = lines::list_front(word, best, input, filled, &mut out);
     starting::print(b"deckspare", &out[..end], refused)
 }
 
@@ -81,7 +104,7 @@ fn file_place(asked: Asked) -> usize {
     if asked.operands < 2 {
         return 0;
     }
-    let until = starting::hear_all(b"", 1);
+    let until = starting::hear_all(b"--best     =", 1);
     until.at
 }
 
@@ -92,6 +115,13 @@ fn list(asked: Asked) -> i32
     if asked.operands == 0 {
         return tell_use();
     }
+    let place = asked.given[BEST];
+    let best = if place == 0 { 0 } else { number_at(place) };
+    if place != 0 {
+        if best == 0 {
+            return tell_best();
+        }
+    }
     let mut word = io::buffer();
     let length = os::arg(asked.first, &mut word);
     let mut input = [0u8; printing::INPUT];
@@ -99,20 +129,20 @@ fn list(asked: Asked) -> i32
     if front.failed {
         return shell::FAILED;
     }
-    list_front(&word[..length], &input, front.filled)
+    list_front(&word[..length], best, &input, front.filled)
 }
 
 // What the program does, by its words: its status.
 pub fn run() -> i32
     ensures { λ r. ⌜ Status r ⌝ }
 {
-    let asked = starting::hear_all(b"", 2);
+    let asked = starting::hear_all(b"--best     =", 2);
     let task = asked.task;
     match task {
         options::WORK => list(asked),
         options::HELP => starting::print(
             b"deckspare",
-            b"usage: deckspare P [FILE]\n       deckspare --help\n       deckspare --version\n",
+            b"usage: deckspare [--best K] P [FILE]\n       deckspare --help\n       deckspare --version\n",
             false,
         ),
         options::VERSION => starting::print_version(b"deckspare"),

@@ -5,15 +5,15 @@ ghost use Rattle.text.specs.Added.{Added};
 ghost use Rattle.deck.specs.Outcome.{Headed, Placed};
 ghost use Rattle.printing.specs.Lines.{printText};
 ghost use Rattle.printing.specs.Front.{WholePrinted};
-ghost use Rattle.spare_lines.specs.Lines.{systemRoom};
+ghost use Rattle.spare_lines.specs.System.{systemRoom};
 ghost use Rattle.deckspare.specs.Lines.{systemLines, systemsText, listText, outputRoom};
 use deck::Head;
 use printing::INPUT;
 use rules::Question;
 use spare_lines::Job;
 
-// Room for all lines: 118 bytes for each of 64 fans of 32 systems.
-pub const OUTPUT: usize = 241664;
+// Room for all lines: 218 bytes for each of 64 fans of 32 systems.
+pub const OUTPUT: usize = 446464;
 
 // What is printed of a file's system. Only the lists are copied from the file's bytes.
 fn put_system(file: &[u8], head: Head, job: Job, out: &mut [u8], at: usize) -> usize
@@ -47,16 +47,16 @@ fn put_system(file: &[u8], head: Head, job: Job, out: &mut [u8], at: usize) -> u
     )
 }
 
-// The lines of its systems, of a spare with survival number p.
-fn put_systems(file: &[u8], head: Head, p: u64, out: &mut [u8]) -> usize
+// The lines of its systems, of a spare with survival number p: every place, or so many of the best.
+fn put_systems(file: &[u8], head: Head, p: u64, best: u64, out: &mut [u8]) -> usize
     requires headed { ⌜ Headed (now file) head ⌝ }
     requires room { ⌜ outputRoom ≤ length (now out) ⌝ }
-    ensures { λ r. ⌜ Added (systemsText p (now (file .entry))) (now (out .entry)) 0 (now (out .exit)) r ⌝ }
+    ensures { λ r. ⌜ Added (systemsText p best (now (file .entry))) (now (out .entry)) 0 (now (out .exit)) r ⌝ }
 {
     let mut end = 0;
     let mut s: usize = 0;
     while s < head.systems {
-        let job = Job { s, p };
+        let job = Job { s, p, best };
         end = put_system(file, head, job, out, end);
         s += 1;
     }
@@ -64,10 +64,10 @@ fn put_systems(file: &[u8], head: Head, p: u64, out: &mut [u8]) -> usize
 }
 
 // All that is printed for a file, of the spare that a word names.
-fn put_file(word: &[u8], file: &[u8], out: &mut [u8]) -> usize
+fn put_file(word: &[u8], best: u64, file: &[u8], out: &mut [u8]) -> usize
     requires { ⌜ outputRoom ≤ length (now out) ⌝ }
     ensures { λ r.
-        let text = printText (listText (now (word .entry))) (now (file .entry)) in
+        let text = printText (listText (now (word .entry)) best) (now (file .entry)) in
         ⌜ Added text (now (out .entry)) 0 (now (out .exit)) r ⌝ }
 {
     let opened = deck::open(file);
@@ -76,14 +76,20 @@ fn put_file(word: &[u8], file: &[u8], out: &mut [u8]) -> usize
     }
     let head = opened.head;
     let p = typing::numbers::parts(head.version, word);
-    put_systems(file, head, p, out)
+    put_systems(file, head, p, best, out)
 }
 
 // All that is printed for an input, of which the buffer holds the front: all of it, or as much as the buffer takes.
-pub fn list_front(word: &[u8], input: &[u8; INPUT], filled: usize, out: &mut [u8]) -> usize
+pub fn list_front(
+    word: &[u8],
+    best: u64,
+    input: &[u8; INPUT],
+    filled: usize,
+    out: &mut [u8],
+) -> usize
     requires within { ⌜ filled ≤ length (now input) ⌝ }
     requires room { ⌜ outputRoom ≤ length (now out) ⌝ }
-    ensures { λ r. ⌜ WholePrinted (listText (now (word .entry))) (now (input .entry)) filled (now (out .exit)) r ⌝ }
+    ensures { λ r. ⌜ WholePrinted (listText (now (word .entry)) best) (now (input .entry)) filled (now (out .exit)) r ⌝ }
 {
-    put_file(word, printing::front_of(input, filled), out)
+    put_file(word, best, printing::front_of(input, filled), out)
 }

@@ -53,6 +53,15 @@ high-most low left (suc n) i l e = go (λ h. high-most low left n i h e) (decLe 
         let counts : low i ≡ cond (left n) (low n) 0 = rw (← at, e) in
         rw counts (le-max-right (highest low left n) (cond (left n) (low n) 0))
 
+pub highest-within : (most : ℕ) (low : ℕ → ℕ) (left : ℕ → Bool) (n : ℕ) → ((i : ℕ) → low i ≤ most) → highest low left n ≤ most
+unfolding highest
+highest-within most low left zero h = omega arith
+highest-within most low left (suc n) h = omega (arith, highest-within most low left n h, one (left n))
+  where
+    one : (b : Bool) → cond b (low n) 0 ≤ most
+    one true = h n
+    one false = omega arith
+
 pub highest-same : (low : ℕ → ℕ) (left left' : ℕ → Bool) (n : ℕ) → ((i : ℕ) → i < n → left i ≡ left' i) → highest low left n ≡ highest low left' n
 unfolding highest
 highest-same low left left' zero h = refl
@@ -114,7 +123,7 @@ held-parts p t (suc n) = omega (arith, held-parts p t n, one (p n) (t n))
     one true false = refl
     one false b = refl
 
-held-most : (p : ℕ → Bool) (n : ℕ) → held p n ≤ n
+pub held-most : (p : ℕ → Bool) (n : ℕ) → held p n ≤ n
 unfolding held
 held-most p zero = omega arith
 held-most p (suc n) = omega (arith, held-most p n, one (p n))

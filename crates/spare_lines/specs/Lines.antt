@@ -7,14 +7,12 @@ use lib.ListN.{length, getD}
 use Rattle.rules.specs.State.{S}
 use Rattle.rules.specs.Asked.{Asked, sizeOf, lowOf, highOf}
 use Rattle.rules.specs.Refusal.{most}
-use Rattle.rules.specs.Answer.{unless}
 use Rattle.places.specs.declared.Ends.{Ends}
 use Rattle.text.specs.Decimal.{text}
 use Rattle.text.specs.Lines.{named, namedRoom, pairText, pairRoom, signedPair, signedPairRoom, refusedText, refusedRoom}
 use Rattle.printing.specs.Lines.{linesText}
 use Rattle.spares.specs.declared.Places.{Places}
-use Rattle.spares.specs.Places.{spareRefusal, lowWith, highWith}
-use Rattle.spare_lines.specs.declared.Job.{Job}
+use Rattle.spares.specs.Places.{lowWith, highWith}
 
 -- the figures of a place, of a stretch as it is, and with the spare in the i-th place of a stretch
 abbrev pub endsOf : (low high : ℕ) → Ends
@@ -52,12 +50,6 @@ gainsRoom = gainRoom * most
 -- "or the refusal"
 abbrev pub refusedLine : (system number : ℕ) → List ℕ
 refusedLine system number = named (text "system ") system ++ refusedText number
-
-abbrev pub systemText : Job → Asked → List ℕ
-systemText job q = unless (spareRefusal q (job .p)) (refusedLine (job .s + 1)) (gainsText (job .s + 1) (job .p) q)
-
-abbrev pub systemRoom : ℕ
-systemRoom = gainsRoom
 
 -- figures that can be subtracted, and a stretch that lies on a deck
 pub record FewPlaces (a size : ℕ) (places : Places) : Type 0 where

@@ -1,8 +1,10 @@
 -- The places of a stretch from the best on, ties told as ties. Of the places that are left, L is the highest lower end of a gain; every one whose upper end is not below L
 -- is alike with the best; then the same among the rest. A place's gain has the lower end low less the high before and the upper end high less the low before.
 use Prim.Native.Nat.{ℕ, zero, suc, _+_, max}
-use mathlib.Core.Bool.{Bool, true, not, cond, _&&_}
+use mathlib.Core.Bool.{Bool, true, false, not, cond, _&&_}
+use mathlib.Core.List.{List}
 use lib.IntN.{ℤ, subℕ}
+use lib.ListN.{getD}
 use lib.Signed.{leZ}
 use Rattle.rules.specs.Below.{held}
 use Rattle.places.specs.declared.Ends.{Ends}
@@ -50,3 +52,7 @@ groupAt k r = alike k (leftAfter k r)
 unfoldable pub goneAfter : Ranked → (r : ℕ) → ℕ
 goneAfter k zero = 0
 goneAfter k (suc r) = goneAfter k r + held (groupAt k r) (k .size)
+
+-- the places that an array has as left
+abbrev pub leftIn : List Bool → ℕ → Bool
+leftIn left i = getD left i false

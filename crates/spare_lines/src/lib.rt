@@ -1,4 +1,6 @@
-// What deckspare prints of a system, put into a buffer: what a spare gains in each of its places.
+// What deckspare prints of a system, put into a buffer: what a spare gains in each of its places, or the best of them.
+mod best; // best.rt: the best places
+
 ghost use mathlib.Core.List.{[]};
 ghost use mathlib.Core.Path.{_≡_};
 ghost use Prim.Native.Nat.{_+_, _≤_};
@@ -6,17 +8,20 @@ ghost use lib.ListN.{length};
 ghost use Rattle.rules.specs.State.{S};
 ghost use Rattle.rules.specs.Asked.{askedOf};
 ghost use Rattle.text.specs.Added.{Added};
-ghost use Rattle.spare_lines.specs.Lines.{gainLine, gainLines, systemText};
-ghost use Rattle.spare_lines.specs.Lines.{gainRoom, gainsRoom, systemRoom, FewPlaces, InUnit};
+ghost use Rattle.spare_lines.specs.Lines.{gainLine, gainLines, gainRoom, gainsRoom, FewPlaces, InUnit};
+ghost use Rattle.spare_lines.specs.System.{systemText, systemRoom};
+use best::Shown;
 use places::Ends;
 use rules::Question;
 use spares::Places;
 use text::lines;
 
-// What is asked of a system beside its lists: its place in the file, counted from 0, and the spare's survival number.
+// What is asked of a system beside its lists: its place in the file, counted from 0, the spare's survival number, and
+// how many of the best places are named, 0 for every place and its gain.
 pub struct Job {
     pub s: usize,
     pub p: u64,
+    pub best: u64,
 }
 
 // `system S fan F lower L upper U`.
@@ -90,5 +95,14 @@ pub fn put_asked(
     let places = spares::rate_places(question, job.p, survival, weights, boards, switchboards);
     let a = question.a;
     let size = (question.b - a) as usize + 1;
-    put_gains(s, a, size, places, before, out, at)
+    if job.best == 0 {
+        return put_gains(s, a, size, places, before, out, at);
+    }
+    let shown = Shown {
+        s,
+        a,
+        size,
+        decimal: units::is_decimal(question.version),
+    };
+    best::put_best(shown, job.best, places, before, out, at)
 }

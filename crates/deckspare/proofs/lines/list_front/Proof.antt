@@ -17,8 +17,8 @@ same-length c = search needs
 returns : tie.Need-returns
 returns c =
     let fronted = c .before .before .before .before in
-    let word = fronted .before .before .before .args .word .now in
-    whole-printed (listText word) (fronted .front-of .ensures) (c .before .before .put-file .ensures)
+    let start = fronted .before .before .before in
+    whole-printed (listText (start .args .word .now) (start .args .best)) (fronted .front-of .ensures) (c .before .before .put-file .ensures)
 
 pub list-front-spec : {M : Type 1} → statement M
 list-front-spec = tie.close (tie.spec front-of-requires put-file-requires same-length returns)

@@ -7,7 +7,7 @@ use lib.Seq.{length-take-le}
 use Rattle.rules.specs.Asked.{Asked, questionOf, askedOf}
 use Rattle.rules.specs.File.{deckIn, systemIn, askedBy}
 use Rattle.deck.proofs.Kept.{few-fans, few-boards, few-systems, lent-survival, lent-weights, lent-numbers}
-use Rattle.spare_lines.specs.Lines.{systemText}
+use Rattle.spare_lines.specs.System.{systemText}
 use Rattle.deckspare.proofs.lines.put_system.Statement.{statement}
 use Rattle.deckspare.proofs.lines.put_system.Tie as tie
 
