@@ -213,8 +213,9 @@ fn put_round(
     requires within { ⌜ Within places ⌝ }
     requires group { ⌜ length (group .alike) ≡ most ⌝ }
     requires room { ⌜ (named ≡ true → at + groupRoom (shown .size) (group .alike) ≤ length (now out)) ⌝ }
-    ensures { λ r. ⌜ Added (cond named (groupIn shown rank (group .count) (group .alike) places) []) (now (out .entry)) at
-        (now (out .exit)) r ⌝ }
+    ensures { λ r.
+        let lines = groupIn shown rank (group .count) (group .alike) places in
+        ⌜ Added (cond named lines []) (now (out .entry)) at (now (out .exit)) r ⌝ }
 {
     if !named {
         return at;
