@@ -16,6 +16,7 @@ from common import (
 )
 
 from foambeetle import NO_BOARDS, UNITS, Boards, Refusal, rate, read_deck, system_numbers, unit_of_file, worth_of_file, write_deck
+from spares import gain_of_file
 
 LIBRARY = root / "target/lib"
 NEEDED = {"memcpy", "memset"}
@@ -81,12 +82,12 @@ def unit_by_ctypes(library, data):
     return call(data, len(data))
 
 
-def worth_by_ctypes(library, data, system, fan):
-    """The two ends or the refusal; a refusal must leave the ends as they were."""
+def ends_by_ctypes(call, data, *numbers):
+    """The two ends of a worth or a gain, or the refusal; a refusal must leave the ends as they were."""
     pair, before = ctypes.c_int64 * 2, (2 ** 62, -2 ** 62)
-    call, ends = library.foambeetle_worth, pair(*before)
-    call.argtypes, call.restype = [ctypes.c_char_p, ctypes.c_size_t, ctypes.c_uint64, ctypes.c_uint64, pair], ctypes.c_uint64
-    refusal = call(data, len(data), system, fan, ends)
+    ends = pair(*before)
+    call.argtypes, call.restype = [ctypes.c_char_p, ctypes.c_size_t, *[ctypes.c_uint64] * len(numbers), pair], ctypes.c_uint64
+    refusal = call(data, len(data), *numbers, ends)
     return Refusal(refusal) if refusal and tuple(ends) == before else tuple(ends)
 
 
@@ -118,7 +119,9 @@ def python_answers():
     files = [b"", *(deck.read_bytes() for deck in decks())]
     good &= compare("units through ctypes", [unit_by_ctypes(library, data) for data in files], [unit_of_file(data) for data in files])
     fans = [(data, system, fan) for data, system in asked for fan in (0, 1, len(read_deck(data).survivals), 2 ** 64 - 1)]
-    return good & compare("worths through ctypes", [worth_by_ctypes(library, *one) for one in fans], [worth_of_file(*one) for one in fans])
+    good &= compare("worths through ctypes", [ends_by_ctypes(library.foambeetle_worth, *one) for one in fans], [worth_of_file(*one) for one in fans])
+    spares = [(*one, p) for one in fans for p in (0, unit_of_file(one[0]), unit_of_file(one[0]) + 1)]
+    return good & compare("gains through ctypes", [ends_by_ctypes(library.foambeetle_gain, *one) for one in spares], [gain_of_file(*one) for one in spares])
 
 
 def main():
