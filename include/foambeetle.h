@@ -1,16 +1,17 @@
-/* foambeetle.h: the loading computer's call, the worth of one fan, and the unit of both.
+/* foambeetle.h: the loading computer's call, the worth of one fan, the gain of a spare in its place, and the unit of all.
  *
  * Link with libfoambeetle.a or libfoambeetle.so (x86-64), which need nothing but memcpy and memset. Each call reads a
  * deck file's bytes: foambeetle_rate rates one of its systems and answers one 64-bit number, foambeetle_worth tells what
- * one of its fans is worth to a system, foambeetle_unit what the figures of the file are parts of. A call writes nothing
- * of the caller's but the two ends of a worth, keeps nothing between calls, and may run in several threads at once. It
- * uses up to 66,000 bytes of stack, 62,400 of them its working table. A thread's stack must hold what the C library keeps
- * of the thread too, some 6,000 bytes: give a thread 72,000.
+ * one of its fans is worth to a system, foambeetle_gain what a spare in that fan's place adds, foambeetle_unit what the
+ * figures of the file are parts of. A call writes nothing of the caller's but the two ends of a worth or a gain, keeps
+ * nothing between calls, and may run in several threads at once. It uses up to 66,000 bytes of stack,
+ * 62,400 of them its working table. A thread's stack must hold what the C library keeps of the thread too, some 6,000
+ * bytes: give a thread 72,000.
  *
  * Figures are parts of the file's unit, which its survival numbers are parts of too: FOAMBEETLE_UNIT (2^30) in a file of
  * version 1, FOAMBEETLE_DECIMAL_UNIT (10^9) in one of version 2 or 3. With u for what foambeetle_unit answers of the file,
- * the exact chance that the system works lies between low / u and high / u. So do the ends of a worth read, which may be
- * negative: ends[0] / u and ends[1] / u.
+ * the exact chance that the system works lies between low / u and high / u. So do the ends of a worth or a gain read,
+ * which may be negative: ends[0] / u and ends[1] / u.
  *
  * A file of version 3 has one to four switchboards, each with a survival number, and for each fan the number of its board,
  * 0 for none. A board that fails takes its fans with it, and the exact chance counts that.
@@ -21,7 +22,7 @@
  *    1  kind not 1..8
  *    2  number of fans 0 or above 64
  *    3  stretch: a = 0, b < a, or b above the number of fans
- *    4  a survival number above the file's unit, of a fan in the stretch or of any board
+ *    4  a survival number above the file's unit, of a fan in the stretch or of any board; gain: the spare's too
  *    5  kind 2: the stretch's weights add up to more than 120
  *    6  first or second out of range; kind 6 takes a window of 2 to 64 over a stretch of any length, kind 8 a window of
  *       1 to 10 and no longer than the stretch
@@ -30,7 +31,7 @@
  *   12  number of systems not 1..32
  *   13  an offset or the file's length differs from the layout
  *   14  system number 0 or above the file's count
- *   17  worth: the fan is not in the system's stretch
+ *   17  worth and gain: the fan is not in the system's stretch
  *   20  version 3: number of boards not 1..4
  *   21  version 3: a fan's board number above the number of boards
  *
@@ -101,6 +102,12 @@ FOAMBEETLE_INLINE uint32_t foambeetle_high(uint64_t answer)
  * and the refusal's number where nothing is. `ends` has room for two numbers. */
 uint64_t foambeetle_worth(const uint8_t *file, size_t length, uint64_t system, uint64_t fan, int64_t *ends);
 
+/* The gain of a spare in the place of a fan of a system of the same file: the system's chance with that fan's survival
+ * number replaced by `p`, in parts of the file's unit, less its chance as it is. The ends and the answer are as those of
+ * foambeetle_worth. A fan's worth does not look at how good the fan is now; the gain does, and says where a spare goes: the
+ * exact gain of a spare that cannot fail is the exact worth times the fan's own chance to fail. */
+uint64_t foambeetle_gain(const uint8_t *file, size_t length, uint64_t system, uint64_t fan, uint64_t p, int64_t *ends);
+
 /* The libraries themselves take no null pointer. A program that includes this header calls them by the functions below,
  * which lend an address of their own where the length is 0. */
 FOAMBEETLE_INLINE uint64_t foambeetle_unit_lent(const uint8_t *file, size_t length)
@@ -127,6 +134,15 @@ FOAMBEETLE_INLINE uint64_t foambeetle_worth_lent(const uint8_t *file, size_t len
     return foambeetle_worth(length ? file : &none, length, system, fan, ends);
 }
 #define foambeetle_worth foambeetle_worth_lent
+
+FOAMBEETLE_INLINE uint64_t foambeetle_gain_lent(const uint8_t *file, size_t length, uint64_t system, uint64_t fan,
+                                                uint64_t p, int64_t *ends)
+{
+    const uint8_t none = 0;
+
+    return foambeetle_gain(length ? file : &none, length, system, fan, p, ends);
+}
+#define foambeetle_gain foambeetle_gain_lent
 
 #ifdef __cplusplus
 }

@@ -1,5 +1,6 @@
 """Rules, survival numbers and weights to draw from, shared by the checks and the case files."""
 
+import random
 from collections.abc import Sequence
 
 from foambeetle import KINDS, LONGEST_WINDOW, MOST_BOARDS, MOST_FANS, MOST_PAIRS, MOST_WEIGHT, PAIRS_KIND, UNIT, UNITS, Boards, Rule
@@ -224,6 +225,16 @@ def rule_for(rng, kind, n, weights):
     if kind == PAIRS_KIND:
         return random_pairs(rng, n, rng.randint(1, MOST_PAIRS))
     return random_rule(rng, kind, n, sum(weights)) or Rule(1, 1, 0)
+
+
+def random_systems(seed, count, most, unit=UNIT):
+    """Systems of every kind by turns, kind 8 with one to four pairs: rule, survival numbers, weights."""
+    rng = random.Random(seed)
+    for place in range(count):
+        kind = KINDS[place % len(KINDS)]
+        n = rng.randint(2, most)
+        weights = random_weights(rng, n)
+        yield rule_for(rng, kind, n, weights), random_survivals(rng, n, unit), weights
 
 
 def board_numbers(rng, n, g):

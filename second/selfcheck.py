@@ -16,6 +16,7 @@ import mending_checks
 import published
 import season_checks
 import sources
+import spares_checks
 import states_checks
 import typed_checks
 import words
@@ -29,7 +30,7 @@ from foambeetle import (
 )
 from published import DECK_FILE, DECK_LINES
 from samples import (
-    NO_VERSIONS, WITHOUT_BOARDS, all_rules, longer_windows, random_pairs, random_rule, random_survivals, random_weights, rule_for, rules_in_range,
+    NO_VERSIONS, WITHOUT_BOARDS, all_rules, longer_windows, random_pairs, random_rule, random_survivals, random_systems, random_weights, rules_in_range,
     same_chances, short_lines, two_windows, unread_boards, unread_more, wrong_further_pairs, wrong_numbers_of_pairs, wrong_rules,
 )
 
@@ -44,16 +45,6 @@ def in_either_version(group):
         for version in WITHOUT_BOARDS:
             yield from group(version, UNITS[version])
     return checks
-
-
-def random_systems(seed, count, most, unit=UNIT):
-    """Systems of every kind by turns, kind 8 with one to four pairs: rule, survival numbers, weights."""
-    rng = random.Random(seed)
-    for place in range(count):
-        kind = KINDS[place % len(KINDS)]
-        n = rng.randint(2, most)
-        weights = random_weights(rng, n)
-        yield rule_for(rng, kind, n, weights), random_survivals(rng, n, unit), weights
 
 
 def small_systems(most):
@@ -756,7 +747,7 @@ GROUPS = (
     refusals_of_states_and_counts, stretches_read_inside_only, deck_files, printed_and_packed,
     decks_written, refusals_of_writing, header_damage, lent_tables, worths_by_words, worths_of_parts, plain_worths, refusals_of_worths,
     worths_of_files, same_chances_in_either_version, refusals_of_versions, units_of_files, *doubles_checks.GROUPS, *boards_checks.GROUPS,
-    *mending_checks.GROUPS, *season_checks.GROUPS, *states_checks.GROUPS, *typed_checks.GROUPS,
+    *mending_checks.GROUPS, *season_checks.GROUPS, *states_checks.GROUPS, *typed_checks.GROUPS, *spares_checks.GROUPS,
 )
 
 

@@ -16,6 +16,7 @@ sys.path.insert(0, str(root / "second"))
 from foambeetle import decklist_output, deckworth_output  # noqa: E402
 from mending import deckmend_output  # noqa: E402
 from season import season_output  # noqa: E402
+from spares import deckspare_output  # noqa: E402
 from states import deckstate_output  # noqa: E402
 from typed import deckmake_output, deckshow_output  # noqa: E402
 
@@ -38,7 +39,9 @@ SHIP, OFFICE = LIBRARIES = "foambeetle", "foambeetle_office"
 # The programs that print what deck files hold, and the C samples of the ship's calls, each with what the second program prints for it; the programs that write
 # one, with what it writes and says of it; the one that draws one; all programs; the sample of the office's, which writes EXAMPLE.
 SHOWER, MENDER, MAKER, PAGER = "deckshow", "deckmend", "deckmake", "deckpage"
-PROGRAMS = {"decklist": decklist_output, "deckworth": deckworth_output, "season": season_output, "deckstate": judged_lines, SHOWER: deckshow_output}
+PROGRAMS = {"decklist": decklist_output, "deckworth": deckworth_output, "deckspare": deckspare_output, "season": season_output, "deckstate": judged_lines,
+            SHOWER: deckshow_output}
+NEEDED = {"deckspare": ("1.0",)}  # the words that a program cannot do without: a spare that cannot fail
 WRITING = {MENDER: deckmend_output, MAKER: deckmake_output}
 EVERY_PROGRAM = (*PROGRAMS, *WRITING, PAGER)
 SAMPLES = {"rate": rated_lines, "worth": deckworth_output}
@@ -72,7 +75,7 @@ def prove():
 
 def started(program, *words):
     """The words that start a program that make has linked."""
-    return [root / "tests/run-program", program, *words]
+    return [root / "tests/run-program", program, *NEEDED.get(program, ()), *words]
 
 
 # The exit status: what was asked for was written; the file was refused, or the text has faults; something was wrong with the words, the input or the output.
@@ -142,7 +145,7 @@ def linked(program):
     """The words that start a program that make has linked into one file, which takes less than half the time of starting what rt built."""
     file = f"target/programs/{program}"
     ready(file)
-    return [*tools()[1], root / file]
+    return [*tools()[1], root / file, *NEEDED.get(program, ())]
 
 
 def prototypes(header):

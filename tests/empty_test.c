@@ -32,6 +32,7 @@ static void print_files(void)
     print_answer("unit", foambeetle_unit(NONE(uint8_t), 0));
     print_answer("rate", foambeetle_rate(NONE(uint8_t), counted(&count), 1));
     print_answer("worth", foambeetle_worth(NONE(uint8_t), 0, 1, 1, parts));
+    print_answer("gain", foambeetle_gain(NONE(uint8_t), 0, 1, 1, 1, parts));
     print_answer("chance", foambeetle_chance(NONE(uint8_t), 0, 1, ends));
     print_answer("chance_between", foambeetle_chance_between(NONE(uint8_t), 0, 1, ends));
     print_answer("read", count);

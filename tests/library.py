@@ -22,6 +22,7 @@ from doubles import bits_of, chance, chance_between, planned
 from foambeetle import (
     NO_BOARDS, UNIT, UNITS, Boards, Refusal, Rule, decklist_output, packed, rate, read_deck, system_numbers, unit_of_file, worth_of_file, write_deck,
 )
+from spares import gain_of_file
 
 LIBRARY = root / "target/lib"
 NEEDED = {"memcpy", "memset"}
@@ -92,7 +93,7 @@ def known(compiler, names):
 def empty_lists():
     """What tests/empty_test.c prints, by the second program: no file, no lists, then one fan and one system, with no room and with some."""
     one = [UNIT // 2], [0], NO_BOARDS, [1, 1, 0, 1, 1]
-    files = ("unit", unit_of_file(b"")), ("rate", rate(b"", 1)), ("worth", worth_of_file(b"", 1, 1).number), ("chance", chance(b"", 1).number)
+    files = ("unit", unit_of_file(b"")), ("rate", rate(b"", 1)), ("worth", worth_of_file(b"", 1, 1).number), ("gain", gain_of_file(b"", 1, 1, 1).number), ("chance", chance(b"", 1).number)
     files += ("chance_between", chance_between(b"", 1).number), ("read", 1)
     lists = [("write", write_deck(1, *typed, b"\0" * length)[0]) for typed, length in ((([], [], NO_BOARDS, []), 0), (one, 0), (one, 812))]
     rated = [("rate_doubles", packed(planned(Rule(1, 1, 0), 1, 1, chances, []))) for chances in ([], [bits_of(0.5)])]
@@ -148,12 +149,12 @@ def unit_by_ctypes(library, data):
     return call(data, len(data))
 
 
-def worth_by_ctypes(library, data, system, fan):
-    """The two ends or the refusal; a refusal must leave the ends as they were."""
+def ends_by_ctypes(call, data, *numbers):
+    """The two ends of a worth or a gain, or the refusal; a refusal must leave the ends as they were."""
     pair, before = ctypes.c_int64 * 2, (2 ** 62, -2 ** 62)
-    call, ends = library.foambeetle_worth, pair(*before)
-    call.argtypes, call.restype = [ctypes.c_char_p, ctypes.c_size_t, ctypes.c_uint64, ctypes.c_uint64, pair], ctypes.c_uint64
-    refusal = call(data, len(data), system, fan, ends)
+    ends = pair(*before)
+    call.argtypes, call.restype = [ctypes.c_char_p, ctypes.c_size_t, *[ctypes.c_uint64] * len(numbers), pair], ctypes.c_uint64
+    refusal = call(data, len(data), *numbers, ends)
     return Refusal(refusal) if refusal and tuple(ends) == before else tuple(ends)
 
 
@@ -185,7 +186,9 @@ def python_answers():
     files = [b"", *(deck.read_bytes() for deck in decks())]
     good &= compare("units through ctypes", [unit_by_ctypes(library, data) for data in files], [unit_of_file(data) for data in files])
     fans = [(data, system, fan) for data, system in asked for fan in (0, 1, len(read_deck(data).survivals), 2 ** 64 - 1)]
-    return good & compare("worths through ctypes", [worth_by_ctypes(library, *one) for one in fans], [worth_of_file(*one) for one in fans])
+    good &= compare("worths through ctypes", [ends_by_ctypes(library.foambeetle_worth, *one) for one in fans], [worth_of_file(*one) for one in fans])
+    spares = [(*one, p) for one in fans for p in (0, unit_of_file(one[0]), unit_of_file(one[0]) + 1)]
+    return good & compare("gains through ctypes", [ends_by_ctypes(library.foambeetle_gain, *one) for one in spares], [gain_of_file(*one) for one in spares])
 
 
 def main():

@@ -48,6 +48,7 @@ TESTS = tuple(Test(*line) for line in (
     ("the second program checks itself", "python3 second/selfcheck.py", False),
     ("deckstate against the second program", "python3 tests/states.py"),
     ("refusals in words, and what they advise carried out", "python3 tests/words.py"),
+    ("deckspare against the second program", "python3 tests/spare.py"),
     ("the office's calls over doubles against the second program", "python3 tests/doubles.py"),
     ("the Python package against the second program", "python3 tests/python.py"),
     ("what is installed runs, and goes again", "python3 tests/install.py"),

@@ -21,6 +21,7 @@ from files import random_files
 from foambeetle import BOARDS_VERSION, UNIT, UNITS, Boards, Refusal, packed, rate, read_deck, system_numbers, unit_of_file, worth_of_file, write_deck
 from office import cases
 from program import percent
+from spares import gain_of_file
 
 FOLDER, PACKAGE = "FOAMBEETLE_LIBRARY", root / "python"
 FILES, PLANS = 300, 600
@@ -84,8 +85,13 @@ def weighed(data, system, fan):
     return ends if isinstance(ends, Refusal) else (*ends, unit_of_file(data))
 
 
+def gained(data, system, fan, p):
+    ends = gain_of_file(data, system, fan, p)
+    return ends if isinstance(ends, Refusal) else (*ends, unit_of_file(data))
+
+
 def files_agree():
-    """Ratings, both kinds of chances, units and worths."""
+    """Ratings, both kinds of chances, units, worths and gains."""
     every = list(asked())
     good = compare("ratings from Python", [answer(package.rate, *one) for one in every], [ranged(*one) for one in every])
     good &= compare("chances from Python", [answer(package.chance, *one) for one in every], [doubled(chance)(*one) for one in every])
@@ -94,7 +100,9 @@ def files_agree():
     units = [Refusal(rate(data, 0) % 2 ** 32) if unit_of_file(data) == 0 else unit_of_file(data) for data in files()]
     good &= compare("units from Python", [answer(package.unit, data) for data in files()], units)
     fans = [(data, system, fan) for data, system in every[::3] for fan in (0, 1, 2, 64)]
-    return good & compare("worths from Python", [answer(package.worth, *one) for one in fans], [weighed(*one) for one in fans])
+    good &= compare("worths from Python", [answer(package.worth, *one) for one in fans], [weighed(*one) for one in fans])
+    spares = [(*one, p) for one in fans for p in (0, UNIT // 3, UNITS[2], UNIT, UNIT + 1)]
+    return good & compare("gains from Python", [answer(package.gain, *one) for one in spares], [gained(*one) for one in spares])
 
 
 def parsed(data):
@@ -169,7 +177,7 @@ def declared_as_headers():
             if said != "uint64_t" or calls[library].get(name) != [in_ctypes(one, name) for one in parameters]:
                 print(f"{name} is declared otherwise than in include/{library}.h")
                 return False
-    return all(package.libraries.call(name).restype is ctypes.c_uint64 for names in calls.values() for name in names if name != "foambeetle_gain")
+    return all(package.libraries.call(name).restype is ctypes.c_uint64 for names in calls.values() for name in names)
 
 
 def raised(kind, call, *words):

@@ -2,7 +2,7 @@
 
 1,800 random deck files of every version, sound and damaged by turns, one of lines shorter than their window, one of pairs, three whose fans stand about
 the units, and some whose boards do, go through a C program linked with libfoambeetle.a, which rates their systems, asks for the worth of a fan under
-each and for the file's unit, with guard pages on either side of what it lends and a stack that shows how deep a call goes. Every refusal is met, and
+each, for the gain of a spare in its place and for the file's unit, with guard pages on either side of what it lends and a stack that shows how deep a call goes. Every refusal is met, and
 every kind is answered in every version. Some of the files, and inputs of odd lengths, go through the programs as they are installed; the samples
 through the programs as rt built them, and through the C samples.
 """
@@ -17,6 +17,7 @@ from common import PROGRAMS, SAMPLES, compare, compare_samples, linked, mapped, 
 from files import random_files
 from foambeetle import BOARDS_VERSION, KINDS, UNITS, Boards, Deck, Refusal, Rule, System, deck_bytes, rate, read_deck, unit_of_file, worth_of_file
 from samples import edges, over
+from spares import gain_of_file
 
 FILES = 1800
 PRINTED = 100  # a process each, so fewer
@@ -25,7 +26,7 @@ REFUSALS = {*range(1, 7), *range(10, 15), 17, 20, 21}  # include/foambeetle.h
 MOST_ASKED = 33
 HUGE = (2 ** 63, 2 ** 64 - 1)
 MOST_STACK = 70000  # of which the working table takes 62,400
-CALLS = 3  # of the library
+CALLS = 4  # of the library
 
 
 def count_at(data, at):
@@ -34,22 +35,27 @@ def count_at(data, at):
 
 
 def asked(rng, data):
-    """The system numbers that are asked of a file, from 0 to past the last, each with the number of a fan, most of them on the deck."""
-    n, m = count_at(data, 4), min(count_at(data, 6), MOST_ASKED)
+    """The system numbers that are asked of a file, from 0 to past the last, each with the number of a fan, most of them on the deck, and of a spare, most of them
+    within the unit."""
+    n, m, unit = count_at(data, 4), min(count_at(data, 6), MOST_ASKED), unit_of_file(data) or 1
     for system in (*range(m + 2), *HUGE):
-        yield system, rng.choice((1, n, *(rng.randint(0, n + 1) for _ in range(6)), 2 ** 32 + 1, *HUGE))
+        fan = rng.choice((1, n, *(rng.randint(0, n + 1) for _ in range(6)), 2 ** 32 + 1, *HUGE))
+        yield system, fan, rng.choice((0, 1, unit - 1, unit, unit, *(rng.randint(0, unit) for _ in range(8)), unit + 1, 2 ** 32, HUGE[1]))
 
 
 def to_ask(data, pairs):
     """A file and what is asked of it, as tests/loading_test.c reads them."""
-    return struct.pack("<I", len(data)) + data + struct.pack("<I", len(pairs)) + b"".join(struct.pack("<QQ", *pair) for pair in pairs)
+    return struct.pack("<I", len(data)) + data + struct.pack("<I", len(pairs)) + b"".join(struct.pack("<QQQ", *pair) for pair in pairs)
 
 
-def answered(data, system, fan):
+def ends_text(answer):
+    return f"refused {answer.number}" if isinstance(answer, Refusal) else f"lower {answer[0]} upper {answer[1]}"
+
+
+def answered(data, system, fan, p):
     """The line that tests/loading_test.c prints."""
-    worth = worth_of_file(data, system, fan)
-    text = f"refused {worth.number}" if isinstance(worth, Refusal) else f"lower {worth[0]} upper {worth[1]}"
-    return f"system {system} {rate(data, system):x} fan {fan} {text} unit {unit_of_file(data)}"
+    worth, gain = ends_text(worth_of_file(data, system, fan)), ends_text(gain_of_file(data, system, fan, p))
+    return f"system {system} {rate(data, system):x} fan {fan} {worth} spare {p} {gain} unit {unit_of_file(data)}"
 
 
 def largest(version):
@@ -118,7 +124,7 @@ def units_seen(lines):
 
 
 def refusals_met(lines):
-    """Every refusal was met, in a rating or in a worth."""
+    """Every refusal was met, in a rating, a worth or a gain."""
     met = {int(number) for line in lines for number in re.findall(r"refused (\d+)", line)}
     met |= {int(number, 16) for line in lines for number in re.findall(r"^system \d+ ffffffff([0-9a-f]{8}) ", line)}
     print(f"refusals met: {sorted(met)}")
@@ -128,7 +134,7 @@ def refusals_met(lines):
 def kinds_answered(asked, lines):
     """Systems of every kind were answered in files of every version."""
     met = set()
-    for (data, system, _), line in zip(asked, lines, strict=True):
+    for (data, system, *_), line in zip(asked, lines, strict=True):
         if not line.split()[2].startswith("ffffffff"):
             deck = read_deck(data)
             met.add((deck.version, deck.systems[system - 1].rule.kind))

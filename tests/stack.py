@@ -13,7 +13,7 @@ from common import OFFICE, SHIP, ready, reported, root, run, tools
 
 MOST_STACK = 70000  # document 02, request 07
 CALLS = {
-    SHIP: ("foambeetle_rate", "foambeetle_worth", "foambeetle_unit"),
+    SHIP: ("foambeetle_rate", "foambeetle_worth", "foambeetle_gain", "foambeetle_unit"),
     OFFICE: ("foambeetle_write", "foambeetle_chance", "foambeetle_chance_between", "foambeetle_rate_doubles"),
 }
 SAID = re.compile(r"up to\s+(?:\*\s+)?([\d,]+)\s+(?:\*\s+)?bytes\s+(?:\*\s+)?of\s+(?:\*\s+)?stack")

@@ -1,5 +1,5 @@
 """samples/README.md is true as printed: its text is samples/hold1.txt, of which its deckmake command makes samples/hold1.deck, and README.md begins with
-it; a slip in it is told as it says; its make command, its programs in C, C++ and Python, built and run as printed, and its deckworth and deckshow
+it; a slip in it is told as it says; its make command, its programs in C, C++ and Python, built and run as printed, and its deckworth, deckspare and deckshow
 commands print what it says. So do the office's walk in docs/GUIDE.md, its Python line by line and its C program."""
 
 import os
@@ -26,7 +26,7 @@ def command(first):
 def through(program):
     """What the program's command prints; the program that rt built stands in for the installed one."""
     line = command(program).removeprefix(program)
-    return run(["sh", "-c", f'"$0" "$@" {line}', *started(program)], cwd=root)
+    return run(["sh", "-c", f'"$0" "$@" {line}', *started(program)[:2]], cwd=root)  # the line has its own words
 
 
 def made_as_said():
@@ -111,15 +111,19 @@ def worth_as_said():
     return through("deckworth").decode() == blocks("text")[2]
 
 
+def spared_as_said():
+    return through("deckspare").decode() == blocks("text")[3]
+
+
 def shown_as_said():
-    return through("deckshow").decode() == blocks("text")[3]
+    return through("deckshow").decode() == blocks("text")[4]
 
 
 def main():
     ready("lib")
     prove()
     checks = (made_as_said, begun_as_said, told_as_said, printed_as_said, called_as_said, called_from_plus_as_said, called_from_python_as_said, worth_as_said,
-              shown_as_said, guided_as_said)
+              spared_as_said, shown_as_said, guided_as_said)
     return 0 if held(*checks) else 1
 
 

@@ -16,6 +16,13 @@ pub extern "C" fn deckworth_run() -> i32
 }
 
 #[no_mangle]
+pub extern "C" fn deckspare_run() -> i32
+    ensures { λ r. ⌜ Status r ⌝ }
+{
+    deckspare::run()
+}
+
+#[no_mangle]
 pub extern "C" fn deckstate_run() -> i32
     ensures { λ r. ⌜ Status r ⌝ }
 {

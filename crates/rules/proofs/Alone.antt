@@ -21,7 +21,7 @@ use Rattle.rules.specs.Asked.{Asked, unitIn, lengthOf, sizeOf, partOf, w
 use Rattle.rules.specs.Alike.{Alike, alone, Paired}
 use Rattle.rules.specs.Refusal.{most, heaviest, firstOf, after, badVersion, badKind, badSize, badStretch, badBoards, misplaced, aboveUnit, someAbove, badWeights, weightsOut, inRange, shortTable, figuresRefusal}
 use Rattle.rules.specs.Answer.{unless, figuresOf}
-use Rattle.rules.specs.Worth.{sure, worthOf}
+use Rattle.rules.specs.Worth.{swapped, worthOf}
 use Rattle.rules.proofs.Tests.{by-both}
 use Rattle.rules.proofs.EachKind.{within-true}
 use Rattle.rules.proofs.Accepted.{in-stretch, whole-stretch, stretch-length, stretch-get}
@@ -107,8 +107,8 @@ part-set a b xs ys j p long e =
         go false same = refl
 
 module _ (q r : Asked) (e : Alike q r) (fan : ℕ) where
-  pub alike-sure : (p : ℕ) → Alike (sure fan p q) (sure fan p r)
-  alike-sure p = record {
+  pub alike-swapped : (p : ℕ) → Alike (swapped fan p q) (swapped fan p r)
+  alike-swapped p = record {
     version = e .version;
     rule = e .rule;
     a = e .a;
@@ -126,8 +126,8 @@ module _ (q r : Asked) (e : Alike q r) (fan : ℕ) where
       at : {a a' b b' : ℕ} → a ≡ a' → b ≡ b' → (xs : List ℕ) → stretch a b xs ≡ stretch a' b' xs
       at f g xs = λ i. stretch (f i) (g i) xs
 
-  alike-end : (up : Bool) (p p' : ℕ) → p ≡ p' → roundedOf up (sure fan p q) ≡ roundedOf up (sure fan p' r)
-  alike-end up p p' same = alike-rounded (sure fan p q) (sure fan p r) (alike-sure p) up ∙ ap (λ x. roundedOf up (sure fan x r)) same
+  alike-end : (up : Bool) (p p' : ℕ) → p ≡ p' → roundedOf up (swapped fan p q) ≡ roundedOf up (swapped fan p' r)
+  alike-end up p p' same = alike-rounded (swapped fan p q) (swapped fan p r) (alike-swapped p) up ∙ ap (λ x. roundedOf up (swapped fan x r)) same
 
   -- worth::worth's answer: the same refusal, and the same two ends
   pub alike-worth : (table : List ℕ) → worthOf q fan table ≡ worthOf r fan table

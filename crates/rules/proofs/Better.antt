@@ -1,13 +1,13 @@
 -- Request 09: a better fan never spoils the figure. A kind's row respects an order of its memories (`Orders`), so a list in which no survival number is
--- lower has no lower figure, rounded down or up, and no lower exact sum; behind boards too no lower figure, since a set of failed boards has no lower list than a
+-- lower has no lower figure, rounded down or up, and no lower exact sum; behind boards too, since a set of failed boards has no lower list than a
 -- larger one (`FewerOut`); the same of what is asked and of what is answered. A fan sure to work is better than one sure to fail, so the upper end of its worth is
 -- not below 0. Assumes nothing.
 use mathlib.Core.Path.{_≡_, refl, sym, ap, _∙_}
 use mathlib.Core.Bool.{Bool, true, false, false≢true}
 use mathlib.Core.List.{List, [], _∷_}
-use Prim.Native.Nat.{ℕ, zero, suc, _+_, _-_, _≤_, _<_, zero-le}
+use Prim.Native.Nat.{ℕ, zero, suc, _+_, _*_, _-_, _≤_, _<_, zero-le}
 use native.Mathlib.Omega.{arith}
-use native.Mathlib.Nat.{le-refl, le-trans, le-of-mul-le-mul-right, one-le-pow}
+use native.Mathlib.Nat.{le-refl, le-trans, add-le-add, mul-le-mul-left, le-of-mul-le-mul-right, one-le-pow}
 use lib.Dec.{ltb}
 use lib.IntN.{ℤ, pos}
 use lib.ListN.{length, getD, set, length-set, length-take, length-drop}
@@ -17,12 +17,12 @@ use Rattle.rules.specs.declared.Question.{Question}
 use Rattle.rules.specs.declared.Rating.the-variants.{Range}
 use Rattle.rules.specs.declared.Worth.the-variants.{Ends}
 use Rattle.rules.specs.Below.{within}
-use Rattle.rules.specs.State.{unitOf, ruleOf, numberOf}
+use Rattle.rules.specs.State.{unitOf, ruleOf, numberOf, failure}
 use Rattle.rules.specs.Pairs.{pairsOf}
 use Rattle.rules.specs.Verdict.{works}
 use Rattle.rules.specs.Memory.{run, live, machineOf, Reading, reading, readingOf, row1, row4, row5, row6, row7, row8}
 use Rattle.rules.specs.Figure.{figureOf, figure, exactIf, exact}
-use Rattle.rules.specs.Boards.{figureBehind}
+use Rattle.rules.specs.Boards.{figureBehind, exactBehind}
 use Rattle.rules.specs.Stretch.{stretch}
 use Rattle.rules.specs.Asked.{Asked, questionIn, askedOf, unitIn, partsOf, partOf, readOf, boardsOf, switchboardsOf, roundedOf, lowOf, highOf}
 use Rattle.rules.specs.Refusal.{inRange, figuresRefusal}
@@ -36,12 +36,13 @@ use Rattle.rules.proofs.Orders.{Worse, Respects, row-ordered, More, Lon
 use Rattle.rules.proofs.EachKind.{each-kind, within-true}
 use Rattle.rules.proofs.Units.{unit-some}
 use Rattle.rules.proofs.Conditions.{reading-is-verdict, below-unit}
+use Rattle.rules.proofs.Sets.{overSets, behind-length, exact-boards, sets-none, sets-first}
 use Rattle.rules.proofs.Boards.{behind-units}
 use Rattle.rules.proofs.Answer.{rates}
 use Rattle.rules.proofs.Accepted.{stretch-get, figures-ratable, figures-boarded}
 use Rattle.rules.proofs.FewerOut.{same-out, behind-better, combined-better}
 use Rattle.rules.proofs.Differences.{less-le, less-none}
-use Rattle.rules.proofs.Sure.{after-first, weighs, sure-accepted, sure-third}
+use Rattle.rules.proofs.Sure.{after-first, weighs, swapped-accepted, swapped-third}
 
 -- ---- better lists
 
@@ -145,6 +146,23 @@ module _ (up : Bool) (u : ℕ) (some : 0 < u) (rule : Rule) (kind : rising (rule
       better-figure u _ _ beside (behind-better boards out out' ys ys fewer (record { same-length = refl; no-lower = λ i. le-refl _ }))
       (behind-units boards out' ys units) up some rule kind)
 
+-- E over fans and boards: every set of failed boards has no lower E
+sets-better : (u : ℕ) (qs : List ℕ) (e e' : ℕ → ℕ) → ((out : ℕ) → e out ≤ e' out) → overSets u qs e ≤ overSets u qs e'
+sets-better u [] e e' h = rw (sets-none u e, sets-none u e') (h 0)
+sets-better u (q ∷ qs) e e' h =
+    rw (sets-first u q qs e, sets-first u q qs e')
+    (add-le-add (mul-le-mul-left q (sets-better u qs _ _ (λ out. h (out * 2)))) (mul-le-mul-left (failure u q) (sets-better u qs _ _ (λ out. h (out * 2 + 1)))))
+
+pub better-exact-behind : (u : ℕ) (rule : Rule) (xs ys beside boards qs : List ℕ) → rising (rule .kind) ≡ true → NoLower xs ys → ((i : ℕ) → getD ys i 0 ≤ u)
+    → inRange rule (length ys) beside ≡ true → exactBehind u rule xs beside boards qs ≤ exactBehind u rule ys beside boards qs
+better-exact-behind u rule xs ys beside boards qs kind better units range =
+    let lower : (i : ℕ) → getD xs i 0 ≤ u = λ i. le-trans (better .no-lower i) (units i) in
+    rw (exact-boards u rule xs beside boards (below-unit xs lower) qs, exact-boards u rule ys beside boards (below-unit ys units) qs)
+    (sets-better u qs _ _
+    (λ out.
+    better-exact u _ _ beside (behind-better boards out out xs ys (same-out out) better) (behind-units boards out ys units) rule kind
+    (rw (behind-length boards out ys) range)))
+
 -- ---- of what is asked and answered. That the second is accepted is enough: its numbers are within the unit.
 
 module _ (q q' : Asked) (better : Better q q') (kind : rising (q .rule .kind) ≡ true) where
@@ -177,8 +195,8 @@ module _ (q : Asked) (table : List ℕ) (fan : ℕ) (kind : rising (q .rule .kin
   fails-works : figuresRefusal q table ≡ 0 → lowOf (failing fan q) ≤ highOf (working fan q)
   fails-works none =
       let better = asked-better (questionIn q) (q .weights) (q .more) (q .boards) (q .switchboards) (set-better (q .survival) (fan - 1) 0 (unitIn q) zero-le) in
-      let third = sure-third q table fan (unitIn q) none (le-refl _) in
-      le-trans (better-asked (failing fan q) (working fan q) better kind table (sure-accepted q table fan (unitIn q) none (le-refl _)) .0)
+      let third = swapped-third q table fan (unitIn q) none (le-refl _) in
+      le-trans (better-asked (failing fan q) (working fan q) better kind table (swapped-accepted q table fan (unitIn q) none (le-refl _)) .0)
       (le-of-mul-le-mul-right (le-trans (third .above-low) (third .below-high)) (one-le-pow (partsOf q - 1) (unitIn q) (unit-some (q .version))))
 
   pub worth-rising : (l h : ℤ) → worthOf q fan table ≡ Ends l h → pos 0 ≤ℤ h

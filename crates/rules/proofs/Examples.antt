@@ -28,6 +28,7 @@ use Rattle.rules.specs.Asked.{questionOf, askedOf}
 use Rattle.rules.specs.Refusal.{cells, after, someAbove, weightsOut, ranged, firstOf, verdictRefusal, figuresRefusal}
 use Rattle.rules.specs.Answer.{unless, judgment, judgedOf, verdictOf, figuresOf}
 use Rattle.rules.specs.Worth.{worthOf}
+use Rattle.rules.specs.Gain.{gainOf}
 use Rattle.rules.specs.File.{bytesOf, numberAt, allBytes, headerOf, systemNumbers, systemsOf, systemAt, fileOf, deckIn, fileRefusal}
 use Rattle.rules.specs.Writing.{Typed, typedOf, deckOf, bytesFor, writeRefusal, writingOf, roomWritten}
 use Rattle.rules.specs.Better.{NoLower, rising}
@@ -85,6 +86,30 @@ pub worths : (weighed (ruleOf 1 1 0) 2 3 four 2 ≡ Ends (pos (2 ^ 29)) (pos (2 
     × (weighed (ruleOf 3 0 0) 1 1 four 1 ≡ Ends (negℤ (pos S)) (negℤ (pos S)))
 unfolding unitOf sumBelow held some listBelow total numberOf someWindow twoNear fails weightDown ones moved ended readingOf rounded value stretch boardDown behind combined someAbove weightsOut ranged firstOf after figuresRefusal unless worthOf
 worths = (refl, refl, refl, refl, refl, refl, refl)
+
+-- gains of a spare, worked by hand. Fans at 7/8, 3/4 and 1/2, two of which must work: the third is worth least, and there a sure spare gains most. One that is no
+-- better than the fan, and one sure to fail. P has its place among the refusals, before 6, and 17 is last.
+abbrev apart : List ℕ
+apart = 7 * 2 ^ 27 ∷ 3 * 2 ^ 28 ∷ 2 ^ 29 ∷ []
+
+abbrev pub gained : (rule : Rule) (a b : ℕ) (survival : List ℕ) (fan p : ℕ) → Worth
+gained rule a b survival fan p = gainOf (askedOf (questionOf 1 rule a b) survival [] [] [] []) fan p (replicate cells 0)
+
+pub gains : (weighed (ruleOf 1 2 0) 1 3 apart 1 ≡ Ends (pos (2 ^ 29)) (pos (2 ^ 29)))
+    × (weighed (ruleOf 1 2 0) 1 3 apart 3 ≡ Ends (pos (5 * 2 ^ 26)) (pos (5 * 2 ^ 26)))
+    × (gained (ruleOf 1 2 0) 1 3 apart 1 S ≡ Ends (pos (2 ^ 26)) (pos (2 ^ 26)))
+    × (gained (ruleOf 1 2 0) 1 3 apart 3 S ≡ Ends (pos (5 * 2 ^ 25)) (pos (5 * 2 ^ 25)))
+    × (gained (ruleOf 1 2 0) 1 3 apart 3 (2 ^ 29) ≡ Ends (pos 0) (pos 0))
+    × (gained (ruleOf 1 2 0) 1 3 apart 3 0 ≡ Ends (negℤ (pos (5 * 2 ^ 25))) (negℤ (pos (5 * 2 ^ 25))))
+    × (gained (ruleOf 1 2 0) 1 3 apart 3 (suc S) ≡ worth.Refused 4)
+    × (gained (ruleOf 1 4 0) 1 3 apart 3 S ≡ worth.Refused 6)
+    × (gained (ruleOf 1 4 0) 1 3 apart 3 (suc S) ≡ worth.Refused 4)
+    × (gained (ruleOf 9 4 0) 1 3 apart 3 (suc S) ≡ worth.Refused 1)
+    × (gained (ruleOf 1 1 0) 2 4 four 4 0 ≡ worth.Refused 4)
+    × (gained (ruleOf 1 2 0) 2 3 apart 1 S ≡ worth.Refused 17)
+    × (gained (ruleOf 1 2 0) 2 3 apart 1 (suc S) ≡ worth.Refused 4)
+unfolding unitOf sumBelow held some listBelow total numberOf someWindow twoNear fails weightDown ones moved ended readingOf rounded value stretch boardDown behind combined someAbove weightsOut ranged firstOf after figuresRefusal unless worthOf gainOf
+gains = (refl, refl, refl, refl, refl, refl, refl, refl, refl, refl, refl, refl, refl)
 
 -- request 01: document 01's file in hex as the office types it, its room full, one byte short and one long, and the order of refusals
 abbrev three : Typed

@@ -1,7 +1,7 @@
 -- "Earlier contents of either change no answer": of a lent table and of the room for counts a call reads the length alone, and what it writes comes of what was asked.
 -- Assumes nothing.
 use mathlib.Core.Path.{_≡_, ap}
-use mathlib.Core.Bool.{cond, not}
+use mathlib.Core.Bool.{Bool, cond, not}
 use mathlib.Core.List.{List, [], _∷_}
 use Prim.Native.Nat.{ℕ, suc}
 use lib.Dec.{ltb}
@@ -11,17 +11,17 @@ use Rattle.rules.specs.declared.Rule.{Rule}
 use Rattle.rules.specs.declared.Rating.the-variants as rating
 use Rattle.rules.specs.declared.Counting.the-variants as counting
 use Rattle.rules.specs.declared.Worth.the-variants as worth
-use Rattle.rules.specs.Asked.{Asked, unitIn, lengthOf, sizeOf, partOf, weightsOf, readOf, boardsOf, switchboardsOf, boardCount, lowOf, highOf}
+use Rattle.rules.specs.Asked.{Asked, lengthOf, sizeOf, weightsOf, readOf, boardsOf, boardCount, lowOf, highOf}
 use Rattle.rules.specs.Count.{countOf, countsOf}
-use Rattle.rules.specs.Refusal.{cells, firstOf, after, badVersion, badKind, notCounted, badSize, badStretch, badBoards, misplaced, aboveUnit, badWeights, inRange, figuresRefusal, countRefusal}
+use Rattle.rules.specs.Refusal.{cells, firstOf, after, badVersion, badKind, notCounted, badSize, badStretch, badBoards, misplaced, badWeights, inRange, numbersAbove, ratingRefusal, figuresRefusal, countRefusal}
 use Rattle.rules.specs.Answer.{unless, figuresOf, countingOf, cleared, roomAfter}
 use Rattle.rules.specs.Worth.{lowerOf, upperOf, badFan, worthOf}
+use Rattle.rules.specs.Gain.{gainLower, gainUpper, spareAbove, gainOf}
 use Rattle.rules.proofs.Lists.{below-length}
 
 module _ (t u : List ℕ) (long : length t ≡ length u) where
-  pub lent-refusal : (q : Asked) → figuresRefusal q t ≡ figuresRefusal q u
-  unfolding figuresRefusal
-  lent-refusal q =
+  rating-lent : (four : Bool) (q : Asked) → ratingRefusal four q t ≡ ratingRefusal four q u
+  rating-lent four q =
       λ i.
       firstOf
       ((11, badVersion (q .version))
@@ -30,11 +30,15 @@ module _ (t u : List ℕ) (long : length t ≡ length u) where
       ∷ (3, badStretch (q .a) (q .b) (lengthOf q))
       ∷ (20, badBoards (q .version) (boardCount q))
       ∷ (21, misplaced (q .version) (lengthOf q) (boardCount q) (q .boards) (boardsOf q))
-      ∷ (4, aboveUnit (unitIn q) (partOf q) (switchboardsOf q))
+      ∷ (4, four)
       ∷ (5, badWeights (q .rule) (lengthOf q) (q .weights) (weightsOf q))
       ∷ (6, not (inRange (q .rule) (sizeOf q) (readOf q)))
       ∷ (7, ltb (long i) cells)
       ∷ [])
+
+  pub lent-refusal : (q : Asked) → figuresRefusal q t ≡ figuresRefusal q u
+  unfolding figuresRefusal
+  lent-refusal q = rating-lent (numbersAbove q) q
 
   pub lent-figures : (q : Asked) → figuresOf q t ≡ figuresOf q u
   unfolding figuresOf
@@ -43,6 +47,11 @@ module _ (t u : List ℕ) (long : length t ≡ length u) where
   pub lent-worth : (q : Asked) (fan : ℕ) → worthOf q fan t ≡ worthOf q fan u
   unfolding worthOf
   lent-worth q fan = ap (λ r. unless (after r (cond (badFan q fan) 17 0)) worth.Refused (worth.Ends (lowerOf q fan) (upperOf q fan))) (lent-refusal q)
+
+  pub lent-gain : (q : Asked) (fan p : ℕ) → gainOf q fan p t ≡ gainOf q fan p u
+  unfolding gainOf
+  lent-gain q fan p =
+      ap (λ r. unless (after r (cond (badFan q fan) 17 0)) worth.Refused (worth.Ends (gainLower q fan p) (gainUpper q fan p))) (rating-lent (spareAbove q p) q)
 
   -- and of the room for the counts
   pub lent-counting : (rule : Rule) (n : ℕ) (weights room other : List ℕ) → length room ≡ length other → countingOf rule n weights t room ≡ countingOf rule n weights u other

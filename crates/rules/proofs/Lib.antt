@@ -43,6 +43,7 @@ pub mod Sure
 pub mod Lowest
 pub mod FewerOut
 pub mod Better
+pub mod Gain
 pub mod Grid
 pub mod Scaling
 pub mod Finer

@@ -21,7 +21,8 @@ use Rattle.rules.specs.Stretch.{stretch}
 use Rattle.rules.specs.Refusal.{cells, someAbove, weightsOut, ranged, firstOf, after, verdictRefusal, figuresRefusal}
 use Rattle.rules.specs.Answer.{unless, figuresOf, cleared, roomAfter}
 use Rattle.rules.specs.Worth.{worthOf}
-use Rattle.rules.specs.File.{numberAt, bytesOf, allBytes, headerOf, systemNumbers, systemsOf, systemAt, fileOf, deckIn, fileRefusal, packed, systemOf, loadingOf, systemWorth, worthLoadingOf}
+use Rattle.rules.specs.Gain.{gainOf}
+use Rattle.rules.specs.File.{numberAt, bytesOf, allBytes, headerOf, systemNumbers, systemsOf, systemAt, fileOf, deckIn, fileRefusal, packed, systemOf, loadingOf, systemWorth, worthLoadingOf, systemGain, gainLoadingOf}
 use Rattle.rules.specs.Writing.{typedOf, bytesFor, writeRefusal, writingOf}
 use Rattle.rules.specs.Doubles.{sign}
 use Rattle.rules.proofs.Lists.{below-length}
@@ -51,7 +52,7 @@ pub most-systems : (fileRefusal (counting 0) ≡ 12) × (fileRefusal (counting 3
 unfolding fileRefusal firstOf numberAt
 most-systems = (refl, refl, refl)
 
--- a file of one fan at 1/2 and one system: systems 0 and 2 are refused 14, also where a worth is asked for, and before 17
+-- a file of one fan at 1/2 and one system: systems 0 and 2 are refused 14, also where a worth or a gain is asked for, and before 17
 abbrev oneSystem : List ℕ
 oneSystem = counting 1 ++ (0 ∷ 0 ∷ 0 ∷ 32 ∷ 0 ∷ 0 ∷ 1 ∷ 0 ∷ 1 ∷ 0 ∷ 0 ∷ 0 ∷ 1 ∷ 0 ∷ 1 ∷ 0 ∷ [])
 
@@ -62,9 +63,12 @@ pub system-numbers : (loadingOf oneSystem 0 ≡ Refused 14)
     × (worthLoadingOf oneSystem 1 1 ≡ worth.Ends (pos S) (pos S))
     × (worthLoadingOf oneSystem 1 2 ≡ worth.Refused 17)
     × (worthLoadingOf oneSystem 2 2 ≡ worth.Refused 14)
+    × (gainLoadingOf oneSystem 0 1 S ≡ worth.Refused 14)
+    × (gainLoadingOf oneSystem 1 1 S ≡ worth.Ends (pos (2 ^ 29)) (pos (2 ^ 29)))
+    × (gainLoadingOf oneSystem 1 2 S ≡ worth.Refused 17)
     × (loadingOf (counting 1) 0 ≡ Refused 13)
-unfolding loadingOf worthLoadingOf systemOf systemWorth fileRefusal firstOf numberAt deckIn systemAt listBelow figuresOf figuresRefusal worthOf after unless unitOf stretch some someAbove weightsOut ranged total boardDown behind combined rounded value numberOf moved ended readingOf
-system-numbers = (refl, refl, refl, refl, refl, refl, refl, refl)
+unfolding loadingOf worthLoadingOf gainLoadingOf systemOf systemWorth systemGain fileRefusal firstOf numberAt deckIn systemAt listBelow figuresOf figuresRefusal worthOf gainOf after unless unitOf stretch some someAbove weightsOut ranged total boardDown behind combined rounded value numberOf moved ended readingOf
+system-numbers = (refl, refl, refl, refl, refl, refl, refl, refl, refl, refl, refl)
 
 -- "low times 2^32 plus high; for a refusal, (2^32 - 1) times 2^32 plus its number"
 pub packings : (packed (Range 3 5) ≡ 12884901893) × (packed (Refused 14) ≡ 18446744069414584334)

@@ -3,7 +3,7 @@
 -- inequalities. Nothing is rounded here. Assumes nothing.
 use mathlib.Core.Path.{_≡_, refl, sym, ap, ap₂, _∙_}
 use mathlib.Core.Logic.{_↔_}
-use mathlib.Core.Bool.{Bool, true, false, _||_}
+use mathlib.Core.Bool.{Bool, true, false, cond, _||_}
 use mathlib.Core.List.{List, [], _∷_}
 use Prim.Native.Nat.{ℕ, zero, suc, _+_, _*_, _-_, _^_, _≤_, _<_, zero-le}
 use native.Mathlib.Omega.{arith}
@@ -18,7 +18,7 @@ use Rattle.rules.specs.Stretch.{stretch}
 use Rattle.rules.specs.Asked.{Asked, unitIn, lengthOf, partsOf, partOf, weightsOf, readOf, boardsOf, switchboardsOf, boardCount, roundedOf, lowOf, highOf, ThirdOf}
 use Rattle.rules.specs.Refusal.{after, someAbove, badWeights, badSize, badStretch, misplaced, figuresRefusal}
 use Rattle.rules.specs.Answer.{unless, figuresOf}
-use Rattle.rules.specs.Worth.{sure, lowerOf, upperOf, Weighs, worthOf, Signed, Between, BetweenOf}
+use Rattle.rules.specs.Worth.{swapped, lowerOf, upperOf, Weighs, worthOf, Signed, Between, BetweenOf}
 use Rattle.rules.proofs.Tests.{by-test}
 use Rattle.rules.proofs.Unless.{unless-none}
 use Rattle.rules.proofs.Answer.{given-is, none-is}
@@ -46,34 +46,34 @@ part-within u p a b j xs h s i =
 -- ---- a rating that is not refused, with one of its numbers replaced
 
 module _ (q : Asked) (table : List ℕ) (fan p : ℕ) (none : figuresRefusal q table ≡ 0) (small : p ≤ unitIn q) where
-  sure-length : lengthOf (sure fan p q) ≡ lengthOf q
-  sure-length = length-set (q .survival) (fan - 1) p
+  swapped-length : lengthOf (swapped fan p q) ≡ lengthOf q
+  swapped-length = length-set (q .survival) (fan - 1) p
 
-  sure-units : (i : ℕ) → getD (partOf (sure fan p q)) i 0 ≤ unitIn q
-  sure-units = part-within (unitIn q) p (q .a) (q .b) (fan - 1) (q .survival) small (figures-ratable q table none .2 .units)
+  pub swapped-units : (i : ℕ) → getD (partOf (swapped fan p q)) i 0 ≤ unitIn q
+  swapped-units = part-within (unitIn q) p (q .a) (q .b) (fan - 1) (q .survival) small (figures-ratable q table none .2 .units)
 
-  sure-refusal : figuresRefusal (sure fan p q) table ≡ figuresRefusal q table
+  swapped-refusal : figuresRefusal (swapped fan p q) table ≡ figuresRefusal q table
   unfolding figuresRefusal
-  sure-refusal =
+  swapped-refusal =
       first-same 11 _ _ _ _ refl (λ eleven.
       first-same 1 _ _ _ _ refl (λ one.
-      first-same 2 _ _ _ _ (ap badSize sure-length) (λ two.
-      first-same 3 _ _ _ _ (ap (badStretch (q .a) (q .b)) sure-length) (λ three.
+      first-same 2 _ _ _ _ (ap badSize swapped-length) (λ two.
+      first-same 3 _ _ _ _ (ap (badStretch (q .a) (q .b)) swapped-length) (λ three.
       first-same 20 _ _ _ _ refl (λ twenty.
-      first-same 21 _ _ _ _ (ap (λ n. misplaced (q .version) n (boardCount q) (q .boards) (boardsOf q)) sure-length) (λ placed.
-      first-same 4 _ _ _ _ (ap (λ b. b || someAbove (unitIn q) (switchboardsOf q)) (above-none _ _ sure-units ∙ sym (above-none _ _ (figures-ratable q table none .2 .units)))) (λ four.
-      first-same 5 _ _ _ _ (ap (λ n. badWeights (q .rule) n (q .weights) (weightsOf q)) sure-length) (λ five. refl))))))))
+      first-same 21 _ _ _ _ (ap (λ n. misplaced (q .version) n (boardCount q) (q .boards) (boardsOf q)) swapped-length) (λ placed.
+      first-same 4 _ _ _ _ (ap (λ b. b || someAbove (unitIn q) (switchboardsOf q)) (above-none _ _ swapped-units ∙ sym (above-none _ _ (figures-ratable q table none .2 .units)))) (λ four.
+      first-same 5 _ _ _ _ (ap (λ n. badWeights (q .rule) n (q .weights) (weightsOf q)) swapped-length) (λ five. refl))))))))
 
-  pub sure-accepted : figuresRefusal (sure fan p q) table ≡ 0
-  sure-accepted = sure-refusal ∙ none
+  pub swapped-accepted : figuresRefusal (swapped fan p q) table ≡ 0
+  swapped-accepted = swapped-refusal ∙ none
 
-  pub sure-third : ThirdOf (sure fan p q) (lowOf (sure fan p q)) (highOf (sure fan p q))
+  pub swapped-third : ThirdOf (swapped fan p q) (lowOf (swapped fan p q)) (highOf (swapped fan p q))
   unfolding figuresOf
-  sure-third = figures-third (sure fan p q) table _ _ (unless-none _ _ _ sure-accepted)
+  swapped-third = figures-third (swapped fan p q) table _ _ (unless-none _ _ _ swapped-accepted)
 
-  pub sure-within : (up : Bool) → roundedOf up (sure fan p q) ≤ unitIn q
-  sure-within =
-      behind-within (unitIn q) (unit-some (q .version)) (q .rule) (partOf (sure fan p q)) (readOf q) (boardsOf q) (switchboardsOf q) sure-units
+  pub swapped-within : (up : Bool) → roundedOf up (swapped fan p q) ≤ unitIn q
+  swapped-within =
+      behind-within (unitIn q) (unit-some (q .version)) (q .rule) (partOf (swapped fan p q)) (readOf q) (boardsOf q) (switchboardsOf q) swapped-units
       (figures-boarded q table none .1 .units)
 
 -- ---- the worth
@@ -93,7 +93,7 @@ after-first zero next e = refl
 after-first (suc r) next e = absurd (omega arith)
 
 -- two numbers between their figures differ by no less than the lower and no more than the upper
-between : (u n l₁ h₁ e₁ l₀ h₀ e₀ : ℕ) → 0 < n → Third u n l₁ h₁ e₁ → Third u n l₀ h₀ e₀ → l₁ ≤ u → h₁ ≤ u → l₀ ≤ u → h₀ ≤ u
+pub between : (u n l₁ h₁ e₁ l₀ h₀ e₀ : ℕ) → 0 < n → Third u n l₁ h₁ e₁ → Third u n l₀ h₀ e₀ → l₁ ≤ u → h₁ ≤ u → l₀ ≤ u → h₀ ≤ u
     → Between u n (subℕ l₁ h₀) (subℕ h₁ l₀) e₁ e₀
 between u n l₁ h₁ e₁ l₀ h₀ e₀ some works fails a b c d =
     let s = u ^ (n - 1) in
@@ -105,13 +105,18 @@ between u n l₁ h₁ e₁ l₀ h₀ e₀ some works fails a b c d =
       upper-signed = signed u h₁ l₀ b c;
     }
 
+-- 17 not given
+pub chosen-fan : (b : Bool) → _≡_ {A = ℕ} (cond b 17 0) 0 → b ≡ false
+chosen-fan true e = absurd (omega arith)
+chosen-fan false e = refl
+
 module _ (q : Asked) (table : List ℕ) (fan : ℕ) where
   pub figures-between : figuresRefusal q table ≡ 0 → BetweenOf q fan (lowerOf q fan) (upperOf q fan)
   figures-between none =
-      let works = sure-within q table fan (unitIn q) none (le-refl _) in
-      let fails = sure-within q table fan 0 none zero-le in
+      let works = swapped-within q table fan (unitIn q) none (le-refl _) in
+      let fails = swapped-within q table fan 0 none zero-le in
       let inside = in-stretch (q .a) (q .b) (lengthOf q) (figures-ratable q table none .0) in
-      between (unitIn q) (partsOf q) _ _ _ _ _ _ (omega arith) (sure-third q table fan (unitIn q) none (le-refl _)) (sure-third q table fan 0 none zero-le)
+      between (unitIn q) (partsOf q) _ _ _ _ _ _ (omega arith) (swapped-third q table fan (unitIn q) none (le-refl _)) (swapped-third q table fan 0 none zero-le)
       (works false) (works true) (fails false) (fails true)
 
   -- of every worth that is answered

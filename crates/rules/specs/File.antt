@@ -15,6 +15,7 @@ use Rattle.rules.specs.Asked.{Asked, questionOf, askedOf}
 use Rattle.rules.specs.Refusal.{most, cells, firstOf, badVersion, badSize, badBoards, misplaced}
 use Rattle.rules.specs.Answer.{unless, figuresOf}
 use Rattle.rules.specs.Worth.{worthOf}
+use Rattle.rules.specs.Gain.{gainOf}
 
 -- a deck: its version, which says the unit, its fans' survival numbers, weights and board numbers, its boards' survival numbers, and its systems
 pub record Deck : Type 0 where
@@ -292,10 +293,11 @@ abbrev pub badNumber : List ℕ → ℕ → Bool
 badNumber bytes s = not (within 1 s (countIn bytes))
 
 -- "the loading computer's call then checks 14, and only then the system's own 1 and 3 to 6"
+abbrev pub numberedOf : {A : Type 0} (bytes : List ℕ) (s : ℕ) (refused : ℕ → A) (answer : A) → A
+numberedOf bytes s refused answer = unless (fileRefusal bytes) refused (cond (badNumber bytes s) (refused 14) answer)
+
 unfoldable pub loadingOf : (bytes : List ℕ) (s : ℕ) → Rating
-loadingOf bytes s =
-    unless (fileRefusal bytes) Refused
-    (cond (badNumber bytes s) (Refused 14) (answerIn bytes (s - 1)))
+loadingOf bytes s = numberedOf bytes s Refused (answerIn bytes (s - 1))
 
 -- request 06: the worth of a fan of a file's system, counted from 0, over a working table that the caller brings
 unfoldable pub systemWorth : Deck → System → (fan : ℕ) → Worth
@@ -306,6 +308,14 @@ worthIn bytes s fan = systemWorth (deckIn bytes) (systemIn bytes s) fan
 
 -- and as the loading computer's call gives it: the file's refusal, 14, the system's own, 17
 unfoldable pub worthLoadingOf : (bytes : List ℕ) (s fan : ℕ) → Worth
-worthLoadingOf bytes s fan =
-    unless (fileRefusal bytes) worth.Refused
-    (cond (badNumber bytes s) (worth.Refused 14) (worthIn bytes (s - 1) fan))
+worthLoadingOf bytes s fan = numberedOf bytes s worth.Refused (worthIn bytes (s - 1) fan)
+
+-- the gain of a spare in the same ways
+unfoldable pub systemGain : Deck → System → (fan p : ℕ) → Worth
+systemGain d s fan p = gainOf (askedBy d s) fan p (replicate cells 0)
+
+abbrev pub gainIn : List ℕ → (s fan p : ℕ) → Worth
+gainIn bytes s fan p = systemGain (deckIn bytes) (systemIn bytes s) fan p
+
+unfoldable pub gainLoadingOf : (bytes : List ℕ) (s fan p : ℕ) → Worth
+gainLoadingOf bytes s fan p = numberedOf bytes s worth.Refused (gainIn bytes (s - 1) fan p)

@@ -17,6 +17,7 @@ pub mod Answer
 pub mod Within
 pub mod Worth
 pub mod Better
+pub mod Gain
 pub mod File
 pub mod Writing
 pub mod Doubles

@@ -144,9 +144,10 @@ countRefusal rule n weights table room =
     ∷ (8, shortRoom n room)
     ∷ [])
 
--- "the figures 1, 2, 3, 4, 5, 6, 7": since request 02 "3 now belongs to every figure"; 11 "first where it is an input"; "20 and 21 come just before 4"
-unfoldable pub figuresRefusal : Asked → (table : List ℕ) → ℕ
-figuresRefusal q table =
+-- "the figures 1, 2, 3, 4, 5, 6, 7": since request 02 "3 now belongs to every figure"; 11 "first where it is an input"; "20 and 21 come just before 4".
+-- By what 4 says, since a call may read a survival number beside the lists
+abbrev pub ratingRefusal : (four : Bool) → Asked → (table : List ℕ) → ℕ
+ratingRefusal four q table =
     firstOf
     ((11, badVersion (q .version))
     ∷ (1, badKind (q .rule))
@@ -154,8 +155,14 @@ figuresRefusal q table =
     ∷ (3, badStretch (q .a) (q .b) (lengthOf q))
     ∷ (20, badBoards (q .version) (boardCount q))
     ∷ (21, misplaced (q .version) (lengthOf q) (boardCount q) (q .boards) (boardsOf q))
-    ∷ (4, aboveUnit (unitIn q) (partOf q) (switchboardsOf q))
+    ∷ (4, four)
     ∷ (5, badWeights (q .rule) (lengthOf q) (q .weights) (weightsOf q))
     ∷ (6, not (inRange (q .rule) (sizeOf q) (readOf q)))
     ∷ (7, shortTable table)
     ∷ [])
+
+abbrev pub numbersAbove : Asked → Bool
+numbersAbove q = aboveUnit (unitIn q) (partOf q) (switchboardsOf q)
+
+unfoldable pub figuresRefusal : Asked → (table : List ℕ) → ℕ
+figuresRefusal q table = ratingRefusal (numbersAbove q) q table

@@ -14,17 +14,17 @@ use Rattle.rules.specs.Asked.{Asked, questionIn, askedOf, unitIn, partsO
 use Rattle.rules.specs.Refusal.{figuresRefusal, after}
 use Rattle.rules.specs.Answer.{unless, Given}
 
--- what is asked with one fan's survival number replaced: "sure to work" by the unit, "sure to fail" by 0; request 11: "a fan sure to work may still lose its
--- board", so that the boards stay as they are
-abbrev pub sure : (fan p : ℕ) → Asked → Asked
-sure fan p q =
+-- what is asked with one fan's survival number replaced, as a fan is swapped for another: "sure to work" by the unit, "sure to fail" by 0; request 11: "a fan
+-- sure to work may still lose its board", so that the boards stay as they are
+abbrev pub swapped : (fan p : ℕ) → Asked → Asked
+swapped fan p q =
     askedOf (questionIn q) (set (q .survival) (fan - 1) p) (q .weights) (q .more) (q .boards) (q .switchboards)
 
 abbrev pub working : (fan : ℕ) → Asked → Asked
-working fan q = sure fan (unitIn q) q
+working fan q = swapped fan (unitIn q) q
 
 abbrev pub failing : (fan : ℕ) → Asked → Asked
-failing fan q = sure fan 0 q
+failing fan q = swapped fan 0 q
 
 -- "the lower is the first's low less the second's high, the upper the first's high less the second's low"
 abbrev pub lowerOf : Asked → (fan : ℕ) → ℤ

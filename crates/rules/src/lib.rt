@@ -50,7 +50,13 @@ pub enum Rating {
     Refused(u64),
 }
 
-// The worth of one fan, in signed parts of the unit.
+// A spare that is tried in the place of one fan, and its survival number.
+pub struct Spare {
+    pub fan: u64,
+    pub p: u64,
+}
+
+// The worth of one fan, or the gain of a spare in its place, in signed parts of the unit.
 pub enum Worth {
     Ends { lower: i64, upper: i64 },
     Refused(u64),

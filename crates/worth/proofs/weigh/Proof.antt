@@ -3,33 +3,34 @@ use borrow.Author.Needs.{needs}
 use mathlib.Core.Path.{_≡_, sym, ap, _∙_}
 use Rattle.rules.specs.Asked.{askedOf}
 use Rattle.rules.specs.Worth.{worthRefusal}
-use Rattle.worth.specs.Outcome.{fanRefusal}
-use Rattle.worth.proofs.Outcome.{answered-refused, answered-found}
+use Rattle.swaps.specs.Compared.{fanRefusal}
+use Rattle.swaps.proofs.Compared.{compared-refused}
+use Rattle.worth.proofs.Outcome.{answered-found}
 use Rattle.worth.proofs.weigh.Statement.{statement}
 use Rattle.worth.proofs.weigh.Tie as tie
 
 -- the refusal that is worked out is the worth's
-abbrev entry : tie.After-refusal2 → tie.Start
+abbrev entry : tie.After-fan-refusal → tie.Start
 entry c = let lent = c .before .before .before .before in lent .before .before .before .before .before
 
-refused : (c : tie.After-refusal2) → let x = entry c .args in
-    c .refusal2 .result
+refused : (c : tie.After-fan-refusal) → let x = entry c .args in
+    c .fan-refusal .result
     ≡ worthRefusal (askedOf (x .question) (x .survival .now) (x .weights .now) (x .more .now) (x .boards .now) (x .switchboards .now)) (x .fan) (x .table .now)
 refused c =
     let x = entry c .args in
-    c .refusal2 .ensures ∙ ap (λ own. fanRefusal own (x .question .a) (x .fan) (x .question .b)) (c .before .refusal .ensures)
+    c .fan-refusal .ensures ∙ ap (λ own. fanRefusal own (x .question .a) (x .fan) (x .question .b)) (c .before .refusal .ensures)
 
 refusal-requires : tie.Need-refusal-requires
 refusal-requires c κs = search needs
 
-refusal-requires-2 : tie.Need-refusal-requires-2
-refusal-requires-2 c κs = search needs
+fan-refusal-requires : tie.Need-fan-refusal-requires
+fan-refusal-requires c κs = search needs
 
 same-length : tie.Need-same-length
 same-length c = search needs
 
 returns : tie.Need-returns
-returns c = answered-refused (refused (c .before)) (c .if1 .taken)
+returns c = record { outcome = compared-refused (refused (c .before)) (c .if1 .taken) }
 
 rate-sure-requires : tie.Need-rate-sure-requires
 rate-sure-requires c κs = sym (refused (c .before .before)) ∙ c .before .if1 .left
@@ -48,7 +49,7 @@ weigh-spec =
     tie.close
     (tie.spec
     refusal-requires
-    refusal-requires-2
+    fan-refusal-requires
     same-length
     returns
     rate-sure-requires

@@ -1,6 +1,7 @@
 -- `worth` is the call, and its table cleared after an answer. Assumes nothing.
 use borrow.Author.Needs.{needs}
-use Rattle.worth.proofs.Outcome.{clear-fits, answered-cleared}
+use Rattle.swaps.proofs.Compared.{clear-fits, compared-cleared}
+use Rattle.worth.proofs.Asking.{room}
 use Rattle.worth.proofs.worth.Statement.{statement}
 use Rattle.worth.proofs.worth.Tie as tie
 
@@ -13,7 +14,7 @@ is-ends-requires c κs = search needs
 clear-requires : tie.Need-clear-requires
 clear-requires c κs =
     let weighed = c .before .before .before .before in
-    clear-fits (weighed .weigh .ensures) (c .before .is-ends .ensures)
+    clear-fits (weighed .weigh .ensures .outcome) (c .before .is-ends .ensures) (room _ _ _)
 
 same-length : tie.Need-same-length
 same-length c = search needs
@@ -22,7 +23,7 @@ returns : tie.Need-returns
 returns c =
     let asked = c .before .before .before .before in
     let weighed = asked .before .before .before in
-    answered-cleared (weighed .weigh .ensures) (asked .is-ends .ensures) (c .before .before .clear .ensures)
+    record { outcome = compared-cleared (weighed .weigh .ensures .outcome) (asked .is-ends .ensures) (c .before .before .clear .ensures) }
 
 pub worth-spec : {M : Type 1} → statement M
 worth-spec =

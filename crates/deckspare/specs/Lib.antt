@@ -1,0 +1,2 @@
+-- What deckspare prints.
+pub mod Lines

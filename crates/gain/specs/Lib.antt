@@ -1,0 +1,2 @@
+-- What the call answers and leaves.
+pub mod Outcome

@@ -1,0 +1,2 @@
+-- What is rated of the places of a stretch.
+pub mod Places
