@@ -10,7 +10,7 @@ from math import prod
 
 from files import random_deck
 from foambeetle import (
-    BOARDS_VERSION, KINDS, MOST_BOARDS, NO_BOARDS, UNITS, Boards, Deck, Refusal, Rule, System, bad_rule, deck_bytes, decklist_output, deckworth_output,
+    BOARDS_VERSION, KINDS, MOST_BOARDS, NO_BOARDS, NO_KIND, UNITS, Boards, Deck, Refusal, Rule, System, bad_rule, deck_bytes, decklist_output, deckworth_output,
     exact_sum_behind, exact_sum_by_words, fails, fans_failed, figures, file_refusal, low_and_high, low_and_high_behind, lower_and_upper, rate, read_deck,
     rounded_step, system_numbers, unit_of_file, verdict, worth, worth_of_file, write_deck,
 )
@@ -216,10 +216,10 @@ def first_wrong(rule, a, b, survivals, weights, room, version, boards):
     fans = range(a - 1, b) if placed else ()
     total = sum(weights[fan] for fan in fans if fan < len(weights))
     applies = {
-        11: version not in (1, 2, 3), 1: rule.kind not in range(1, 9), 2: n == 0 or n > 64, 3: not placed,
+        11: version not in (1, 2, 3), 1: rule.kind not in KINDS, 2: n == 0 or n > 64, 3: not placed,
         20: has and not 1 <= g <= 4, 21: has and (len(boards.of_fans) != n or any(boards.of_fans[fan] > g for fan in fans if fan < len(boards.of_fans))),
         4: version in UNITS and (any(survivals[fan] > UNITS[version] for fan in fans) or has and any(p > UNIT for p in boards.survivals)),
-        5: rule.kind == 2 and (len(weights) != n or total > 120), 6: rule.kind in range(1, 9) and placed and bad_rule(rule, b - a + 1, weights[a - 1:b]),
+        5: rule.kind == 2 and (len(weights) != n or total > 120), 6: rule.kind in KINDS and placed and bad_rule(rule, b - a + 1, weights[a - 1:b]),
         7: room < 7800,
     }
     return next((number for number in (11, 1, 2, 3, 20, 21, 4, 5, 6, 7) if applies[number]), None)
@@ -237,7 +237,7 @@ WRONGS = (
     lambda rng, q: q | {"boards": q["boards"]._replace(survivals=rng.choice(([], [7] * 5, [7] * 256)))},
     lambda rng, q: q | {"a": rng.choice((0, q["b"] + 1, 2 ** 64 - 1))},
     lambda rng, q: q | {"survivals": rng.choice(([], q["survivals"][:1] * 65))},
-    lambda rng, q: q | {"rule": q["rule"]._replace(kind=rng.choice((0, 9, 2 ** 64 - 1)))},
+    lambda rng, q: q | {"rule": q["rule"]._replace(kind=rng.choice((0, NO_KIND, 2 ** 64 - 1)))},
     lambda rng, q: q | {"version": rng.choice((*NO_VERSIONS, 2 ** 16 + 3, 2 ** 32 + 3, 1, 2))},
 )
 
@@ -267,7 +267,7 @@ def refusals_one_by_one():
     """Each number with everything after it wrong as well."""
     rule, three, over_all, high = Rule(2, 0, 0), [1, 1, 1], [UNIT + 1] * 3, [2 ** 32 - 1]
     cases = (
-        ((Rule(9, 0, 0), 0, 9, [], [], 0, Boards([9], [])), 1), ((rule, 0, 9, [], [], 0, Boards([9], [])), 2),
+        ((Rule(NO_KIND, 0, 0), 0, 9, [], [], 0, Boards([9], [])), 1), ((rule, 0, 9, [], [], 0, Boards([9], [])), 2),
         ((rule, 0, 9, over_all, [], 0, Boards([9], [])), 3), ((rule, 1, 3, over_all, [], 0, Boards([9], [])), 20),
         ((rule, 1, 3, over_all, [], 0, Boards([9], [UNIT + 1] * 5)), 20), ((rule, 1, 3, over_all, [], 0, Boards([9], high)), 21),
         ((rule, 1, 3, over_all, [], 0, Boards([0, 0, 2], high)), 21), ((rule, 1, 3, over_all, [], 0, Boards([0] * 4, high)), 21),

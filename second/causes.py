@@ -1,6 +1,6 @@
 """Why a deck file or a system of it is refused, in words, and what to do about it: decklist --words, and what deckpage says of a refusal."""
 
-from foambeetle import (BOARDS_HEADER_BYTES, BOARDS_VERSION, HEADER_BYTES, MOST_FANS, MOST_SYSTEMS, MOST_WEIGHT, UNITS, Refusal, Rule, bad_rule, bad_version,
+from foambeetle import (BOARDS_HEADER_BYTES, BOARDS_VERSION, HEADER_BYTES, KINDS, MOST_FANS, MOST_SYSTEMS, MOST_WEIGHT, UNITS, Refusal, Rule, bad_rule, bad_version,
                         boards_in, decklist_output, file_refusal, layout, number_at, rate_system, read_deck)
 
 
@@ -68,7 +68,7 @@ def system_words(deck, system, number):
     """Of a system that is refused by a number."""
     n, weight = len(deck.survivals), sum(deck.weights[max(system.a - 1, 0):system.b])
     if number == 1:
-        return f"there is no kind {system.rule.kind}; kinds are 1 to 8"
+        return f"there is no kind {system.rule.kind}; kinds are 1 to {KINDS[-1]}"
     if number == 3:
         return f"fans {system.a} to {system.b} are no stretch of {n} fans; it runs from fan 1 or later to a fan not before that, {n} at most"
     if number == 4:

@@ -4,7 +4,7 @@ import random
 from typing import NamedTuple
 
 import published
-from foambeetle import MOST_WEIGHT, PAIRS_KIND, SEVEN_KINDS, TABLE_CELLS, Refusal, Rule, count_slots_after, count_table
+from foambeetle import MOST_WEIGHT, NO_KIND, PAIRS_KIND, SEVEN_KINDS, TABLE_CELLS, Refusal, Rule, count_slots_after, count_table
 from samples import (
     all_rules, edge_rules, random_rule, random_weights, short_lines, spoil_rule, unread_weights, weights_for,
     weights_of_total, wrong_rules,
@@ -130,9 +130,9 @@ def short_line_cases(rng):
 
 
 def pair_cases(rng):
-    """Kind 8, which has no count table: whatever its pair and n, and before any other refusal but 1; kind 9 is no kind."""
+    """Kind 8, which has no count table: whatever its pair and n, and before any other refusal but 1; the kind above it is none."""
     # document 02, request 05: "15 for a kind 8 count table, right after 1"
-    for kind in (PAIRS_KIND, PAIRS_KIND + 1):
+    for kind in (PAIRS_KIND, NO_KIND):
         for n in (0, 1, 2, 10, 11, 64, 65, 2 ** 64 - 1):
             for first, second in ((1, 1), (2, 5), (1, 11), (0, 0), (2 ** 64 - 1, 1)):
                 yield Case(Rule(kind, first, second), n, *lent(rng, min(n, 64)), unread_weights(rng))

@@ -92,10 +92,10 @@ def lowest_wrong(rule, a, b, doubles, weights, room):
     placed = 1 <= a <= b <= n
     rated, beside = (doubles[a - 1:b], weights[a - 1:b]) if placed else ([], [])
     applies = {
-        1: rule.kind not in range(1, 9), 2: n == 0 or n > 64, 3: not placed,
+        1: rule.kind not in KINDS, 2: n == 0 or n > 64, 3: not placed,
         18: any(double(bits) != double(bits) or not 0 <= double(bits) <= 1 for bits in rated),
         5: rule.kind == 2 and (len(weights) != n or sum(beside) > 120),
-        6: rule.kind in range(1, 9) and bad_rule(rule, b - a + 1, beside), 19: rule.kind == 3 and any(own_value(bits) * UNIT % ONE for bits in rated),
+        6: rule.kind in KINDS and bad_rule(rule, b - a + 1, beside), 19: rule.kind == 3 and any(own_value(bits) * UNIT % ONE for bits in rated),
         7: room < 7800,
     }
     return next((number for number in (1, 2, 3, 18, 5, 6, 19, 7) if applies[number]), None)

@@ -3,7 +3,7 @@
 from math import inf, nextafter
 
 from doubles import bits_of
-from foambeetle import KINDS, MOST_FANS, MOST_PAIRS, PAIRS_KIND, UNIT, Rule
+from foambeetle import KINDS, MOST_FANS, MOST_PAIRS, NO_KIND, PAIRS_KIND, UNIT, Rule
 from samples import random_pairs, random_rule, random_stretch, random_weights
 
 NEGATIVE = 2 ** 63
@@ -74,7 +74,7 @@ def random_plan(rng, most=MOST_FANS):
 
 
 def wrong_kind(rng, rule, a, b, doubles, weights):
-    return rule._replace(kind=rng.choice((0, 9, 2 ** 32 + 1, 2 ** 64 - 1))), a, b, doubles, weights
+    return rule._replace(kind=rng.choice((0, NO_KIND, 2 ** 32 + 1, 2 ** 64 - 1))), a, b, doubles, weights
 
 
 def wrong_size(rng, rule, a, b, doubles, weights):
@@ -92,7 +92,7 @@ def no_chance(rng, rule, a, b, doubles, weights):
 
 
 def wrong_weights(rng, rule, a, b, doubles, weights):
-    kind = rule._replace(kind=2) if rule.kind in range(1, 9) and rng.random() < 0.7 else rule
+    kind = rule._replace(kind=2) if rule.kind in KINDS and rng.random() < 0.7 else rule
     return kind, a, b, doubles, rng.choice((weights[1:], weights + [1], [], [65535] * len(weights)))
 
 

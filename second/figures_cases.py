@@ -10,7 +10,7 @@ from typing import NamedTuple
 
 import published
 from foambeetle import (
-    KINDS, LONGEST_WINDOW, MOST_BOARDS, MOST_PAIRS, MOST_WEIGHT, NO_BOARDS, PAIRS_KIND, SEVEN_KINDS, TABLE_CELLS, UNIT, UNITS, Boards, Refusal, Rule,
+    KINDS, LONGEST_WINDOW, MOST_BOARDS, MOST_PAIRS, MOST_WEIGHT, NO_BOARDS, NO_KIND, PAIRS_KIND, SEVEN_KINDS, TABLE_CELLS, UNIT, UNITS, Boards, Refusal, Rule,
     figures,
 )
 from samples import (
@@ -218,7 +218,7 @@ def spoil(rng, case, damage):
     """The case with one thing made wrong."""
     rule, n = case.rule, len(case.survivals)
     if damage == 1:
-        return case._replace(rule=rule._replace(kind=rng.choice((0, 8, 9, 255) + HUGE)))
+        return case._replace(rule=rule._replace(kind=rng.choice((0, PAIRS_KIND, NO_KIND, 255) + HUGE)))
     if damage == 2:
         return case._replace(survivals=[])
     if damage == 3:
@@ -333,11 +333,11 @@ def unread_more_case(rng, kind, n):
 
 
 def unread_more_cases(rng):
-    """The same for every kind; kind 9 is none, whatever stands beside it."""
+    """The same for every kind; the kind above them is none, whatever stands beside it."""
     for kind in SEVEN_KINDS:
         yield from (unread_more_case(rng, kind, n) for n in (2, 5, 9))
     for n in (0, 1, 3, 65):
-        yield from (whole(rng, Rule(9, 1, 1, more), [1] * n, []) for more in ((), unread_more(rng)))
+        yield from (whole(rng, Rule(NO_KIND, 1, 1, more), [1] * n, []) for more in ((), unread_more(rng)))
 
 
 def refit_cases(rng):

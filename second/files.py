@@ -3,7 +3,7 @@
 import random
 
 from foambeetle import (
-    BOARDS_HEADER_BYTES, BOARDS_VERSION, HEADER_BYTES, KINDS, MOST_BOARDS, NO_BOARDS, UNITS, Boards, Deck, Rule, System, deck_bytes, number_at,
+    BOARDS_HEADER_BYTES, BOARDS_VERSION, HEADER_BYTES, KINDS, MOST_BOARDS, NO_BOARDS, NO_KIND, UNITS, Boards, Deck, Rule, System, deck_bytes, number_at,
 )
 from samples import WITHOUT_BOARDS, over, random_boards, random_rule, random_stretch, random_survivals, random_weights
 
@@ -28,7 +28,7 @@ def spoilt_system(rng, n, system):
     length = b - a + 1
     manner = rng.randrange(3)
     if manner == 0:
-        return System(rule._replace(kind=rng.choice((0, 9, 10, 65535))), a, b)
+        return System(rule._replace(kind=rng.choice((0, NO_KIND, NO_KIND + 1, 65535))), a, b)
     if manner == 1:
         return System(rule, *rng.choice(((0, b), (b, b - 1), (a, n + 1), (65535, 65535), (0, 0))))
     wrong = rng.choice((

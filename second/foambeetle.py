@@ -27,6 +27,7 @@ SYSTEM_NUMBERS = 5  # document 01, 'Deck file and printing': "kind, first, secon
 SEVEN_KINDS = range(1, 8)  # document 01, 'The seven verdicts'
 PAIRS_KIND = 8  # document 02, request 05: "Add kind 8"
 KINDS = (*SEVEN_KINDS, PAIRS_KIND)  # document 02, request 05: "1 for kinds not 1..8"
+NO_KIND = KINDS[-1] + 1  # the first that is refused so
 LONGEST_WINDOW = 10  # document 02, request 05: "1 <= k <= r <= 10"
 MOST_PAIRS = 4  # document 02, request 05: "one to four pairs (k, r)"
 WORKS = "works"

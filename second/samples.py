@@ -3,7 +3,7 @@
 import random
 from collections.abc import Sequence
 
-from foambeetle import KINDS, LONGEST_WINDOW, MOST_BOARDS, MOST_FANS, MOST_PAIRS, MOST_WEIGHT, PAIRS_KIND, UNIT, UNITS, Boards, Rule
+from foambeetle import KINDS, LONGEST_WINDOW, MOST_BOARDS, MOST_FANS, MOST_PAIRS, MOST_WEIGHT, NO_KIND, PAIRS_KIND, UNIT, UNITS, Boards, Rule
 
 HUGE = (2 ** 16, 2 ** 32, 2 ** 63, 2 ** 64 - 1)
 BINARY, DECIMAL, BOARDED = UNITS  # the versions
@@ -268,7 +268,7 @@ def spoil_rule(rng, case, damage, sizes):
     """The case with its kind (1), its n (2), its weights (5) or a number of its rule (6) made wrong; as kind 8 it has a rule of another kind."""
     rule, n = case.rule, case.n
     if damage == 1:
-        return case._replace(rule=rule._replace(kind=rng.choice((0, 8, 9, 255) + HUGE)))
+        return case._replace(rule=rule._replace(kind=rng.choice((0, PAIRS_KIND, NO_KIND, 255) + HUGE)))
     if damage == 2:
         return case._replace(n=rng.choice(sizes + HUGE))
     if damage == 5:

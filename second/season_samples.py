@@ -3,7 +3,7 @@
 import random
 
 from files import DAMAGES, random_deck
-from foambeetle import UNITS, Boards, Deck, Rule, System, deck_bytes
+from foambeetle import NO_KIND, PAIRS_KIND, UNITS, Boards, Deck, Rule, System, deck_bytes
 from season import MOST_FILES
 
 HALF = 2  # of either unit the half is a whole number
@@ -29,7 +29,7 @@ def ties():
 
 def no_kinds():
     """Kinds that there are not, alone and beside one that there is."""
-    systems = [System(Rule(kind, 1, 0), 1, 1) for kind in (0, 9, 65535, 1, 8, 10)]
+    systems = [System(Rule(kind, 1, 0), 1, 1) for kind in (0, NO_KIND, 65535, 1, PAIRS_KIND, NO_KIND + 1)]
     for version in UNITS:
         yield deck_bytes(Deck([1], [0], systems, version, Boards([1], [UNITS[version]])))
 

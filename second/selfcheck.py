@@ -22,7 +22,7 @@ import typed_checks
 import words
 from files import DAMAGES, random_deck, random_files
 from foambeetle import (
-    DEAD, KINDS, LONGEST_WINDOW, MOST_PAIRS, NO_BOARDS, PAIRS_KIND, SEVEN_KINDS, TABLE_CELLS, UNIT, UNITS, WORKS, Deck, Fails, Refusal, Rule,
+    DEAD, KINDS, LONGEST_WINDOW, MOST_PAIRS, NO_BOARDS, NO_KIND, PAIRS_KIND, SEVEN_KINDS, TABLE_CELLS, UNIT, UNITS, WORKS, Deck, Fails, Refusal, Rule,
     System, bad_rule, count_slots_after, count_table, counts_by_choice, counts_by_reading, counts_by_words, deck_bytes, decklist_output,
     deckworth_output, exact_sum, exact_sum_by_words, fails, figures, file_refusal, line_windows, listed_systems, low_and_high,
     low_and_high_by_words, lower_and_upper, pascal_row, rate, read_deck, row_of, system_numbers, unit_of_file, verdict, working_table_after, worth,
@@ -381,7 +381,7 @@ def pairs_refused():
 
 
 def further_numbers_unread():
-    """What stands beside a rule of another kind changes no answer, and kind 9 is refused whatever does."""
+    """What stands beside a rule of another kind changes no answer, and the kind above them is refused whatever does."""
     rng = random.Random(39)
     for rule, survivals, weights in random_systems(40, 80, 8):
         n, state = len(survivals), rng.getrandbits(len(survivals))
@@ -390,7 +390,7 @@ def further_numbers_unread():
             yield verdict(beside, n, state, weights), verdict(rule, n, state, weights)
             yield figures(beside, 1, n, survivals, weights), figures(rule, 1, n, survivals, weights)
             yield worth(beside, 1, n, 1, survivals, weights), worth(rule, 1, n, 1, survivals, weights)
-        yield verdict(beside._replace(kind=9), n, state, weights), Refusal(1)
+        yield verdict(beside._replace(kind=NO_KIND), n, state, weights), Refusal(1)
 
 
 def rules_accepted():
@@ -412,7 +412,7 @@ def refusals_of_calls(version, unit):
     over = [unit, unit + 1, unit]
     three = [1, 1, 1]
     whole = (
-        (Rule(0, 9, 9), [unit + 1] * 65, [], 0, 1), (Rule(9, 1, 1), three, [], 7800, 1), (Rule(8, 1, 0), three, [], 7800, 6),
+        (Rule(0, 9, 9), [unit + 1] * 65, [], 0, 1), (Rule(NO_KIND, 1, 1), three, [], 7800, 1), (Rule(8, 1, 0), three, [], 7800, 6),
         (Rule(8, 1, 1, (1,)), [], [], 0, 2), (Rule(8, 1, 1, (1,)), over, [], 0, 4), (Rule(8, 1, 1, (1,)), three, [], 0, 6),
         (Rule(8, 1, 1, (1, 1)), three, [], 7799, 7),
         (Rule(1, 0, 0), [], [], 0, 2), (Rule(2, 0, 0), [unit + 1] * 65, [], 0, 2),
@@ -425,7 +425,7 @@ def refusals_of_calls(version, unit):
     for rule, survivals, weights, room, number in whole:
         yield figures(rule, 1, len(survivals), survivals, weights, room, version), Refusal(number)
     parts = (
-        (Rule(9, 0, 0), 0, 0, [], [], 0, 1), (Rule(2, 0, 0), 0, 0, [], [], 0, 2),
+        (Rule(NO_KIND, 0, 0), 0, 0, [], [], 0, 1), (Rule(2, 0, 0), 0, 0, [], [], 0, 2),
         (Rule(2, 0, 0), 0, 2, over, [], 0, 3), (Rule(1, 1, 0), 3, 2, over, [], 0, 3),
         (Rule(1, 1, 0), 1, 4, over, [], 0, 3),
         (Rule(1, 1, 0), 2 ** 63, 2 ** 64 - 1, three, [], 7800, 3),
@@ -451,7 +451,7 @@ def refusals_of_states_and_counts():
     yield verdict(Rule(1, 4, 0), 64, 2 ** 63, []), WORKS
     yield verdict(Rule(1, 1, 0), 3, 4, [121, 65535]), Fails(0)
     tables = (
-        (Rule(0, 0, 0), 0, [], 0, 0, 1), (Rule(9, 0, 0), 0, [], 0, 0, 1), (Rule(2, 0, 0), 65, [], 0, 0, 2),
+        (Rule(0, 0, 0), 0, [], 0, 0, 1), (Rule(NO_KIND, 0, 0), 0, [], 0, 0, 1), (Rule(2, 0, 0), 65, [], 0, 0, 2),
         # document 02, request 05: "15 for a kind 8 count table, right after 1"
         (Rule(8, 0, 0), 0, [], 0, 0, 15), (Rule(8, 1, 1), 65, [], 0, 0, 15), (Rule(8, 1, 11), 3, [], 0, 0, 15), (Rule(8, 1, 1), 3, [], 7800, 4, 15),
         (Rule(2, 0, 0), 3, [], 0, 0, 5), (Rule(2, 0, 0), 3, [1] * 4, 7800, 4, 5),
@@ -538,7 +538,7 @@ def refusals_of_worths(version, unit):
     # document 02, request 06: "as for the figures, the chosen fan's own survival number included under 4 where the fan is in the stretch, then 17"
     three, over = [1, 1, 1], [1, unit + 1, 1]
     cases = (
-        (Rule(9, 0, 9), 0, 9, 0, [], [], 0, 1), (Rule(2, 0, 0), 0, 9, 0, [], [], 0, 2), (Rule(2, 0, 0), 2, 1, 9, over, [], 0, 3),
+        (Rule(NO_KIND, 0, 9), 0, 9, 0, [], [], 0, 1), (Rule(2, 0, 0), 0, 9, 0, [], [], 0, 2), (Rule(2, 0, 0), 2, 1, 9, over, [], 0, 3),
         (Rule(2, 0, 0), 1, 3, 9, over, [], 0, 4), (Rule(2, 0, 0), 1, 3, 0, three, [], 0, 5), (Rule(1, 4, 0), 1, 3, 0, three, [], 0, 6),
         (Rule(1, 1, 0), 1, 3, 0, three, [], 7799, 7), (Rule(1, 1, 0), 1, 3, 0, three, [], 7800, 17),
         (Rule(1, 1, 0), 1, 3, 4, three, [], 7800, 17), (Rule(1, 1, 0), 2, 2, 1, three, [], 7800, 17),
@@ -606,7 +606,7 @@ def refusals_of_versions():
     # document 02, request 08: 11 "first where it is an input; 4 against the file's unit"; request 11: "11 for versions not 1..3"
     decimal = UNITS[2]
     for version in NO_VERSIONS:
-        for rule, a, b, survivals, room in ((Rule(9, 0, 0), 0, 9, [], 0), (Rule(1, 1, 0), 1, 1, [UNIT + 1], 7800), (Rule(1, 1, 0), 1, 1, [0], 7800)):
+        for rule, a, b, survivals, room in ((Rule(NO_KIND, 0, 0), 0, 9, [], 0), (Rule(1, 1, 0), 1, 1, [UNIT + 1], 7800), (Rule(1, 1, 0), 1, 1, [0], 7800)):
             yield figures(rule, a, b, survivals, [], room, version), Refusal(11)
             yield worth(rule, a, b, 0, survivals, [], room, version), Refusal(11)
     for survival, version, refused in ((decimal, 2, False), (decimal + 1, 2, True), (UNIT, 2, True), (decimal + 1, 1, False), (UNIT, 1, False),

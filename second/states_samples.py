@@ -1,6 +1,6 @@
 """Words to start deckstate with: right ones at random for a deck, and wrong ones."""
 
-from foambeetle import BOARDS_VERSION, UNITS, Boards, Deck, Rule, System, deck_bytes
+from foambeetle import BOARDS_VERSION, NO_KIND, UNITS, Boards, Deck, Rule, System, deck_bytes
 from states import BOARD
 
 # No deck takes any of these as a fan's number: no digits, no number, too large, too long.
@@ -38,7 +38,7 @@ def every_kind(version=BOARDS_VERSION):
     unit = UNITS[version]
     rules = (Rule(1, 2, 0), Rule(2, 4, 0), Rule(3, 1, 2), Rule(4, 2, 0), Rule(5, 2, 0), Rule(6, 2, 3), Rule(7, 2, 3), Rule(8, 2, 4))
     systems = [System(rule, *stretch) for rule in rules for stretch in ((4, 9), (1, 12))]
-    refused = [System(Rule(9, 1, 0), 1, 12), System(rules[0], 0, 3), System(rules[0], 4, 13), System(rules[3], 2, 1), System(Rule(4, 7, 0), 4, 9), System(Rule(2, 1, 0), 10, 12)]
+    refused = [System(Rule(NO_KIND, 1, 0), 1, 12), System(rules[0], 0, 3), System(rules[0], 4, 13), System(rules[3], 2, 1), System(Rule(4, 7, 0), 4, 9), System(Rule(2, 1, 0), 10, 12)]
     weights = [1, 2, 3, 0, 1, 2, 3, 0, 1, 121, 0, 0]
     return Deck([unit + 1, *[unit // 2] * 11], weights, [*systems, *refused], version, Boards([1, 1, 1, 0, 0, 2, 2, 2, 0, 0, 0, 0], [unit, unit // 3]))
 

@@ -4,7 +4,7 @@ import random
 from typing import NamedTuple
 
 import published
-from foambeetle import MOST_PAIRS, PAIRS_KIND, SEVEN_KINDS, WORKS, Fails, Refusal, Rule, fails, verdict
+from foambeetle import MOST_PAIRS, NO_KIND, PAIRS_KIND, SEVEN_KINDS, WORKS, Fails, Refusal, Rule, fails, verdict
 from samples import (
     far_too_many_pairs, random_pairs, random_rule, random_weights, rules_in_range, short_lines, spoil_rule, two_windows, unread_more,
     unread_weights, weights_for, weights_of_total, wrong_further_pairs, wrong_numbers_of_pairs, wrong_rules,
@@ -235,15 +235,15 @@ def refused_pair_cases(rng):
 
 
 def unread_more_cases(rng):
-    """Numbers beside a rule of another kind, which are not read; kind 9 is none, whatever stands beside it."""
+    """Numbers beside a rule of another kind, which are not read; the kind above them is none, whatever stands beside it."""
     for kind in SEVEN_KINDS:
         for n in (2, 3, 8, 64):
             weights = weights_for(rng, kind, n)
             rule = (random_rule(rng, kind, n, sum(weights)) or Rule(1, 1, 0))._replace(more=unread_more(rng))
             yield from (Case(rule, n, state, weights) for state in words_of_both_answers(rng, rule, n, weights))
     for n in (0, 1, 3, 64, 65):
-        yield Case(Rule(9, 1, 1, unread_more(rng)), n, 0, [])
-        yield Case(Rule(9, 1, 1), n, 0, [])
+        yield Case(Rule(NO_KIND, 1, 1, unread_more(rng)), n, 0, [])
+        yield Case(Rule(NO_KIND, 1, 1), n, 0, [])
 
 
 def make_cases():

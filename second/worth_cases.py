@@ -11,7 +11,7 @@ from figures_cases import (
     unread_more_case, whole,
 )
 from foambeetle import (
-    KINDS, LONGEST_WINDOW, MOST_BOARDS, MOST_PAIRS, MOST_WEIGHT, PAIRS_KIND, SEVEN_KINDS, TABLE_CELLS, UNIT, UNITS, Boards, Rule, worth,
+    KINDS, LONGEST_WINDOW, MOST_BOARDS, MOST_PAIRS, MOST_WEIGHT, NO_KIND, PAIRS_KIND, SEVEN_KINDS, TABLE_CELLS, UNIT, UNITS, Boards, Rule, worth,
 )
 from samples import (
     BOARDED, DECIMAL, EDGE_SURVIVALS, HUGE, OVER_UNIT, WITHOUT_BOARDS, all_rules, edge_rules, edges, over, random_pairs, random_rule, random_stretch,
@@ -215,7 +215,7 @@ def wrong_pair_cases(rng):
         yield Case(asked, rng.choice((0, asked.a, asked.b, asked.b + 1, *HUGE)))
     for kind in SEVEN_KINDS:
         yield from (Case(unread_more_case(rng, kind, n), rng.randint(1, n)) for n in (3, 7))
-    yield Case(whole(rng, Rule(9, 1, 1, (1, 1)), [1] * 3, []), 0)
+    yield Case(whole(rng, Rule(NO_KIND, 1, 1, (1, 1)), [1] * 3, []), 0)
 
 
 def decimal_small_cases(rng):

@@ -12,12 +12,12 @@ use rules::Rule;
 use rules::kind;
 use rules::limit::CELLS;
 
-// Refusals 1, 15, 2, 5, 6, 7 and 8, the first that applies; 0 for none. Kind 8 is never refused by 1, so that 15 may be
-// looked at first.
+// Refusals 1, 15, 2, 5, 6, 7 and 8, the first that applies; 0 for none. A kind without a count table is never
+// refused by 1, so that 15 may be looked at first.
 fn refusal(rule: Rule, n: u64, weights: &[u16], lent: usize, slots: usize) -> u64
     ensures { λ r. ⌜ r ≡ refusalOf rule n (now (weights .entry)) lent slots ⌝ }
 {
-    if rule.kind == kind::LACKING {
+    if refusals::uncounted(rule) {
         return rules::refusal::UNCOUNTED;
     }
     let first = refusals::rule_refusal(rule, n, weights, &NO_MORE);

@@ -29,7 +29,7 @@ module _ (decimal : Bool) {rule : Rule} {survival beside t : List ℕ} (y : Rata
   workable = record { whole = whole-some decimal; narrow = whole-most decimal; size = y .accepted .size-high; units = y .units; room = y .room }
 
   pub in-rows : {weights : List ℕ} → beside ≡ weights → rule .kind ≤ 3 → rows.Asked (whole decimal) rule survival weights t
-  in-rows e early = record { accepted = rw e at (y .accepted); early = early; list = workable }
+  in-rows e early = record { accepted = rw e at (y .accepted); sums = early; list = workable }
 
   pub in-runs : One (rule .first) (length survival) (rule .second) → runs.Asked (whole decimal) (rule .first) survival t
   in-runs h = record { some = h .low; fits = h .high; list = workable }

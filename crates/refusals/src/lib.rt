@@ -1,4 +1,4 @@
-// The refusals that several calls share: 11, 1, 2, 5 and 6 of document 01's table.
+// The refusals that several calls share: 11, 1, 2, 5 and 6 of document 01's table; and 15, which asks for the kind too.
 mod pairs; // pairs.rt: kind 8's pairs
 
 ghost use mathlib.Core.Bool.{not};
@@ -6,7 +6,7 @@ ghost use mathlib.Core.Path.{_≡_};
 ghost use Prim.Native.Nat.{_≤_};
 ghost use lib.ListN.{length};
 ghost use Rattle.rules.specs.Below.{total, within};
-ghost use Rattle.rules.specs.Refusal.{most, badVersion, badKind, badSize, rangeOne, rangeTwo, ranged};
+ghost use Rattle.rules.specs.Refusal.{most, badVersion, badKind, notCounted, badSize, rangeOne, rangeTwo, ranged};
 ghost use Rattle.refusals.specs.Shared.{ratedRefusal, ruleRefusal};
 use rules::Rule;
 use rules::kind;
@@ -39,6 +39,13 @@ pub fn kind_out(rule: Rule) -> bool
 {
     let asked = rule.kind;
     outside(1, asked, kind::LAST)
+}
+
+// Refusal 15.
+pub fn uncounted(rule: Rule) -> bool
+    ensures { λ r. ⌜ r ≡ notCounted rule ⌝ }
+{
+    rule.kind == kind::LACKING
 }
 
 // Refusal 2.

@@ -13,7 +13,7 @@ use Rattle.rules.specs.State.{numberOf, ruleOf}
 use Rattle.rules.specs.Below.{sumBelow, total}
 use Rattle.rules.specs.Memory.{readingOf}
 use Rattle.rules.specs.Figure.{figure}
-use Rattle.rules.specs.Refusal.{heaviest}
+use Rattle.rules.specs.Refusal.{lastKind, heaviest}
 use Rattle.rules.specs.Accepted.{Accepted}
 use Rattle.rules.proofs.Accepted.{range1, range2}
 use Rattle.rules.proofs.EachKind.{each-kind}
@@ -23,7 +23,7 @@ use Rattle.memory.proofs.Sums.{sum-row1, sum-row3, sum-dead}
 use Rattle.memory.specs.Sum.{sum}
 use Rattle.places.specs.Map.{half}
 use Rattle.places.proofs.Values.{valued-dead}
-use Rattle.rows.specs.Kinds.{carryOf, loadOf, limitOf, gapOf, endOf}
+use Rattle.rows.specs.Kinds.{Sums, carryOf, loadOf, limitOf, gapOf, endOf}
 use Rattle.rows.specs.Level.{Asked, sumsValue}
 
 -- weights
@@ -72,12 +72,12 @@ module _ {u : ℕ} (some : 0 < u) (survival weights : List ℕ) (first second : 
   n = length survival
 
   abbrev ByKind : ℕ → Type 0
-  ByKind kind = kind ≤ 3 → Accepted (ruleOf kind first second) n weights → Early u (ruleOf kind first second) survival weights
+  ByKind kind = Sums (ruleOf kind first second) → Accepted (ruleOf kind first second) n weights → Early u (ruleOf kind first second) survival weights
 
   late : {kind : ℕ} → 3 < kind → ByKind kind
   late l early ok = absurd (omega arith)
 
-  by-kind : (kind : ℕ) → 1 ≤ kind → kind ≤ 8 → ByKind kind
+  by-kind : (kind : ℕ) → 1 ≤ kind → kind ≤ lastKind → ByKind kind
   unfolding carryOf endOf readingOf
   by-kind =
       each-kind ByKind
@@ -108,4 +108,4 @@ module _ {u : ℕ} (some : 0 < u) (survival weights : List ℕ) (first second : 
 pub early-is : {u : ℕ} {rule : Rule} {survival weights t : List ℕ} → Asked u rule survival weights t → Early u rule survival weights
 early-is {rule = rule} {survival} {weights} y =
     let ok = y .accepted in
-    by-kind (y .list .whole) survival weights (rule .first) (rule .second) (rule .kind) (ok .kind-low) (ok .kind-high) (y .early) ok
+    by-kind (y .list .whole) survival weights (rule .first) (rule .second) (rule .kind) (ok .kind-low) (ok .kind-high) (y .sums) ok

@@ -33,7 +33,7 @@ beside k (inr e) (inl d) l h = inr (omega arith)
 beside k (inr e) (inr d) l h = inr (omega arith)
 
 asked-kept : {u : ℕ} {rule : Rule} {survival weights t₀ t : List ℕ} → Kept t₀ t → Asked u rule survival weights t₀ → Asked u rule survival weights t
-asked-kept k y = record { accepted = y .accepted; early = y .early; list = workable-kept k (y .list) }
+asked-kept k y = record { accepted = y .accepted; sums = y .sums; list = workable-kept k (y .list) }
 
 module _ {u : ℕ} {rule : Rule} {survival weights : List ℕ} {s : Level} {t : List ℕ} (y : Levelled u rule survival weights s t) where
   abbrev early : Early u rule survival weights

@@ -1,5 +1,5 @@
 -- Kinds 1 to 3 as one machine: a sum, of weights that the kind says, asked at the end as the kind asks it.
-use Prim.Native.Nat.{ℕ, suc}
+use Prim.Native.Nat.{ℕ, suc, _≤_}
 use mathlib.Core.Bool.{Bool, cond}
 use mathlib.Core.List.{List}
 use lib.Dec.{eqb}
@@ -10,6 +10,10 @@ use Rattle.rules.specs.Memory.{Machine}
 use Rattle.rules.specs.Refusal.{heaviest}
 use Rattle.memory.specs.declared.sum.Sum.{Sum}
 use Rattle.memory.specs.Sum.{belowLimit, sumOutside, summing}
+
+-- the kinds whose memory is a sum
+abbrev pub Sums : Rule → Type 0
+Sums rule = rule .kind ≤ 3
 
 -- how far component i carries a sum where it fails
 unfoldable pub carryOf : Rule → (weights : List ℕ) (i : ℕ) → ℕ

@@ -11,12 +11,12 @@ use Rattle.memory.specs.Sum.{sum}
 use Rattle.places.specs.Cells.{Side, Kept, Shelf, Workable, valueOf}
 use Rattle.places.specs.Map.{far}
 use Rattle.rows.specs.declared.Level.{Level}
-use Rattle.rows.specs.Kinds.{limitOf, gapOf, loadOf, endOf, summed}
+use Rattle.rows.specs.Kinds.{Sums, limitOf, gapOf, loadOf, endOf, summed}
 
--- an accepted rule of kind 1, 2 or 3, over a list that can be worked
+-- an accepted rule of a kind whose memory is a sum, over a list that can be worked
 pub record Asked (u : ℕ) (rule : Rule) (survival weights t : List ℕ) : Type 0 where
   pub accepted : Accepted rule (length survival) weights
-  pub early : rule .kind ≤ 3
+  pub sums : Sums rule
   pub list : Workable u survival t
 
 -- the value of each sum with i components left

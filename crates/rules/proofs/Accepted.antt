@@ -17,7 +17,7 @@ use Rattle.rules.specs.State.{besideOf}
 use Rattle.rules.specs.Boards.{hasBoards, boardsRead}
 use Rattle.rules.specs.Stretch.{stretch}
 use Rattle.rules.specs.Asked.{Asked, unitIn, lengthOf, sizeOf, partOf, weightsOf, readOf, boardsOf, switchboardsOf, lowOf, highOf, ThirdOf}
-use Rattle.rules.specs.Refusal.{most, mostBoards, badBoards, misplaced, someAbove, badKind, badSize, badStretch, heaviest, weightsOut, badWeights, rangeOne, rangeTwo, rangePairs, ranged, inRange, firstOf, after, figuresRefusal}
+use Rattle.rules.specs.Refusal.{lastKind, most, mostBoards, badBoards, misplaced, someAbove, badKind, badSize, badStretch, heaviest, weightsOut, badWeights, rangeOne, rangeTwo, rangePairs, ranged, inRange, firstOf, after, figuresRefusal}
 use Rattle.rules.specs.Accepted.{Accepted, One, Two, Boarded, Ratable}
 use Rattle.rules.specs.Answer.{unless, figuresOf}
 use Rattle.rules.proofs.Tests.{by-test, both, neither}
@@ -93,7 +93,7 @@ beside-more rule weights more e = rw (eq-eqb (rule .kind) 8 e)
 pub rule-accepted : (rule : Rule) (n whole : ℕ) (weights rated more : List ℕ) → badKind rule ≡ false → badSize n ≡ false → badWeights rule whole weights rated ≡ false
     → (length weights ≡ whole → length rated ≡ n) → not (inRange rule n (besideOf rule rated more)) ≡ false → Accepted rule n (besideOf rule rated more)
 rule-accepted rule n whole weights rated more kind size listed as-many range =
-    let k = within-true 1 (rule .kind) 8 (not-false _ kind) in
+    let k = within-true 1 (rule .kind) lastKind (not-false _ kind) in
     let s = within-true 1 n 64 (not-false _ size) in
     record {
       kind-low = k .0;

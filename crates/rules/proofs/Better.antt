@@ -25,7 +25,7 @@ use Rattle.rules.specs.Figure.{figureOf, figure, exactIf, exact}
 use Rattle.rules.specs.Boards.{figureBehind, exactBehind}
 use Rattle.rules.specs.Stretch.{stretch}
 use Rattle.rules.specs.Asked.{Asked, questionIn, askedOf, unitIn, partsOf, partOf, readOf, boardsOf, switchboardsOf, roundedOf, lowOf, highOf}
-use Rattle.rules.specs.Refusal.{inRange, figuresRefusal}
+use Rattle.rules.specs.Refusal.{lastKind, inRange, figuresRefusal}
 use Rattle.rules.specs.Answer.{figuresOf}
 use Rattle.rules.specs.Worth.{working, failing, worthOf}
 use Rattle.rules.specs.Better.{NoLower, rising, Better}
@@ -88,7 +88,7 @@ asked-better question weights more boards switchboards better = record {
 -- ---- what holds of every row that respects an order holds of the row of every kind of which it is claimed
 
 module _ (P : Reading → Type 0) (by-order : (R : Reading) (W : R .Live → R .Live → Type 0) → Respects (R .row) W → P R) (beside : List ℕ) where
-  by-kind : (first second kind : ℕ) → 1 ≤ kind → kind ≤ 8 → rising kind ≡ true → P (readingOf (ruleOf kind first second) beside)
+  by-kind : (first second kind : ℕ) → 1 ≤ kind → kind ≤ lastKind → rising kind ≡ true → P (readingOf (ruleOf kind first second) beside)
   unfolding readingOf
   by-kind first second =
       each-kind (λ kind. rising kind ≡ true → P (readingOf (ruleOf kind first second) beside))
@@ -103,7 +103,7 @@ module _ (P : Reading → Type 0) (by-order : (R : Reading) (W : R .Live → R .
 
   by-rising : (rule : Rule) → rising (rule .kind) ≡ true → P (readingOf rule beside)
   by-rising rule e =
-      let k = within-true 1 (rule .kind) 8 (both (within 1 (rule .kind) 8) _ e .0) in
+      let k = within-true 1 (rule .kind) lastKind (both (within 1 (rule .kind) lastKind) _ e .0) in
       by-kind (rule .first) (rule .second) (rule .kind) (k .0) (k .1) e
 
 -- ---- their figures and their exact sums, of any unit

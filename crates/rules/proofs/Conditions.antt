@@ -17,7 +17,7 @@ use Rattle.rules.specs.Verdict.{fails, works}
 use Rattle.rules.specs.Count.{countIf, countOf}
 use Rattle.rules.specs.Memory.{run, readingOf, machine}
 use Rattle.rules.specs.Figure.{figure, low, high, exact, Third}
-use Rattle.rules.specs.Refusal.{most, rangePairs, ranged, inRange, someAbove}
+use Rattle.rules.specs.Refusal.{lastKind, most, rangePairs, ranged, inRange, someAbove}
 use Rattle.rules.proofs.EachKind.{each-kind, within-true, range-kind}
 use Rattle.rules.proofs.Tests.{both}
 use Rattle.rules.proofs.Windows.{some-none, not-lt}
@@ -36,7 +36,7 @@ module _ (n : ℕ) (weights : List ℕ) (w : ℕ) (small : w < 2 ^ n) (first sec
       → run (machine (ruleOf kind first second) weights) n (machine (ruleOf kind first second) weights .start) w
       ≡ works (ruleOf kind first second) n weights w
 
-  by-kind : (kind : ℕ) → 1 ≤ kind → kind ≤ 8 → Right kind
+  by-kind : (kind : ℕ) → 1 ≤ kind → kind ≤ lastKind → Right kind
   unfolding ranged rangePairs readingOf fails
   by-kind =
       each-kind Right

@@ -3,7 +3,7 @@
 use mathlib.Core.Path.{_≡_, refl}
 use mathlib.Core.Bool.{true, false}
 use mathlib.Core.List.{List, [], _∷_}
-use Prim.Native.Nat.{ℕ, _+_, _-_, _*_, _^_}
+use Prim.Native.Nat.{ℕ, suc, _+_, _-_, _*_, _^_}
 use lib.ListN.{replicate}
 use Rattle.rules.specs.declared.Rule.{Rule}
 use Rattle.rules.specs.declared.Rating.{Rating}
@@ -14,7 +14,7 @@ use Rattle.rules.specs.Memory.{moved, ended, readingOf}
 use Rattle.rules.specs.Figure.{rounded, value}
 use Rattle.rules.specs.Boards.{boardDown, behind, combined}
 use Rattle.rules.specs.Stretch.{stretch}
-use Rattle.rules.specs.Refusal.{cells, weightsOut, ranged, firstOf}
+use Rattle.rules.specs.Refusal.{lastKind, cells, weightsOut, ranged, firstOf}
 use Rattle.rules.specs.Answer.{unless}
 use Rattle.rules.specs.File.{numberAt}
 use Rattle.rules.specs.Doubles.{parts, spelt, own, isChance, wholeOf, onGrid, plannedOf, noChance, someOff, plannedRefusal, plannedRating, otherRefusal}
@@ -80,7 +80,7 @@ ratings = (refl, refl, refl, refl)
 -- 18 in 4's place, before 5 and 6; 19 for kind 3 alone, after 6 and before 7
 pub refusals : (rated (ruleOf 1 1 0) 1 1 (notNumber ∷ []) ≡ Refused 18)
     × (rated (ruleOf 2 0 0) 1 1 ((one + 1) ∷ []) ≡ Refused 18)
-    × (rated (ruleOf 9 0 0) 1 1 (notNumber ∷ []) ≡ Refused 1)
+    × (rated (ruleOf (suc lastKind) 0 0) 1 1 (notNumber ∷ []) ≡ Refused 1)
     × (rated (ruleOf 1 1 0) 1 2 (notNumber ∷ []) ≡ Refused 3)
     × (rated (ruleOf 2 0 0) 1 1 (halfPart ∷ []) ≡ Refused 5)
     × (rated (ruleOf 3 1 0) 1 1 (halfPart ∷ []) ≡ Refused 6)

@@ -8,7 +8,6 @@ use Prim.Native.Nat.{ℕ, _*_, _-_, _^_, _≤_, _<_, zero-le}
 use native.Mathlib.Omega.{arith}
 use native.Mathlib.Decide.{decLt}
 use native.Mathlib.Nat.{le-of-eq}
-use lib.Dec.{eqb}
 use lib.ListN.{length, getD, length-map, List·getD-map, List·getD-eq-default}
 use lib.Seq.{ext-getD}
 use borrow.Author.Tests.{not-false, ltb-false, le-ltb}
@@ -20,8 +19,8 @@ use Rattle.rules.specs.Figure.{rounded, low, high, exact, Third}
 use Rattle.rules.specs.Boards.{hasBoards}
 use Rattle.rules.specs.Stretch.{stretch}
 use Rattle.rules.specs.Asked.{questionOf, askedOf, weightsOf, roundedOf}
-use Rattle.rules.specs.Refusal.{cells, badKind, badSize, badStretch, badWeights, inRange, firstOf, figuresRefusal}
-use Rattle.rules.specs.Better.{rising}
+use Rattle.rules.specs.Refusal.{lastKind, cells, badKind, badSize, badStretch, badWeights, inRange, firstOf, figuresRefusal}
+use Rattle.rules.specs.Better.{excepted, rising}
 use Rattle.rules.specs.Doubles.{parts, spelt, own, isChance, wholeOf, onGrid, Planned, askedIn, lowIn, highIn, floatsOf, sizeIn, readIn, exactIn, noChance, someOff, offGrid, plannedRefusal, plannedRating, widest, Spanned, SpannedOf}
 use Rattle.rules.proofs.Lists.{map-stretch}
 use Rattle.rules.proofs.Tests.{by-test}
@@ -211,9 +210,9 @@ module _ (q : Planned) (table : List ℕ) (none : plannedRefusal q table ≡ 0) 
       let inside = in-stretch (q .a) (q .b) (length (q .survival)) (passed .inside) in
       let fans : 0 < n = rw passed-size (omega arith) in
       let range : inRange (q .rule) n (readIn q) ≡ true = rw passed-size (not-false _ (passed .range)) in
-      by-test (Between n) (eqb (q .rule .kind) 3) (n - 1) (2 * n - 1)
-      (λ three. grid-spanned (q .rule) (floatsOf q) (readIn q) chances fans range (each-on-grid (floatsOf q) (rw three at (passed .grid))))
-      (λ other. rising-spanned (q .rule) (floatsOf q) (readIn q) chances fans range (rw (not-false (within 1 (q .rule .kind) 8) (passed .kind), other)))
+      by-test (Between n) (excepted (q .rule .kind)) (n - 1) (2 * n - 1)
+      (λ out. grid-spanned (q .rule) (floatsOf q) (readIn q) chances fans range (each-on-grid (floatsOf q) (rw out at (passed .grid))))
+      (λ other. rising-spanned (q .rule) (floatsOf q) (readIn q) chances fans range (rw (not-false (within 1 (q .rule .kind) lastKind) (passed .kind), other)))
 
   pub planned-spanned : SpannedOf q (lowIn q) (highIn q)
   unfolding unitOf

@@ -6,11 +6,11 @@ use Prim.Native.Nat.{ℕ, _≤_}
 use lib.ListN.{length, getD}
 use Rattle.rules.specs.declared.Rule.{Rule}
 use Rattle.rules.specs.Below.{total}
-use Rattle.rules.specs.Refusal.{most, heaviest, inRange, cells, mostBoards}
+use Rattle.rules.specs.Refusal.{lastKind, most, heaviest, inRange, cells, mostBoards}
 
 pub record Accepted (rule : Rule) (n : ℕ) (beside : List ℕ) : Type 0 where
   pub kind-low : 1 ≤ rule .kind
-  pub kind-high : rule .kind ≤ 8
+  pub kind-high : rule .kind ≤ lastKind
   pub size-low : 1 ≤ n
   pub size-high : n ≤ most
   pub weights-length : rule .kind ≡ 2 → length beside ≡ n

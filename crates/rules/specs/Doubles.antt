@@ -14,6 +14,7 @@ use Rattle.rules.specs.Figure.{rounded, exact}
 use Rattle.rules.specs.Stretch.{stretch}
 use Rattle.rules.specs.Asked.{Asked, questionOf, askedOf, sizeOf, weightsOf, readOf, lowOf, highOf}
 use Rattle.rules.specs.Refusal.{badKind, badSize, badStretch, badWeights, inRange, shortTable, firstOf}
+use Rattle.rules.specs.Better.{excepted}
 use Rattle.rules.specs.Answer.{unless}
 use Rattle.rules.specs.File.{versionIn, shortFile, loadingOf}
 
@@ -101,12 +102,12 @@ exactIn q = exact parts (q .rule) (map own (floatsOf q)) (readIn q)
 unfoldable pub noChance : List ℕ → Bool
 noChance floats = some (λ i. not (isChance (getD floats i 0))) (length floats)
 
--- 19: "kind 3 off the grid": "Kind 3 is answered only where every float is on the grid"
+-- 19: "kind 3 off the grid": "Kind 3 is answered only where every float is on the grid", since request 09 does not claim it
 unfoldable pub someOff : List ℕ → Bool
 someOff floats = some (λ i. not (onGrid (getD floats i 0))) (length floats)
 
 abbrev pub offGrid : Rule → (floats : List ℕ) → Bool
-offGrid rule floats = eqb (rule .kind) 3 && someOff floats
+offGrid rule floats = excepted (rule .kind) && someOff floats
 
 -- the figures' refusals, "18 .. in the place of 4; 19 .. after 6"; the version is no input here
 unfoldable pub plannedRefusal : Planned → (table : List ℕ) → ℕ
@@ -128,7 +129,7 @@ plannedRating q table = unless (plannedRefusal q table) Refused (Range (lowIn q)
 
 -- "at most 2n - 1 units apart"; under kind 3 both lists are one, and n - 1
 abbrev pub widest : Rule → (n : ℕ) → ℕ
-widest rule n = cond (eqb (rule .kind) 3) (n - 1) (2 * n - 1)
+widest rule n = cond (excepted (rule .kind)) (n - 1) (2 * n - 1)
 
 -- "the enclosure reads: low times 2^(1074n) <= E times 2^30 <= high times 2^(1074n)"
 pub record Spanned (n widest low high E : ℕ) : Type 0 where

@@ -19,8 +19,11 @@ abbrev pub badVersion : (version : ℕ) → Bool
 badVersion version = not (within 1 version lastVersion)
 
 -- 1: since request 05, "for kinds not 1..8"
+abbrev pub lastKind : ℕ
+lastKind = 8
+
 abbrev pub badKind : Rule → Bool
-badKind rule = not (within 1 (rule .kind) 8)
+badKind rule = not (within 1 (rule .kind) lastKind)
 
 -- 15: "for a kind 8 count table, right after 1"
 abbrev pub notCounted : Rule → Bool

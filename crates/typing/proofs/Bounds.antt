@@ -10,8 +10,8 @@ use borrow.Author.Tests.{eqb-true, eqb-false, leb-true, ltb-true}
 use Rattle.rules.specs.Below.{some}
 use Rattle.typing.specs.Words.{wordsOf}
 use Rattle.typing.specs.Numbers.{lettersOn}
-use Rattle.typing.specs.Grammar.{asNumber, sets, mostSet, reading, grammar}
-use Rattle.typing.specs.Line.{rows, cell, rowFor, valueBy, placeAfter, setAfter, goesOn, startOf, stopped, walk, readLine}
+use Rattle.typing.specs.Grammar.{asNumber, sets, mostSet, reading, rows, grammar}
+use Rattle.typing.specs.Line.{cell, rowFor, valueBy, placeAfter, setAfter, goesOn, startOf, stopped, walk, readLine}
 use Rattle.typing.specs.Reads.{Within}
 use Rattle.typing.proofs.Rows.{all-rows, set-few, between, set-here, set-there}
 

@@ -12,8 +12,8 @@ use Rattle.rules.specs.Below.{within, some, first}
 use Rattle.rules.proofs.Windows.{some-none}
 use Rattle.rules.proofs.Lowest.{there-or-not}
 use Rattle.typing.specs.Numbers.{lettersOn}
-use Rattle.typing.specs.Grammar.{sets, taken, reading, grammar}
-use Rattle.typing.specs.Line.{rows, cell, takes, rowFor, placeAfter}
+use Rattle.typing.specs.Grammar.{sets, taken, reading, rows, grammar}
+use Rattle.typing.specs.Line.{cell, takes, rowFor, placeAfter}
 
 pub both : (a b : Bool) → a && b ≡ true → (a ≡ true) × (b ≡ true)
 both true b e = (refl, e)

@@ -12,8 +12,8 @@ use Rattle.rules.specs.Refusal.{mostBoards, badVersion}
 use Rattle.rules.specs.File.{mostFans, mostSystems}
 use Rattle.typing.specs.Words.{wordsOf}
 use Rattle.typing.specs.Numbers.{lettersOn}
-use Rattle.typing.specs.Grammar.{byLetters, asNumber, sets, ofNumber, ofThing, ofParts, ofWeight, ofBoard, ofBelow, aVersion, someFans, aBoard, afterVersionNumber, reading, grammar}
-use Rattle.typing.specs.Line.{rows, cell, rowFor, valueBy, placeAfter, setAfter, Read, stopped, goesOn, startOf, walk, readLine}
+use Rattle.typing.specs.Grammar.{byLetters, asNumber, sets, ofNumber, ofThing, ofParts, ofWeight, ofBoard, ofBelow, aVersion, someFans, aBoard, afterVersionNumber, reading, rows, grammar}
+use Rattle.typing.specs.Line.{cell, rowFor, valueBy, placeAfter, setAfter, Read, stopped, goesOn, startOf, walk, readLine}
 use Rattle.typing.specs.Text.{Listed, faultAt, longestLine, longLine, manyFans, manyBoards, manySystems, nothing, told, counted, versioned, withFans, withBoard, withSystem, orTold}
 use Rattle.typing.specs.Text.{added, thing, wordy, withLine, withLines}
 use Rattle.typing.proofs.Rows.{both, either, all-rows, place-out, here, between, set-here, set-there}

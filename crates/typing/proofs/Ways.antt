@@ -8,8 +8,8 @@ use lib.Dec.{leb}
 use lib.ListN.{getD, set}
 use borrow.Author.Tests.{eq-eqb, ne-eqb, lt-ltb, le-ltb, le-leb, lt-leb}
 use Rattle.typing.specs.Numbers.{lettersOf, longer, whole, parts}
-use Rattle.typing.specs.Grammar.{asParts, asNumber, withBoards, taken, reading, grammar}
-use Rattle.typing.specs.Line.{rows, cell, takes, rowFor, valueBy, placeAfter, setAfter}
+use Rattle.typing.specs.Grammar.{asParts, asNumber, withBoards, taken, reading, rows, grammar}
+use Rattle.typing.specs.Line.{cell, takes, rowFor, valueBy, placeAfter, setAfter}
 
 module _ (version way : ℕ) (word : List ℕ) where
   pub read-parts : way ≡ asParts → reading version way word ≡ parts version word

@@ -328,5 +328,8 @@ byKind =
 abbrev pub systemLine : List ℕ
 systemLine = mere afterSystem "fails" afterFails ++ failing ++ between ++ needing ++ byKind ++ stretchAt afterRule ++ stretch
 
+abbrev pub rows : ℕ
+rows = 67
+
 unfoldable pub grammar : List ℕ
 grammar = things beforeAll ++ things beforeThing ++ versionLine ++ fanLine ++ boardLine ++ systemLine

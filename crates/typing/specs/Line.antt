@@ -5,11 +5,8 @@ use Prim.Native.Nat.{ℕ, _+_, _*_}
 use lib.Dec.{eqb, ltb}
 use lib.ListN.{getD, set, replicate}
 use Rattle.rules.specs.Below.{within, first}
-use Rattle.typing.specs.Grammar.{asNumber, reading, sets, perRow, beforeAll, beforeThing, taken, grammar}
+use Rattle.typing.specs.Grammar.{asNumber, reading, sets, perRow, beforeAll, beforeThing, taken, rows, grammar}
 use Rattle.typing.specs.Words.{wordsOf}
-
-abbrev pub rows : ℕ
-rows = 67
 
 -- column k of row i
 abbrev pub cell : (i k : ℕ) → ℕ

@@ -1,16 +1,15 @@
 // What may follow what in a line: the table of the grammar, and the row that takes a word.
 ghost use mathlib.Core.Path.{_≡_};
 ghost use Prim.Native.Nat.{_<_, _≤_};
-ghost use Rattle.typing.specs.Grammar.{reading, grammar};
-ghost use Rattle.typing.specs.Line.{rows, takes, rowFor, valueBy};
+ghost use Rattle.typing.specs.Grammar.{reading, rows, grammar};
+ghost use Rattle.typing.specs.Line.{takes, rowFor, valueBy};
+use crate::table::ROWS;
 use rules::version;
 
 // Seven numbers a row: place, way of reading, least, most, what is set, to what, and where it leads.
-pub const ROWS: usize = 67;
-
 pub const PER_ROW: usize = 7;
 
-pub const ENTRIES: usize = 469;
+pub const ENTRIES: usize = ROWS * PER_ROW;
 
 // Ways of reading a word; without a name, by its letters.
 pub const WITH_BOARDS: u64 = 1;

@@ -6,6 +6,7 @@ ghost use Rattle.typing.specs.Grammar.{sets, grammar};
 ghost use Rattle.typing.specs.Line.{placeAfter, setAfter, startOf, goesOn, readLine};
 ghost use Rattle.typing.specs.Reads.{Reads};
 use crate::grammar;
+use crate::table;
 use crate::words;
 
 // How many numbers a line sets.
@@ -55,7 +56,7 @@ fn step(
         (r .set ≡ setAfter version place (now (word .entry)) before) ⌝ }
 {
     let row = grammar::row_for(table, version, place, word);
-    if row == grammar::ROWS {
+    if row == table::ROWS {
         return Stepped {
             place: TAKEN + place,
             set: before,

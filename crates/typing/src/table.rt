@@ -1,3 +1,5 @@
+pub const ROWS: usize = 67;
+
 // The rows of the grammar, as specs/Grammar has them.
 pub const TABLE: [u64; crate::grammar::ENTRIES] = [
     1,

@@ -13,8 +13,8 @@ use Rattle.text.specs.Decimal.{text, decimal}
 use Rattle.text.specs.Lines.{named}
 use Rattle.text.proofs.Digits.{decimal-short}
 use Rattle.typing.specs.Numbers.{lettersOn, none, parts}
-use Rattle.typing.specs.Grammar.{sets, reading, grammar}
-use Rattle.typing.specs.Line.{rows, takes, rowFor, placeAfter, setAfter, startOf, walk, readLine}
+use Rattle.typing.specs.Grammar.{sets, reading, rows, grammar}
+use Rattle.typing.specs.Line.{takes, rowFor, placeAfter, setAfter, startOf, walk, readLine}
 use Rattle.typing.specs.Text.{longestLine, Listed, counted, withBoard, added, thing, wordy, withLine}
 use Rattle.wording.proofs.Back.{whole-back, board-words}
 

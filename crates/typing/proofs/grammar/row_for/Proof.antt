@@ -4,7 +4,8 @@ use mathlib.Core.Bool.{false}
 use Prim.Native.Nat.{_-_, _≤_}
 use Rattle.rules.specs.Below.{some}
 use Rattle.rules.proofs.Lowest.{nowhere-yet, passed, found, nowhere}
-use Rattle.typing.specs.Line.{rows, takes, rowFor}
+use Rattle.typing.specs.Grammar.{rows}
+use Rattle.typing.specs.Line.{takes, rowFor}
 use native.Mathlib.Omega.{arith}
 use Rattle.typing.proofs.grammar.row_for.Statement.{statement}
 use Rattle.typing.proofs.grammar.row_for.Tie as tie

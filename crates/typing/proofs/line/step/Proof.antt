@@ -2,6 +2,7 @@
 use mathlib.Core.Path.{sym, ap₂, _∙_}
 use Prim.Native.Nat.{_-_, _<_}
 use lib.ListN.{set}
+use Rattle.typing.specs.Grammar.{rows}
 use Rattle.typing.proofs.Rows.{set-few}
 use Rattle.typing.proofs.Ways.{cell-at, place-none, set-none, place-some, set-some}
 use native.Mathlib.Omega.{arith}
@@ -58,7 +59,7 @@ returns-2 c =
     let test = c .before .before .before .before .if1 in
     let with = c .before .with in
     let value-by = c .before .before .before .value-by in
-    let x = start .args in let is = row-for .ensures .0 in let row = row-for .result in let table = cell-at (x .table .now) (start .pre .0) row in let l : row < 67 = (omega (arith, row-for .ensures .1, test .left)) in (table 6 ∙ sym (place-some (x .version) (x .place) (x .word .now) (x .before) row is l), with .ensures ∙ ap₂ (λ k v. set (x .before) k v) (table 4) (value-by .ensures) ∙ sym (set-some (x .version) (x .place) (x .word .now) (x .before) row is l))
+    let x = start .args in let is = row-for .ensures .0 in let row = row-for .result in let table = cell-at (x .table .now) (start .pre .0) row in let l : row < rows = (omega (arith, row-for .ensures .1, test .left)) in (table 6 ∙ sym (place-some (x .version) (x .place) (x .word .now) (x .before) row is l), with .ensures ∙ ap₂ (λ k v. set (x .before) k v) (table 4) (value-by .ensures) ∙ sym (set-some (x .version) (x .place) (x .word .now) (x .before) row is l))
 
 pub step-spec : {M : Type 1} → statement M
 step-spec = tie.close (tie.spec row-for-requires add-t11 returns mul-at value-by-requires add-with mul-with element-copy-out-with with-requires add-t12 mul-t13 element-copy-out-t16 returns-2)
