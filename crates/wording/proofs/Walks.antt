@@ -13,8 +13,8 @@ use Rattle.rules.specs.Below.{some, within}
 use Rattle.rules.proofs.Lowest.{found}
 use Rattle.text.specs.Decimal.{digitsIn, decimal}
 use Rattle.typing.specs.Numbers.{lettersOf, longer, none, whole}
-use Rattle.typing.specs.Grammar.{asNumber, reading, taken}
-use Rattle.typing.specs.Line.{rows, cell, takes, valueBy, rowFor, placeAfter, setAfter, goesOn, walk}
+use Rattle.typing.specs.Grammar.{asNumber, reading, taken, rows}
+use Rattle.typing.specs.Line.{cell, takes, valueBy, rowFor, placeAfter, setAfter, goesOn, walk}
 use Rattle.typing.proofs.Letters.{Bytes, one-word}
 use Rattle.wording.proofs.Back.{whole-back}
 
