@@ -23,7 +23,7 @@ returns c =
     let e = rw (c .before .before .before .before .before .before .rule-of .ensures) at (c .before .before .before .before .worth .ensures) in
     let told = c .tell .ensures in
     let x = c .before .before .before .before .before .before .before .before .before .before .before .before .before .args in
-    record { number = told .0 ∙ ap numberOf (worth-is e); table = e .table; ends = told .1 ∙ ap (λ w. endsAfter w (x .ends .now)) (worth-is e) }
+    record { number = told .0 ∙ ap numberOf (worth-is e); table = e .outcome .table; ends = told .1 ∙ ap (λ w. endsAfter w (x .ends .now)) (worth-is e) }
 
 pub foambeetle-worth-of-spec : {M : Type 1} → statement M
 foambeetle-worth-of-spec = tie.close (tie.spec rule-of-requires worth-requires tell-requires same-length returns)
