@@ -8,7 +8,7 @@ use Rattle.rules.specs.declared.Rule.{Rule}
 use Rattle.rules.specs.declared.System.{System}
 use Rattle.rules.specs.Below.{within}
 use Rattle.rules.specs.State.{unitOf}
-use Rattle.rules.specs.Refusal.{badStretch, ranged}
+use Rattle.rules.specs.Refusal.{lastKind, badStretch, ranged}
 use Rattle.rules.specs.File.{Deck, systemIn, deckIn}
 use Rattle.advice.specs.declared.why.Why.{Why}
 use Rattle.advice.specs.Words.{because, whyText}
@@ -75,7 +75,7 @@ ratedWhy version s number survival weights switchboards =
 unfoldable pub whyOf : (version : ℕ) (s : System) (number : ℕ) (survival weights switchboards : List ℕ) → Why
 whyOf version s number survival weights switchboards =
     let n = length survival in
-    cond (eqb number 1) (because 9 (s .rule .kind) 0 0 0)
+    cond (eqb number 1) (because 9 (s .rule .kind) lastKind 0 0)
     (cond (badStretch (s .a) (s .b) n) (because 10 (s .a) (s .b) n n) (ratedWhy version s number survival weights switchboards))
 
 unfoldable pub systemWhy : Deck → System → (number : ℕ) → Why

@@ -21,7 +21,7 @@ forms =
     ∷ text "it ends after # of its # bytes; send it again"
     ∷ text "its offsets or its length are wrong; deckmend mends them"
     ∷ text "a fan is on a board past the last, #; make it anew with deckmake"
-    ∷ text "there is no kind #; kinds are 1 to 8"
+    ∷ text "there is no kind #; kinds are 1 to #"
     ∷ text "fans # to # are no stretch of # fans; it runs from fan 1 or later to a fan not before that, # at most"
     ∷ text "fan # has survival number #; # is the most"
     ∷ text "board # has survival number #; # is the most"

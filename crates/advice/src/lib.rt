@@ -104,7 +104,7 @@ fn put_system(why: Why, out: &mut [u8], at: usize) -> usize
     let numbers = numbers_of(why);
     let row = why.row;
     match row {
-        9 => forms::put_form(b"there is no kind #; kinds are 1 to 8", numbers, out, at),
+        9 => forms::put_form(b"there is no kind #; kinds are 1 to #", numbers, out, at),
         10 => forms::put_form(
             b"fans # to # are no stretch of # fans; it runs from fan 1 or later to a fan not before that, # at most",
             numbers,
@@ -242,6 +242,7 @@ pub fn put_why(why: Why, out: &mut [u8], at: usize) -> usize
     if why.row < 25 {
         return put_two(why, out, at);
     }
+    // Not reached: no cause has a row past the table's last. Its text would be empty.
     at
 }
 

@@ -11,6 +11,7 @@ use crate::why;
 use crate::why::Why;
 use deck::Head;
 use rules::System;
+use rules::kind;
 use rules::refusal;
 
 // The number at a place of a list; 0 behind its end.
@@ -85,7 +86,7 @@ fn lists_why(
 {
     let n = survival.len() as u64;
     if number == refusal::KIND {
-        return why::because(9, system.rule.kind, 0, 0, 0);
+        return why::because(9, system.rule.kind, kind::LAST, 0, 0);
     }
     if asked::stretch_out(system.a, system.b, n) {
         return why::because(10, system.a, system.b, n, n);
