@@ -12,7 +12,8 @@ use Rattle.totals.specs.declared.tally.Lowest.{Lowest}
 use Rattle.totals.specs.declared.tally.Widths.{Widths}
 use Rattle.totals.specs.declared.tally.Tally.{Tally}
 use Rattle.totals.specs.declared.Totals.{Totals}
-use Rattle.totals.specs.Season.{lastKind, totalsOf}
+use Rattle.rules.specs.Refusal.{lastKind}
+use Rattle.totals.specs.Season.{totalsOf}
 use Rattle.totals.specs.Plus.{oneIf, noTally}
 use Rattle.totals.specs.Stream.{filesOf, isWaiting}
 

@@ -8,7 +8,8 @@ use lib.ListN.{getD, List·getD-eq-default}
 use Rattle.rules.specs.Below.{total}
 use Rattle.rules.proofs.Lists.{below-length, below-get}
 use Rattle.totals.specs.declared.Totals.{Totals}
-use Rattle.totals.specs.Season.{chosen, someOf, singlesFrom, tallyOf, lastKind, kindsOf, totalsOf}
+use Rattle.rules.specs.Refusal.{lastKind}
+use Rattle.totals.specs.Season.{chosen, someOf, singlesFrom, tallyOf, kindsOf, totalsOf}
 use Rattle.totals.specs.Plus.{noTally}
 use Rattle.totals.specs.Room.{RoomTally, Open}
 

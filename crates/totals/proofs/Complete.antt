@@ -14,7 +14,8 @@ use Rattle.rules.specs.Below.{within, sumBelow, listBelow}
 use Rattle.rules.specs.File.{countIn, fileRefusal}
 use Rattle.rules.proofs.EachKind.{within-true}
 use Rattle.totals.specs.declared.tally.Tally.{Tally}
-use Rattle.totals.specs.Season.{Single, chosen, singleIn, singlesIn, singlesFrom, decksOf, singlesOf, isRange, refusedBy, tallyOf, otherOf, lastKind}
+use Rattle.rules.specs.Refusal.{lastKind}
+use Rattle.totals.specs.Season.{Single, chosen, singleIn, singlesIn, singlesFrom, decksOf, singlesOf, isRange, refusedBy, tallyOf, otherOf}
 use Rattle.totals.specs.Plus.{oneIf}
 use Rattle.totals.proofs.Sorted.{Sorted, is-answered, by-three, by-four, by-five, by-six}
 use Rattle.totals.proofs.Growing.{Fits, not-one, fits-in}

@@ -20,7 +20,8 @@ use Rattle.rules.proofs.EachKind.{within-true}
 use Rattle.rules.proofs.Unless.{unless-some, unless-none}
 use Rattle.totals.specs.declared.Totals.{Totals}
 use Rattle.totals.specs.Season.{Single, ofFirst, singleIn, singlesIn, singlesFrom, isRefused, decksOf, refusedOf, singlesOf, isRange, refusedBy, widthIn, unitIn}
-use Rattle.totals.specs.Season.{answeredOf, refusedAs, lowestOf, widthsOf, tallyOf, otherOf, lastKind, kindsOf, totalsOf}
+use Rattle.rules.specs.Refusal.{lastKind}
+use Rattle.totals.specs.Season.{answeredOf, refusedAs, lowestOf, widthsOf, tallyOf, otherOf, kindsOf, totalsOf}
 use Rattle.totals.specs.Plus.{oneIf, widthsPlus, tallyPlus, noTally, systemPlus, systemsPlus, filePlus}
 use Rattle.totals.proofs.Chosen.{chosen-in, chosen-out, count-plus, total-plus}
 use Rattle.totals.proofs.Least.{lowest-plus}

@@ -14,7 +14,7 @@ use Rattle.rules.specs.Below.{within}
 use Rattle.rules.specs.Boards.{hasBoards, boardsRead}
 use Rattle.rules.specs.Stretch.{stretch}
 use Rattle.rules.specs.Asked.{Asked, lengthOf, boardsOf, boardCount, lowOf, highOf}
-use Rattle.rules.specs.Refusal.{cells, someAbove, badVersion, badSize, badBoards, misplaced, shortTable, firstOf, figuresRefusal}
+use Rattle.rules.specs.Refusal.{lastKind, cells, someAbove, badVersion, badSize, badBoards, misplaced, shortTable, firstOf, figuresRefusal}
 use Rattle.rules.specs.Answer.{unless, figuresOf}
 use Rattle.rules.specs.File.{numberAt, boardCountField, versionIn, fansIn, boardCountIn, systemIn, deckIn, askedBy, fileRefusal, systemOf, answerIn}
 use Rattle.rules.proofs.Lists.{below-length}
@@ -24,7 +24,6 @@ use Rattle.rules.proofs.Unless.{unless-some}
 use Rattle.rules.proofs.Conditions.{none-above, above-none}
 use Rattle.layout.proofs.Versions.{read-own}
 use Rattle.deck.proofs.Sound.{sound}
-use Rattle.totals.specs.Season.{lastKind}
 
 -- what a system's answer is: a range, or refused by a number that its kind's line has
 pub data Sorted : Rating → Type 0 where

@@ -28,7 +28,7 @@ use Rattle.totals.specs.declared.tally.Lowest.{Lowest}
 use Rattle.totals.specs.declared.tally.Widths.{Widths}
 use Rattle.totals.specs.declared.tally.Tally.{Tally}
 use Rattle.totals.specs.declared.Totals.{Totals}
-use Rattle.totals.specs.Season.{lastKind}
+use Rattle.rules.specs.Refusal.{lastKind}
 use Rattle.totals.specs.Plus.{oneIf, refusalsPlus, lowestPlus, widthsPlus, tallyPlus, noTally, systemPlus, systemsPlus}
 use Rattle.totals.specs.Room.{RoomRefusals, RoomLowest, RoomWidths, RoomTally, Room, Fair}
 

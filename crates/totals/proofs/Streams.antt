@@ -14,7 +14,8 @@ use Rattle.rules.proofs.Tests.{by-test}
 use Rattle.ending.specs.Ending.{fileAt, restAt}
 use Rattle.deck.proofs.Sound.{sound}
 use Rattle.totals.specs.declared.Totals.{Totals}
-use Rattle.totals.specs.Season.{chosen, isRefused, lastKind, totalsOf}
+use Rattle.rules.specs.Refusal.{lastKind}
+use Rattle.totals.specs.Season.{chosen, isRefused, totalsOf}
 use Rattle.totals.specs.Plus.{oneIf, systemPlus, systemsPlus, deckPlus, refusalPlus, filePlus, filesPlus}
 use Rattle.totals.specs.Room.{mostFiles, Room}
 use Rattle.totals.specs.Stream.{isEmpty, filesIn, filesOf}

@@ -15,7 +15,7 @@ use Rattle.totals.specs.declared.tally.Lowest.{Lowest}
 use Rattle.totals.specs.declared.tally.Widths.{Widths}
 use Rattle.totals.specs.declared.tally.Tally.{Tally}
 use Rattle.totals.specs.declared.Totals.{Totals}
-use Rattle.totals.specs.Season.{lastKind}
+use Rattle.rules.specs.Refusal.{lastKind}
 
 -- one more where a test holds
 abbrev pub oneIf : Bool → ℕ

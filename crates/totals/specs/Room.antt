@@ -11,7 +11,7 @@ use Rattle.totals.specs.declared.tally.Lowest.{Lowest}
 use Rattle.totals.specs.declared.tally.Widths.{Widths}
 use Rattle.totals.specs.declared.tally.Tally.{Tally}
 use Rattle.totals.specs.declared.Totals.{Totals}
-use Rattle.totals.specs.Season.{lastKind}
+use Rattle.rules.specs.Refusal.{lastKind}
 use Rattle.totals.specs.Plus.{noTally}
 
 -- "at most 10,000 files are read", and the answers that so many can have

@@ -9,6 +9,7 @@ use Rattle.rules.specs.declared.Rating.{Rating}
 use Rattle.rules.specs.declared.Rating.the-variants.{Range, Refused}
 use Rattle.rules.specs.Below.{listBelow, total}
 use Rattle.rules.specs.State.{S, decimal, unitOf}
+use Rattle.rules.specs.Refusal.{lastKind}
 use Rattle.rules.specs.File.{versionIn, countIn, systemIn, fileRefusal, answerIn}
 use Rattle.totals.specs.declared.tally.Refusals.{Refusals}
 use Rattle.totals.specs.declared.tally.Lowest.{Lowest}
@@ -133,10 +134,7 @@ tallyOf kind xs = record {
 abbrev pub otherOf : List Single → ℕ
 otherOf xs = length (chosen (λ x. refusedBy 1 (x .answer)) xs)
 
--- the kinds, 1 to 8
-abbrev pub lastKind : ℕ
-lastKind = 8
-
+-- the kinds, from 1 to the last
 abbrev pub kindsOf : List Single → List Tally
 kindsOf xs = listBelow lastKind (λ k. tallyOf (suc k) xs)
 

@@ -7,7 +7,7 @@ use native.Mathlib.Numerals.{add-one}
 use lib.ListN.{length}
 use Rattle.text.specs.Added.{Added}
 use Rattle.text.proofs.Adding.{none-added, added-more}
-use Rattle.totals.specs.Season.{lastKind}
+use Rattle.rules.specs.Refusal.{lastKind}
 use Rattle.season_report.specs.Lines.{kindsText}
 use Rattle.season_report.proofs.Lengths.{kinds-short}
 use Rattle.season_report.proofs.put_kinds.Statement.{statement}

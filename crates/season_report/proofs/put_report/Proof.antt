@@ -1,7 +1,7 @@
 -- `report::put_report` meets its contract: all lines fit. Assumes nothing.
 use native.Mathlib.Omega.{arith}
 use Rattle.text.proofs.Adding.{added-more, added-counts}
-use Rattle.totals.specs.Season.{lastKind}
+use Rattle.rules.specs.Refusal.{lastKind}
 use Rattle.season_report.specs.Lines.{headRoom, kindsRoom}
 use Rattle.season_report.proofs.Lengths.{reach, head-short, kinds-short}
 use borrow.Author.Needs.{needs}

@@ -4,7 +4,7 @@ use native.Mathlib.Omega.{arith}
 use borrow.Author.Tests.{not-true, not-false}
 use Rattle.rules.specs.Below.{within}
 use Rattle.rules.proofs.EachKind.{within-true}
-use Rattle.totals.specs.Season.{lastKind}
+use Rattle.rules.specs.Refusal.{lastKind}
 use Rattle.totals.specs.Plus.{systemPlus}
 use borrow.Author.Needs.{needs}
 use Rattle.totals.proofs.plus_system.Statement.{statement}
