@@ -2,7 +2,7 @@
 ghost use Prim.Native.Nat.{_+_, _≤_};
 ghost use lib.ListN.{length};
 ghost use Rattle.text.specs.Added.{Added};
-ghost use Rattle.totals.specs.Season.{lastKind};
+ghost use Rattle.rules.specs.Refusal.{lastKind};
 ghost use Rattle.season_report.specs.Lines.{oneText, oneRoom, twoText, twoRoom, headText, headRoom, answersText};
 ghost use Rattle.season_report.specs.Lines.{answersRoom, lowestText, lowestRoom};
 ghost use Rattle.season_report.specs.Lines.{widthsText, widthsRoom, kindText, kindRoom, kindsText, kindsRoom};
