@@ -8,7 +8,7 @@ import sys
 from pathlib import Path
 
 from common import (
-    EVERY_PROGRAM, LIBRARIES, MAKER, MENDER, OFFICE, PAGER, PROGRAMS, SAMPLES, SHIP, WRITER, build, compare_example, compare_samples, compare_written, decks, held,
+    EVERY_PROGRAM, LIBRARIES, MAKER, MENDER, NEEDED, OFFICE, PAGER, PROGRAMS, SAMPLES, SHIP, WRITER, build, compare_example, compare_samples, compare_written, decks, held,
     make, rated_lines, room, root, run, sample, started, texts, tools,
 )
 
@@ -87,7 +87,7 @@ def main():
     print(f"installed: {' '.join(installed())}")
     good = held(pages_there, pkg_config_version) and all(alone(program) for program in (PLACE / "bin").iterdir())
     for program, output in PROGRAMS.items():
-        good &= compare_samples(f"the installed {program}", [*tools()[1], PLACE / "bin" / program], output)
+        good &= compare_samples(f"the installed {program}", [*tools()[1], PLACE / "bin" / program, *NEEDED.get(program, ())], output)
     for what, program, inputs in (("samples cut and run on", MENDER, spoilt()), ("the samples' texts", MAKER, map(Path.read_bytes, texts()))):
         good &= compare_written(what, program, [*tools()[1], PLACE / "bin" / program], list(inputs))
     good &= compare_samples(f"the installed {PAGER}", [*tools()[1], PLACE / "bin" / PAGER], lambda data: run(started(PAGER), data).decode())

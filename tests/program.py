@@ -10,7 +10,7 @@ import tempfile
 from pathlib import Path
 
 from common import (
-    DONE, EVERY_PROGRAM, FAILED, MAKER, REFUSED, compare, decks, held, linked, mapped, printed, prove, room, root, run, started, tools,
+    DONE, EVERY_PROGRAM, FAILED, MAKER, NEEDED, REFUSED, compare, decks, held, linked, mapped, printed, prove, room, root, run, started, tools,
 )
 
 from files import random_files
@@ -158,9 +158,9 @@ def permission_told(program):
         file, copy = Path(folder) / "closed", Path(folder) / program
         file.write_bytes(taken(program).read_bytes())
         file.chmod(0)
-        shutil.copy(linked(program)[-1], copy)
+        shutil.copy(root / f"target/programs/{program}", copy)
         copy.chmod(0o755)
-        words = [*nobody, *tools()[1], copy, *by_name(program, file)]
+        words = [*nobody, *tools()[1], copy, *NEEDED.get(program, ()), *by_name(program, file)]
         done = subprocess.run([str(word) for word in words], stdin=subprocess.DEVNULL, capture_output=True)
     return (done.returncode, done.stdout, done.stderr.decode()) == (FAILED, b"", f"{program}: {file}: Permission denied\n")
 
