@@ -8,7 +8,7 @@ from common import reported, root
 
 WIDEST, PARAMETERS, LINES, LOOPS = 120, 8, 40, 1
 # Where a number that looks like one of these is none: tables of numbers, the characters and places of a text, and rooms in bytes.
-TABLES = ("crates/pascal/src/lib.rt", "crates/typing/src/table.rt")
+TABLES = ("crates/pascal/src/lib.rt", "crates/grammar/src/entries.rt")
 REFUSED = re.compile(r"\bRefused\(\d+\)|\brefused\(\d+\)")
 KIND = re.compile(r"\bkind\s*(?:==|!=|<=|>=|<|>)\s*\d")
 ARM = re.compile(r"^\s*\d+(?:\s*\|\s*\d+)*\s*=>")

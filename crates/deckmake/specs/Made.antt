@@ -6,7 +6,7 @@ use lib.Dec.{eqb}
 use lib.IntN.{ℤ}
 use lib.ListN.{length, take}
 use Rattle.io.specs.Counts.{Counts}
-use Rattle.typing.specs.Words.{linesOf}
+use Rattle.grammar.specs.Words.{linesOf}
 use Rattle.making.specs.declared.Made.{Made}
 use Rattle.making.specs.Made.{fileOut, saidOut, listedBy}
 use Rattle.shell.specs.Status.{statusOf, OrFailed}

@@ -27,10 +27,10 @@ use Rattle.layout.proofs.Versions.{few-boards, fans-boarded}
 use Rattle.deck.specs.Bounds.{Bounds}
 use Rattle.deck.proofs.File.{file-back, deck-bounds}
 use Rattle.deck.proofs.Systems.{listed-systems}
-use Rattle.typing.specs.Words.{newline, linesOn, linesOf}
-use Rattle.typing.specs.Numbers.{none}
-use Rattle.typing.specs.Grammar.{mostNumber}
-use Rattle.typing.specs.Text.{Listed, nothing, counted, versioned, withFans, withBoard, withSystem, withLine, withLines, unplaced, lastFaults, numbersOf, fiveOf, typedBy, typedText, listed, Fault}
+use Rattle.grammar.specs.Words.{newline, linesOn, linesOf}
+use Rattle.grammar.specs.Numbers.{none}
+use Rattle.grammar.specs.Grammar.{mostNumber}
+use Rattle.grammar.specs.Text.{Listed, nothing, counted, versioned, withFans, withBoard, withSystem, withLine, withLines, unplaced, lastFaults, numbersOf, fiveOf, typedBy, typedText, listed, Fault}
 use Rattle.printing.specs.Lines.{linesText}
 use Rattle.wording.specs.Lines.{versionText, boardText}
 use Rattle.wording.proofs.Phrases.{Plain, AllPlain, spaced, clean, plain-number, phrase-line}

@@ -4,7 +4,7 @@ use mathlib.Core.List.{List}
 use Prim.Native.Nat.{ℕ, _*_}
 use Rattle.rules.specs.File.{mostSystems, versionIn, countIn, deckIn, systemIn, askedBy}
 use Rattle.printing.specs.Lines.{linesText}
-use Rattle.typing.specs.Numbers.{parts}
+use Rattle.grammar.specs.Numbers.{parts}
 use Rattle.spare_lines.specs.declared.Job.{Job}
 use Rattle.spare_lines.specs.System.{systemText, systemRoom}
 

@@ -6,7 +6,7 @@ ghost use Prim.Native.Nat.{_≤_};
 ghost use lib.ListN.{length};
 ghost use Rattle.io.specs.Counts.{Counts};
 ghost use Rattle.shell.specs.Status.{Status};
-ghost use Rattle.typing.specs.Numbers.{offGrid};
+ghost use Rattle.grammar.specs.Numbers.{offGrid};
 use options::Asked;
 use shell::reading;
 use shell::starting;
@@ -73,7 +73,7 @@ fn tell_best() -> i32
 fn number_at(place: usize) -> u64 {
     let mut word = io::buffer();
     let length = os::arg(place, &mut word);
-    let number = typing::numbers::whole(&word[..length]);
+    let number = grammar::numbers::whole(&word[..length]);
     if number == NONE {
         return 0;
     }
@@ -88,7 +88,7 @@ fn list_front(word: &[u8], best: u64, input: &[u8; printing::INPUT], filled: usi
 {
     let opened = deck::open(printing::front_of(input, filled));
     let refused = opened.refusal != 0;
-    let p = typing::numbers::parts(opened.head.version, word);
+    let p = grammar::numbers::parts(opened.head.version, word);
     if !refused {
         if p >= NONE {
             return tell_number(p);

@@ -75,7 +75,7 @@ fn put_file(word: &[u8], best: u64, file: &[u8], out: &mut [u8]) -> usize
         return printing::put_refused_file(opened.refusal, out);
     }
     let head = opened.head;
-    let p = typing::numbers::parts(head.version, word);
+    let p = grammar::numbers::parts(head.version, word);
     put_systems(file, head, p, best, out)
 }
 

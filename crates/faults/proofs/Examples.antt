@@ -3,8 +3,8 @@ use mathlib.Core.Path.{_≡_, refl}
 use mathlib.Core.List.{[], _∷_}
 use Prim.Native.Nat.{_+_}
 use Rattle.text.specs.Decimal.{text, digitsIn}
-use Rattle.typing.specs.Numbers.{offGrid}
-use Rattle.typing.specs.Text.{faultAt}
+use Rattle.grammar.specs.Numbers.{offGrid}
+use Rattle.grammar.specs.Text.{faultAt}
 use Rattle.faults.specs.Wanted.{byPlace, byName, wantedText}
 use Rattle.faults.specs.Told.{shown, faultText}
 

@@ -9,8 +9,8 @@ use lib.ListN.{length, take, length-append, length-map, length-take}
 use borrow.Author.Tests.{ltb-false}
 use Rattle.text.specs.Decimal.{text, decimal}
 use Rattle.text.proofs.Digits.{decimal-short}
-use Rattle.typing.specs.Numbers.{offGrid}
-use Rattle.typing.specs.Text.{Fault}
+use Rattle.grammar.specs.Numbers.{offGrid}
+use Rattle.grammar.specs.Text.{Fault}
 use Rattle.faults.specs.Wanted.{nearest, numbersFor, numbersRoom, wordsFor, wantedText, wantedRoom}
 use Rattle.faults.specs.Told.{plain, mostShown, shown, shownRoom, spotText, spotRoom, faultText, faultRoom}
 use Rattle.faults.proofs.Tables.{words-short}

@@ -7,8 +7,8 @@ use native.Mathlib.Numerals.{add-one}
 use lib.ListN.{length, getD, drop, length-drop}
 use lib.Seq.{drop-cons, drop-length, take-suc, getD-drop}
 use borrow.Author.Tests.{eq-eqb, ne-eqb}
-use Rattle.typing.specs.Words.{newline, closed, linesOn, linesOf}
-use Rattle.typing.specs.Stands.{part}
+use Rattle.grammar.specs.Words.{newline, closed, linesOn, linesOf}
+use Rattle.grammar.specs.Stands.{part}
 use Rattle.faults.specs.Lines.{LineAt}
 
 -- what is left has the line

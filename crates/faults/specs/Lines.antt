@@ -3,8 +3,8 @@ use mathlib.Core.Path.{_≡_}
 use mathlib.Core.List.{List, []}
 use Prim.Native.Nat.{ℕ, _≤_}
 use lib.ListN.{length, getD}
-use Rattle.typing.specs.Words.{linesOf}
-use Rattle.typing.specs.Stands.{part}
+use Rattle.grammar.specs.Words.{linesOf}
+use Rattle.grammar.specs.Stands.{part}
 
 pub record LineAt (table : List ℕ) (k from upto : ℕ) : Type 0 where
   pub low : from ≤ upto

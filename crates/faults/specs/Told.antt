@@ -7,7 +7,7 @@ use lib.ListN.{length, take}
 use Rattle.rules.specs.Below.{within}
 use Rattle.text.specs.Decimal.{text}
 use Rattle.text.specs.Lines.{named, namedRoom}
-use Rattle.typing.specs.Text.{Fault}
+use Rattle.grammar.specs.Text.{Fault}
 use Rattle.faults.specs.Wanted.{wantedText, wantedRoom}
 
 -- what is no plain character is told as a question mark

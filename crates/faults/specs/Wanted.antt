@@ -6,9 +6,9 @@ use lib.Dec.{eqb, ltb}
 use lib.ListN.{getD}
 use Rattle.text.specs.Decimal.{text, mostDigits, decimal}
 use Rattle.text.specs.Lines.{pairText}
-use Rattle.typing.specs.Numbers.{offGrid}
-use Rattle.typing.specs.Grammar.{taken, noBoards, betweenParts}
-use Rattle.typing.specs.Text.{noSuchBoard}
+use Rattle.grammar.specs.Numbers.{offGrid}
+use Rattle.grammar.specs.Grammar.{taken, noBoards, betweenParts}
+use Rattle.grammar.specs.Text.{noSuchBoard}
 
 -- words that several places want
 abbrev pub aNumber : List ℕ

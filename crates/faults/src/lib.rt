@@ -5,7 +5,7 @@ mod wanted; // wanted.rt: what was wanted
 ghost use Prim.Native.Nat.{_+_, _≤_};
 ghost use lib.ListN.{length};
 ghost use Rattle.text.specs.Added.{Added};
-ghost use Rattle.typing.specs.Text.{faultAt};
+ghost use Rattle.grammar.specs.Text.{faultAt};
 ghost use Rattle.faults.specs.Told.{spotText, spotRoom, faultText, faultRoom};
 
 // Puts where a fault is.

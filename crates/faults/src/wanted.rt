@@ -4,13 +4,13 @@ ghost use mathlib.Core.List.{[]};
 ghost use Prim.Native.Nat.{_+_, _-_, _≤_};
 ghost use lib.ListN.{length, getD};
 ghost use Rattle.text.specs.Added.{Added};
-ghost use Rattle.typing.specs.Numbers.{offGrid};
-ghost use Rattle.typing.specs.Words.{linesOf};
+ghost use Rattle.grammar.specs.Numbers.{offGrid};
+ghost use Rattle.grammar.specs.Words.{linesOf};
 ghost use Rattle.faults.specs.Wanted.{byPlace, byName, wordsFor, wordsRoom, numbersFor, numbersRoom, wantedText};
 ghost use Rattle.faults.specs.Wanted.{wantedRoom};
 ghost use Rattle.faults.specs.Lines.{LineAt};
+use grammar::words::Span;
 use text::lines;
-use typing::words::Span;
 
 const NEWLINE: u8 = 10;
 

@@ -9,9 +9,9 @@ use native.Mathlib.Omega.{arith}
 use lib.ListN.{length, getD, take, drop, length-drop}
 use lib.Seq.{take-all, take-add, take-suc, take-length}
 use borrow.Author.Tests.{ne-eqb}
-use Rattle.typing.specs.Words.{newline, linesOn, linesOf}
-use Rattle.typing.specs.Stands.{part}
-use Rattle.typing.proofs.Walking.{part-more}
+use Rattle.grammar.specs.Words.{newline, linesOn, linesOf}
+use Rattle.grammar.specs.Stands.{part}
+use Rattle.grammar.proofs.Walking.{part-more}
 use Rattle.listing.specs.Lines.{OneLine, LineEnds, LinesEnd}
 
 pub one-none : {bytes : List ℕ} → bytes ≡ [] → OneLine bytes

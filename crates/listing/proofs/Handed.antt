@@ -6,7 +6,7 @@ use native.Mathlib.Omega.{arith}
 use lib.ListN.{length, take, length-take}
 use Rattle.rules.specs.File.{perSystem}
 use Rattle.rules.specs.Writing.{Typed, typedOf}
-use Rattle.typing.specs.Text.{Listed, Fault, faultsOf, typedBy, typedText}
+use Rattle.grammar.specs.Text.{Listed, Fault, faultsOf, typedBy, typedText}
 use Rattle.faults.specs.Told.{mostTold}
 use Rattle.listing.specs.declared.Listing.{Listing}
 use Rattle.typed_lists.specs.declared.told.Told.{Told}

@@ -5,14 +5,14 @@ use mathlib.Core.List.{List, [], _∷_}
 use Prim.Native.Nat.{ℕ, _+_, _≤_, _<_}
 use lib.ListN.{length, getD}
 use borrow.Author.Tests.{eq-eqb, ne-eqb, lt-ltb, le-ltb}
-use Rattle.typing.specs.declared.line.Read.{Read as LineRead}
-use Rattle.typing.specs.Words.{wordsOf}
-use Rattle.typing.specs.Grammar.{ofBelow}
-use Rattle.typing.specs.Stands.{part}
-use Rattle.typing.specs.Line.{Read, readLine}
-use Rattle.typing.specs.Reads.{Reads, Within}
-use Rattle.typing.specs.Text.{Listed, longestLine, longLine, faultAt, told, counted, orTold, added, thing, wordy, withLine}
-use Rattle.typing.proofs.Bounds.{within-line}
+use Rattle.grammar.specs.declared.line.Read.{Read as LineRead}
+use Rattle.grammar.specs.Words.{wordsOf}
+use Rattle.grammar.specs.Grammar.{ofBelow}
+use Rattle.grammar.specs.Stands.{part}
+use Rattle.grammar.specs.Line.{Read, readLine}
+use Rattle.grammar.specs.Reads.{Reads, Within}
+use Rattle.grammar.specs.Text.{Listed, longestLine, longLine, faultAt, told, counted, orTold, added, thing, wordy, withLine}
+use Rattle.grammar.proofs.Bounds.{within-line}
 use Rattle.listing.specs.declared.Listing.{Listing}
 use Rattle.listing.specs.Holds.{Holds, Steps}
 

@@ -8,7 +8,7 @@ use lib.ListN.{length, getD, drop}
 use lib.Seq.{drop-cons}
 use borrow.Author.Tests.{eq-eqb, ne-eqb, lt-ltb, le-ltb}
 use Rattle.text.specs.Decimal.{decimal}
-use Rattle.typing.specs.Text.{Fault, faultAt, noSuchBoard, unplaced}
+use Rattle.grammar.specs.Text.{Fault, faultAt, noSuchBoard, unplaced}
 use Rattle.typed_lists.specs.declared.told.Told.{Told}
 use Rattle.listing.specs.declared.ending.ToldLast.{ToldLast}
 use Rattle.typed_lists.specs.Told.{MoreTold}

@@ -9,8 +9,8 @@ use lib.Dec.{eqb}
 use lib.ListN.{length, take, length-append}
 use lib.Seq.{take-all, length-take-le}
 use borrow.Author.Tests.{lt-ltb}
-use Rattle.typing.specs.Words.{newline, linesOn}
-use Rattle.typing.specs.Text.{Listed, longestLine, withLine, withLines}
+use Rattle.grammar.specs.Words.{newline, linesOn}
+use Rattle.grammar.specs.Text.{Listed, longestLine, withLine, withLines}
 
 cut-line : (s : Listed) (line other : List ℕ) → longestLine < length line → longestLine < length other → withLine s line ≡ withLine s other
 unfolding withLine

@@ -8,10 +8,10 @@ use lib.Dec.{eqb, ltb}
 use lib.ListN.{length, getD, length-append}
 use Rattle.rules.specs.Refusal.{mostBoards}
 use Rattle.rules.specs.File.{mostFans, mostSystems}
-use Rattle.typing.specs.Words.{newline, linesOn, linesOf, wordsOf}
-use Rattle.typing.specs.Grammar.{ofNumber, ofThing, aVersion, someFans, aBoard}
-use Rattle.typing.specs.Line.{readLine}
-use Rattle.typing.specs.Text.{Listed, longestLine, added, thing, wordy, withLine, withLines}
+use Rattle.grammar.specs.Words.{newline, linesOn, linesOf, wordsOf}
+use Rattle.grammar.specs.Grammar.{ofNumber, ofThing, aVersion, someFans, aBoard}
+use Rattle.grammar.specs.Line.{readLine}
+use Rattle.grammar.specs.Text.{Listed, longestLine, added, thing, wordy, withLine, withLines}
 use Rattle.listing.specs.declared.Listing.{Listing}
 use Rattle.listing.specs.Holds.{Held, Steps}
 

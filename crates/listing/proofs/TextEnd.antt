@@ -6,7 +6,7 @@ use Prim.Native.Nat.{ℕ}
 use lib.Dec.{eqb}
 use lib.ListN.{length, take}
 use borrow.Author.Tests.{eq-eqb, ne-eqb}
-use Rattle.typing.specs.Text.{Listed, Fault, noFan, noSystem, noBoard, missing, unplaced, lastFaults}
+use Rattle.grammar.specs.Text.{Listed, Fault, noFan, noSystem, noBoard, missing, unplaced, lastFaults}
 use Rattle.listing.specs.declared.Listing.{Listing}
 use Rattle.typed_lists.specs.declared.told.Told.{Told}
 use Rattle.typed_lists.specs.Told.{Telling}

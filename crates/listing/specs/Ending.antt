@@ -5,7 +5,7 @@ use mathlib.Core.List.{List, [], _∷_}
 use Prim.Native.Nat.{ℕ}
 use lib.Dec.{eqb, ltb}
 use Rattle.text.specs.Decimal.{decimal}
-use Rattle.typing.specs.Text.{faultAt, noSuchBoard}
+use Rattle.grammar.specs.Text.{faultAt, noSuchBoard}
 use Rattle.listing.specs.declared.ending.ToldLast.{ToldLast}
 use Rattle.typed_lists.specs.Told.{MoreTold}
 

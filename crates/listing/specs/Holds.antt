@@ -5,7 +5,7 @@ use mathlib.Core.List.{List, _++_}
 use Prim.Native.Nat.{ℕ, _≤_}
 use lib.ListN.{length}
 use Rattle.rules.specs.Refusal.{mostBoards}
-use Rattle.typing.specs.Text.{Listed, nothing, counted, lastFaults, listed}
+use Rattle.grammar.specs.Text.{Listed, nothing, counted, lastFaults, listed}
 use Rattle.listing.specs.declared.Listing.{Listing}
 use Rattle.typed_lists.specs.Lists.{Stored, Fanned, Ruled}
 use Rattle.typed_lists.specs.Told.{toldRoom, Telling}

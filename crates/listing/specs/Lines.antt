@@ -3,9 +3,9 @@ use mathlib.Core.Path.{_≡_}
 use mathlib.Core.List.{List, _++_}
 use Prim.Native.Nat.{ℕ, _≤_, _<_}
 use lib.ListN.{length, getD, take, drop}
-use Rattle.typing.specs.Words.{newline, linesOn, linesOf}
-use Rattle.typing.specs.Stands.{part}
-use Rattle.typing.specs.Text.{withLines}
+use Rattle.grammar.specs.Words.{newline, linesOn, linesOf}
+use Rattle.grammar.specs.Stands.{part}
+use Rattle.grammar.specs.Text.{withLines}
 use Rattle.listing.specs.declared.Listing.{Listing}
 use Rattle.listing.specs.declared.Reached.{Reached}
 use Rattle.listing.specs.Holds.{Steps}

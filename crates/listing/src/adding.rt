@@ -1,13 +1,13 @@
 // What a line that has been read adds; its first word is told where there is no room for that.
-ghost use Rattle.typing.specs.Reads.{Within};
-ghost use Rattle.typing.specs.Text.{faultAt, told, addedFans, addedBoard, addedSystem, added};
+ghost use Rattle.grammar.specs.Reads.{Within};
+ghost use Rattle.grammar.specs.Text.{faultAt, told, addedFans, addedBoard, addedSystem, added};
 ghost use Rattle.listing.specs.Holds.{Held, Steps};
 use crate::Listing;
+use grammar::line::SETS;
 use rules::limit;
 use typed_lists::fans;
 use typed_lists::listed;
 use typed_lists::told;
-use typing::line::SETS;
 
 // What is where among the numbers that a line sets.
 const OF_NUMBER: usize = 0;

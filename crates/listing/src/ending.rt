@@ -3,7 +3,7 @@ ghost use mathlib.Core.List.{[], _∷_};
 ghost use Prim.Native.Nat.{_<_};
 ghost use lib.ListN.{take};
 ghost use Rattle.text.specs.Decimal.{decimal};
-ghost use Rattle.typing.specs.Text.{faultAt, noSuchBoard, missing, unplaced};
+ghost use Rattle.grammar.specs.Text.{faultAt, noSuchBoard, missing, unplaced};
 ghost use Rattle.typed_lists.specs.Lists.{Lined};
 ghost use Rattle.listing.specs.Holds.{mostLines};
 ghost use Rattle.typed_lists.specs.Told.{Roomy, MoreTold, Tells};

@@ -8,20 +8,20 @@ ghost use mathlib.Core.Bool.{true, _&&_};
 ghost use lib.Dec.{eqb};
 ghost use Prim.Native.Nat.{_+_, _≤_, _<_};
 ghost use lib.ListN.{length};
-ghost use Rattle.typing.specs.Grammar.{grammar};
-ghost use Rattle.typing.specs.Stands.{part};
-ghost use Rattle.typing.specs.Text.{counted, thing, withLine};
-ghost use Rattle.typing.specs.Line.{readLine};
+ghost use Rattle.grammar.specs.Grammar.{grammar};
+ghost use Rattle.grammar.specs.Stands.{part};
+ghost use Rattle.grammar.specs.Text.{counted, thing, withLine};
+ghost use Rattle.grammar.specs.Line.{readLine};
 ghost use Rattle.listing.specs.Holds.{Starts, Held, Steps, Counts, mostLines, ended};
 ghost use Rattle.listing.specs.Lines.{ReadLines};
+use grammar::line;
+use grammar::table;
+use grammar::table::ENTRIES;
+use grammar::words;
 use rules::limit;
 use typed_lists::fans::Fans;
 use typed_lists::listed::Systems;
 use typed_lists::told::Told;
-use typing::grammar;
-use typing::grammar::ENTRIES;
-use typing::line;
-use typing::words;
 
 // The lines so far, the version, whether a thing stands there already, the fans, the boards' own survival numbers, the
 // systems, and the faults told.
@@ -144,7 +144,7 @@ pub fn read_line(listing: Listing, line: &[u8], out: &mut [u8]) -> Listing
     requires { ⌜ Held listing (now out) × (listing .lines < mostLines) ⌝ }
     ensures { λ r. ⌜ Steps listing (now (out .entry)) r (now (out .exit)) (λ s. withLine s (now (line .entry))) ⌝ }
 {
-    let table = grammar::table();
+    let table = table::table();
     with_line(&table, listing, line, out)
 }
 
@@ -159,7 +159,7 @@ pub fn read_lines(listing: Listing, text: &[u8], out: &mut [u8]) -> Reached
     requires { ⌜ Held listing (now out) × (listing .lines + length (now text) ≤ mostLines) ⌝ }
     ensures { λ r. ⌜ ReadLines (now (text .entry)) listing (now (out .entry)) r (now (out .exit)) ⌝ }
 {
-    let table = grammar::table();
+    let table = table::table();
     let mut next = listing;
     let mut at: usize = 0;
     while at < text.len() {

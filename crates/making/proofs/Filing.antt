@@ -14,8 +14,8 @@ use Rattle.rules.specs.declared.Writing.the-variants.{Written, Refused}
 use Rattle.rules.specs.Writing.{Typed, bytesFor, shortFor, writeRefusal, roomWritten}
 use Rattle.rules.proofs.Unless.{unless-none}
 use Rattle.writer.specs.Outcome.{Wrote}
-use Rattle.typing.specs.Text.{Listed, Fault, nothing, withLines, lastFaults, typedBy}
-use Rattle.typing.proofs.Accepted.{lines-written}
+use Rattle.grammar.specs.Text.{Listed, Fault, nothing, withLines, lastFaults, typedBy}
+use Rattle.grammar.proofs.Accepted.{lines-written}
 use Rattle.making.specs.Made.{fileRoom}
 use Rattle.making.proofs.Lengths.{listed-short}
 

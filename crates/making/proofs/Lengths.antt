@@ -16,9 +16,9 @@ use Rattle.text.proofs.Digits.{decimal-short}
 use Rattle.deck.proofs.File.{file-length}
 use Rattle.layout.proofs.Versions.{header-bounds}
 use Rattle.writer.proofs.Writable.{count-is}
-use Rattle.typing.specs.Text.{Listed, nothing, withLines, numbersOf, typedBy}
-use Rattle.typing.proofs.Listing.{Kept, kept-read}
-use Rattle.typing.proofs.Accepted.{fives}
+use Rattle.grammar.specs.Text.{Listed, nothing, withLines, numbersOf, typedBy}
+use Rattle.grammar.proofs.Listing.{Kept, kept-read}
+use Rattle.grammar.proofs.Accepted.{fives}
 use Rattle.making.specs.Lines.{warningText, warningRoom, warningsText}
 use Rattle.making.specs.Made.{fileRoom}
 

@@ -10,8 +10,8 @@ use Rattle.io.specs.Counts.{Counts}
 use Rattle.rules.specs.Writing.{bytesFor}
 use Rattle.text.specs.Added.{Added}
 use Rattle.text.proofs.Adding.{added-counts}
-use Rattle.typing.specs.Words.{linesOf}
-use Rattle.typing.specs.Text.{Fault, typedBy}
+use Rattle.grammar.specs.Words.{linesOf}
+use Rattle.grammar.specs.Text.{Fault, typedBy}
 use Rattle.listing.specs.declared.Listing.{Listing}
 use Rattle.listing.specs.Holds.{HoldsText}
 use Rattle.listing.proofs.Handed.{none-told, some-told}

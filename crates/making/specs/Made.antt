@@ -9,8 +9,8 @@ use Rattle.io.specs.Counts.{Counts}
 use Rattle.rules.specs.Refusal.{lastVersion, mostBoards}
 use Rattle.rules.specs.File.{fileLength, mostFans, mostSystems}
 use Rattle.rules.specs.Writing.{bytesFor, writeRefusal}
-use Rattle.typing.specs.Words.{linesOf}
-use Rattle.typing.specs.Text.{Listed, nothing, withLines, typedBy}
+use Rattle.grammar.specs.Words.{linesOf}
+use Rattle.grammar.specs.Text.{Listed, nothing, withLines, typedBy}
 use Rattle.faults.specs.Told.{faultsText, mostTold}
 use Rattle.listing.specs.declared.Listing.{Listing}
 use Rattle.listing.specs.Holds.{Holds, ended, HoldsText}

@@ -8,9 +8,9 @@ use native.Mathlib.Omega.{arith}
 use lib.ListN.{length, take, drop, length-append}
 use lib.Seq.{take-all, split-at, take-length, length-take-le, take-append-add}
 use Rattle.text.specs.Added.{Added}
-use Rattle.typing.specs.Words.{newline, linesOn, linesOf}
-use Rattle.typing.specs.Stands.{part}
-use Rattle.typing.specs.Text.{Listed, withLine, withLines, listed}
+use Rattle.grammar.specs.Words.{newline, linesOn, linesOf}
+use Rattle.grammar.specs.Stands.{part}
+use Rattle.grammar.specs.Text.{Listed, withLine, withLines, listed}
 use Rattle.listing.specs.declared.Listing.{Listing}
 use Rattle.listing.specs.declared.Reached.{Reached}
 use Rattle.listing.specs.Holds as listing

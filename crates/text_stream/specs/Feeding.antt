@@ -3,8 +3,8 @@ use mathlib.Core.Path.{_≡_}
 use mathlib.Core.List.{List, [], _++_}
 use Prim.Native.Nat.{ℕ, _+_, _≤_}
 use lib.ListN.{length, take}
-use Rattle.typing.specs.Words.{linesOn}
-use Rattle.typing.specs.Text.{Listed, longestLine, withLines, listed}
+use Rattle.grammar.specs.Words.{linesOn}
+use Rattle.grammar.specs.Text.{Listed, longestLine, withLines, listed}
 use Rattle.typed_lists.specs.Told.{toldRoom}
 use Rattle.listing.specs.declared.Listing.{Listing}
 use Rattle.listing.specs.Holds.{Holds, HoldsText}

@@ -8,10 +8,10 @@ use lib.ListN.{length, getD, take, drop, set, length-append, List·getD-append}
 use lib.Seq.{take-suc, getD-drop, getD-append-add}
 use borrow.Author.Tests.{eq-eqb, ne-eqb}
 use Rattle.rules.specs.File.{mostSystems, perSystem}
-use Rattle.typing.specs.Grammar.{mostNumber, mostSet}
-use Rattle.typing.specs.Reads.{Within}
-use Rattle.typing.specs.Text.{fiveOf, numbersOf}
-use Rattle.typing.proofs.Accepted.{fives}
+use Rattle.grammar.specs.Grammar.{mostNumber, mostSet}
+use Rattle.grammar.specs.Reads.{Within}
+use Rattle.grammar.specs.Text.{fiveOf, numbersOf}
+use Rattle.grammar.proofs.Accepted.{fives}
 use Rattle.typed_lists.specs.declared.listed.Systems.{Systems}
 use Rattle.typed_lists.specs.Lists.{Stored, perListed, sixOf, sixes, Ruled, typedAt}
 use Rattle.typed_lists.proofs.Storing.{stored-at, stored-more}

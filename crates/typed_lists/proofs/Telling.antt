@@ -6,7 +6,7 @@ use native.Mathlib.Omega.{arith}
 use lib.ListN.{length, length-take, length-append}
 use lib.Seq.{take-all, take-append-le}
 use Rattle.text.specs.Added.{Added}
-use Rattle.typing.specs.Text.{Fault}
+use Rattle.grammar.specs.Text.{Fault}
 use Rattle.faults.specs.Told.{faultText, faultsText, mostTold}
 use Rattle.faults.proofs.Lengths.{fault-short}
 use Rattle.typed_lists.specs.declared.told.Told.{Told}

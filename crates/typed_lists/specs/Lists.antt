@@ -4,8 +4,8 @@ use mathlib.Core.List.{List, [], _∷_, _++_}
 use Prim.Native.Nat.{ℕ, _+_, _*_, _/_, _%_, _≤_}
 use lib.ListN.{length, getD, take, drop, replicate}
 use Rattle.rules.specs.File.{mostFans, mostSystems, perSystem}
-use Rattle.typing.specs.Grammar.{ofNumber, ofFirst, ofSecond, ofA, ofB, ofGiven}
-use Rattle.typing.specs.Text.{fiveOf, numbersOf}
+use Rattle.grammar.specs.Grammar.{ofNumber, ofFirst, ofSecond, ofA, ofB, ofGiven}
+use Rattle.grammar.specs.Text.{fiveOf, numbersOf}
 use Rattle.typed_lists.specs.declared.fans.Fans.{Fans}
 use Rattle.typed_lists.specs.declared.listed.Systems.{Systems}
 

@@ -3,7 +3,7 @@ use mathlib.Core.Path.{_≡_}
 use mathlib.Core.List.{List, _++_}
 use Prim.Native.Nat.{ℕ, _+_, _-_, _*_, _≤_}
 use lib.ListN.{length, take}
-use Rattle.typing.specs.Text.{Fault}
+use Rattle.grammar.specs.Text.{Fault}
 use Rattle.faults.specs.Told.{faultsText, faultRoom, mostTold}
 use Rattle.typed_lists.specs.declared.told.Told.{Told}
 

@@ -3,10 +3,10 @@ ghost use Prim.Native.Nat.{_*_, _<_, _≤_};
 ghost use mathlib.Core.Path.{_≡_};
 ghost use mathlib.Core.List.{[]};
 ghost use Rattle.rules.specs.File.{mostSystems, perSystem};
-ghost use Rattle.typing.specs.Reads.{Within};
+ghost use Rattle.grammar.specs.Reads.{Within};
 ghost use Rattle.typed_lists.specs.Lists.{Ruled, MoreSystems, typedAt, TypedNumbers};
+use grammar::line::SETS;
 use rules::limit;
-use typing::line::SETS;
 
 // Of a listed system kind, first, second, a, b and whether a stretch was given; of a typed one the first five.
 const PER_LISTED: usize = 6;

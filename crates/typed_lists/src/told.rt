@@ -1,6 +1,6 @@
 // Faults told into a lent buffer, the first twenty of them.
 ghost use mathlib.Core.List.{[], _∷_};
-ghost use Rattle.typing.specs.Text.{faultAt};
+ghost use Rattle.grammar.specs.Text.{faultAt};
 ghost use Rattle.typed_lists.specs.Told.{Roomy, MoreTold};
 
 const MOST_TOLD: usize = 20;

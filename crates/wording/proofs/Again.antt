@@ -14,11 +14,11 @@ use Rattle.rules.specs.Refusal.{mostBoards}
 use Rattle.rules.specs.File.{mostFans, mostSystems}
 use Rattle.text.specs.Decimal.{text, digitsIn, decimal}
 use Rattle.text.specs.Lines.{named}
-use Rattle.typing.specs.Words.{newline, wordsOn, wordsOf}
-use Rattle.typing.specs.Numbers.{lettersOn, none, digitsOn, whole, parts}
-use Rattle.typing.specs.Grammar.{sets, mostNumber, reading, grammar}
-use Rattle.typing.specs.Line.{rowFor, placeAfter, setAfter, walk, readLine, stopped}
-use Rattle.typing.specs.Text.{longestLine, longLine, faultAt, told, Listed, nothing, counted, versioned, withFans, withSystem, added, thing, wordy, withLine}
+use Rattle.grammar.specs.Words.{newline, wordsOn, wordsOf}
+use Rattle.grammar.specs.Numbers.{lettersOn, none, digitsOn, whole, parts}
+use Rattle.grammar.specs.Grammar.{sets, mostNumber, reading, grammar}
+use Rattle.grammar.specs.Line.{rowFor, placeAfter, setAfter, walk, readLine, stopped}
+use Rattle.grammar.specs.Text.{longestLine, longLine, faultAt, told, Listed, nothing, counted, versioned, withFans, withSystem, added, thing, wordy, withLine}
 use Rattle.wording.specs.Numbers.{someText}
 use Rattle.wording.specs.Lines.{fanText, systemText}
 use Rattle.wording.proofs.Back.{whole-back}

@@ -11,8 +11,8 @@ use lib.ListN.{length, length-append}
 use borrow.Author.Tests.{ne-eqb, lt-ltb, le-ltb, le-leb}
 use Rattle.text.specs.Decimal.{text, digitsIn, mostDigits, decimal}
 use Rattle.text.specs.Lines.{named}
-use Rattle.typing.specs.Words.{closed, wordsOn, wordsOf}
-use Rattle.typing.specs.Numbers.{none, digitsOn, whole}
+use Rattle.grammar.specs.Words.{closed, wordsOn, wordsOf}
+use Rattle.grammar.specs.Numbers.{none, digitsOn, whole}
 
 module _ (d : ℕ) (small : d < 10) where
   -- a digit more of a number, and of a word

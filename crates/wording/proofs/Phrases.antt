@@ -10,7 +10,7 @@ use lib.Dec.{eqb}
 use lib.ListN.{length}
 use borrow.Author.Tests.{ne-eqb, lt-ltb, le-ltb}
 use Rattle.text.specs.Decimal.{digitsIn, decimal}
-use Rattle.typing.specs.Words.{newline, comment, blank, closed, linesOn, linesOf, wordsOn, wordsOf}
+use Rattle.grammar.specs.Words.{newline, comment, blank, closed, linesOn, linesOf, wordsOn, wordsOf}
 use Rattle.wording.proofs.Back.{some-digit, closed-some}
 
 -- a byte of a word

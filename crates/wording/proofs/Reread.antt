@@ -12,10 +12,10 @@ use Rattle.rules.proofs.Lowest.{found}
 use Rattle.text.specs.Decimal.{text, decimal}
 use Rattle.text.specs.Lines.{named}
 use Rattle.text.proofs.Digits.{decimal-short}
-use Rattle.typing.specs.Numbers.{lettersOn, none, parts}
-use Rattle.typing.specs.Grammar.{sets, reading, rows, grammar}
-use Rattle.typing.specs.Line.{takes, rowFor, placeAfter, setAfter, startOf, walk, readLine}
-use Rattle.typing.specs.Text.{longestLine, Listed, counted, withBoard, added, thing, wordy, withLine}
+use Rattle.grammar.specs.Numbers.{lettersOn, none, parts}
+use Rattle.grammar.specs.Grammar.{sets, reading, rows, grammar}
+use Rattle.grammar.specs.Line.{takes, rowFor, placeAfter, setAfter, startOf, walk, readLine}
+use Rattle.grammar.specs.Text.{longestLine, Listed, counted, withBoard, added, thing, wordy, withLine}
 use Rattle.wording.proofs.Back.{whole-back, board-words}
 
 -- a whole number is read as so many parts

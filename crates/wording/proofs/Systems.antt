@@ -12,10 +12,10 @@ use borrow.Author.Tests.{ne-eqb}
 use Rattle.rules.specs.Below as Below
 use Rattle.rules.specs.Below.{some}
 use Rattle.text.specs.Decimal.{text, decimal}
-use Rattle.typing.specs.Numbers.{lettersOn, none, digitsOn, whole}
-use Rattle.typing.specs.Grammar.{sets, asNumber, mostNumber, reading, rows, grammar}
-use Rattle.typing.specs.Line.{cell, takes, rowFor, placeAfter, setAfter, goesOn, walk, stopped}
-use Rattle.typing.proofs.Letters.{Bytes}
+use Rattle.grammar.specs.Numbers.{lettersOn, none, digitsOn, whole}
+use Rattle.grammar.specs.Grammar.{sets, asNumber, mostNumber, reading, rows, grammar}
+use Rattle.grammar.specs.Line.{cell, takes, rowFor, placeAfter, setAfter, goesOn, walk, stopped}
+use Rattle.grammar.proofs.Letters.{Bytes}
 use Rattle.wording.specs.Rule.{byNumbers, ruleText}
 use Rattle.wording.specs.Lines.{stretchText}
 use Rattle.wording.proofs.Back.{whole-back}

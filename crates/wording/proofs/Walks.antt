@@ -12,10 +12,10 @@ use borrow.Author.Tests.{eq-eqb, lt-ltb, le-ltb, le-leb, lt-leb}
 use Rattle.rules.specs.Below.{some, within}
 use Rattle.rules.proofs.Lowest.{found}
 use Rattle.text.specs.Decimal.{digitsIn, decimal}
-use Rattle.typing.specs.Numbers.{lettersOf, longer, none, whole}
-use Rattle.typing.specs.Grammar.{asNumber, reading, taken, rows}
-use Rattle.typing.specs.Line.{cell, takes, valueBy, rowFor, placeAfter, setAfter, goesOn, walk}
-use Rattle.typing.proofs.Letters.{Bytes, one-word}
+use Rattle.grammar.specs.Numbers.{lettersOf, longer, none, whole}
+use Rattle.grammar.specs.Grammar.{asNumber, reading, taken, rows}
+use Rattle.grammar.specs.Line.{cell, takes, valueBy, rowFor, placeAfter, setAfter, goesOn, walk}
+use Rattle.grammar.proofs.Letters.{Bytes, one-word}
 use Rattle.wording.proofs.Back.{whole-back}
 
 -- by its row

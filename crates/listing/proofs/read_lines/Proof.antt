@@ -4,9 +4,9 @@ use Prim.Native.Nat.{_+_, _-_, _≤_, _<_}
 use native.Mathlib.Omega.{arith}
 use lib.ListN.{length, take}
 use lib.Seq.{length-take-le}
-use Rattle.typing.specs.Words.{linesOf}
-use Rattle.typing.specs.Grammar.{grammar}
-use Rattle.typing.specs.Text.{withLines}
+use Rattle.grammar.specs.Words.{linesOf}
+use Rattle.grammar.specs.Grammar.{grammar}
+use Rattle.grammar.specs.Text.{withLines}
 use Rattle.listing.specs.Holds.{Steps}
 use Rattle.listing.proofs.Ends.{Whole, whole-none, whole-on, lines-on, lines-end, last-goes-on, one-none, beyond}
 use Rattle.listing.proofs.Reading.{lines-within, held-on, steps-none, steps-on}

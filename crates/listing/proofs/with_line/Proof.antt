@@ -1,6 +1,6 @@
 -- `with_line` meets its contract: a line that is too long, one without words, one with words. Assumes nothing.
 use native.Mathlib.Omega.{arith}
-use Rattle.typing.specs.Text.{counted}
+use Rattle.grammar.specs.Text.{counted}
 use Rattle.listing.proofs.Holding.{long-line, blank-line, wordy-line}
 use borrow.Author.Needs.{needs}
 use Rattle.listing.proofs.with_line.Statement.{statement}

@@ -1,6 +1,6 @@
 -- `with_words` meets its contract: a line whose reading ends at a fault is told, another adds what it has set. Assumes nothing.
 use mathlib.Core.Bool.{true}
-use Rattle.typing.specs.Text.{counted}
+use Rattle.grammar.specs.Text.{counted}
 use Rattle.listing.proofs.Holding.{within-read, with-fault, with-thing}
 use borrow.Author.Needs.{needs}
 use Rattle.listing.proofs.with_words.Statement.{statement}

@@ -1,7 +1,7 @@
 -- `making::make` meets its contract: where something is told, that is what is said; else nothing is, the writer does not refuse, and the warnings are said. Assumes nothing.
 use native.Mathlib.Omega.{arith}
 use borrow.Author.Needs.{needs}
-use Rattle.typing.specs.Words.{linesOf}
+use Rattle.grammar.specs.Words.{linesOf}
 use Rattle.making.specs.Made.{listedBy}
 use Rattle.making.proofs.Saying.{told-made, file-made, none-made}
 use Rattle.making.proofs.make.Statement.{statement}

@@ -2,7 +2,7 @@
 use mathlib.Core.Path.{sym}
 use native.Mathlib.Omega.{arith}
 use lib.Seq.{length-take-le}
-use Rattle.typing.specs.Text.{typedBy}
+use Rattle.grammar.specs.Text.{typedBy}
 use Rattle.listing.proofs.Handed.{held-typed}
 use Rattle.making.proofs.Filing.{file-written, never-other}
 use borrow.Author.Needs.{needs}

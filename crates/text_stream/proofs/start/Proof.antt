@@ -5,7 +5,7 @@ use Prim.Native.Nat.{ℕ}
 use native.Mathlib.Omega.{arith}
 use lib.ListN.{replicate, length-replicate}
 use Rattle.typed_lists.specs.Told.{toldRoom}
-use Rattle.typing.specs.Text.{nothing}
+use Rattle.grammar.specs.Text.{nothing}
 use borrow.Author.Needs.{needs}
 use Rattle.text_stream.proofs.start.Statement.{statement}
 use Rattle.text_stream.proofs.start.Tie as tie

@@ -1,6 +1,6 @@
 -- `lines::put_file` meets its contract, on a refusal and on none. Assumes nothing.
 use mathlib.Core.Path.{ap, _∙_}
-use Rattle.typing.specs.Numbers.{parts}
+use Rattle.grammar.specs.Numbers.{parts}
 use Rattle.deck.proofs.Outcome.{opened-headed}
 use Rattle.printing.proofs.Printed.{refused-printed, body-printed}
 use Rattle.deckspare.specs.Lines.{listText}

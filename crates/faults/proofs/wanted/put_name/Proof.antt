@@ -1,5 +1,5 @@
 -- `wanted::put_name` meets its contract: the lines of the text are the table's rows, which computing shows. Assumes nothing.
-use Rattle.typing.specs.Words.{linesOn}
+use Rattle.grammar.specs.Words.{linesOn}
 use Rattle.faults.specs.Wanted.{byName}
 use Rattle.faults.proofs.Tables.{name-short, fits}
 use borrow.Author.Needs.{needs}

@@ -4,7 +4,7 @@ use Prim.Native.Nat.{_-_}
 use native.Mathlib.Omega.{arith}
 use borrow.Author.Tests.{lt-ltb, le-ltb}
 use Rattle.text.proofs.Adding.{none-added}
-use Rattle.typing.specs.Grammar.{taken}
+use Rattle.grammar.specs.Grammar.{taken}
 use Rattle.faults.specs.Wanted.{byPlace}
 use borrow.Author.Needs.{needs}
 use Rattle.faults.proofs.wanted.put_words.Statement.{statement}

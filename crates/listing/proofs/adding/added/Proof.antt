@@ -1,8 +1,8 @@
 -- `adding::added` meets its contract, thing by thing. Assumes nothing.
 use mathlib.Core.Path.{refl}
 use borrow.Author.Tests.{eq-eqb, ne-eqb}
-use Rattle.typing.specs.Grammar.{aVersion, someFans, aBoard}
-use Rattle.typing.specs.Text.{added}
+use Rattle.grammar.specs.Grammar.{aVersion, someFans, aBoard}
+use Rattle.grammar.specs.Text.{added}
 use borrow.Author.Needs.{needs}
 use Rattle.listing.proofs.adding.added.Statement.{statement}
 use Rattle.listing.proofs.adding.added.Tie as tie

@@ -3,8 +3,8 @@ use Prim.Native.Nat.{_+_}
 use lib.ListN.{length}
 use native.Mathlib.Omega.{arith}
 use Rattle.rules.specs.Refusal.{mostBoards}
-use Rattle.typing.specs.Text.{manyBoards}
-use Rattle.typing.specs.Grammar.{ofParts}
+use Rattle.grammar.specs.Text.{manyBoards}
+use Rattle.grammar.specs.Grammar.{ofParts}
 use Rattle.typed_lists.proofs.Storing.{stored-more}
 use Rattle.listing.proofs.Holding.{none-left, some-left}
 use borrow.Author.Needs.{needs}

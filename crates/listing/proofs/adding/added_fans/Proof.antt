@@ -3,8 +3,8 @@ use native.Mathlib.Omega.{arith}
 use lib.ListN.{length, getD}
 use Prim.Native.Nat.{_+_}
 use Rattle.rules.specs.File.{mostFans}
-use Rattle.typing.specs.Text.{manyFans}
-use Rattle.typing.specs.Grammar.{ofNumber, ofParts, ofWeight, ofBoard}
+use Rattle.grammar.specs.Text.{manyFans}
+use Rattle.grammar.specs.Grammar.{ofNumber, ofParts, ofWeight, ofBoard}
 use Rattle.listing.proofs.Holding.{none-left, some-left}
 use borrow.Author.Needs.{needs}
 use Rattle.listing.proofs.adding.added_fans.Statement.{statement}

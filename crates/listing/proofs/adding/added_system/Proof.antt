@@ -3,7 +3,7 @@ use Prim.Native.Nat.{_+_}
 use lib.ListN.{length}
 use native.Mathlib.Omega.{arith}
 use Rattle.rules.specs.File.{mostSystems}
-use Rattle.typing.specs.Text.{manySystems}
+use Rattle.grammar.specs.Text.{manySystems}
 use Rattle.listing.proofs.Holding.{none-left, some-left}
 use borrow.Author.Needs.{needs}
 use Rattle.listing.proofs.adding.added_system.Statement.{statement}

@@ -3,7 +3,7 @@ use mathlib.Core.Path.{_≡_, ap}
 use Prim.Native.Nat.{_-_, _≤_}
 use native.Mathlib.Omega.{arith}
 use lib.ListN.{length, take, drop}
-use Rattle.typing.specs.Stands.{part}
+use Rattle.grammar.specs.Stands.{part}
 use Rattle.listing.specs.Lines.{OneLine}
 use Rattle.listing.proofs.Ends.{one-none, one-on}
 use Rattle.listing.proofs.lines.line_end.Statement.{statement}

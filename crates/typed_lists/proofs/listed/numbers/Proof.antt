@@ -6,7 +6,7 @@ use native.Mathlib.Omega.{arith}
 use lib.ListN.{take}
 use lib.Seq.{take-all}
 use Rattle.rules.specs.File.{mostSystems, perSystem}
-use Rattle.typing.specs.Text.{numbersOf}
+use Rattle.grammar.specs.Text.{numbersOf}
 use Rattle.typed_lists.specs.Lists.{Stored, Ruled}
 use Rattle.typed_lists.proofs.Storing.{stored-next}
 use Rattle.typed_lists.proofs.MoreSystems.{typed-at, count-fives}
