@@ -24,7 +24,11 @@ returns : tie.Need-returns
 returns c =
     let test = c .before .before .before .before .if1 in
     let tell = c .before .before .tell in
-    λ s h. none-left s h (length (s .switchboards) + 1) mostBoards manyBoards _ _ (omega (arith, h .boards .counted, test .taken)) (tell .ensures)
+    record {
+      sane = tell .ensures .sane;
+      few = tell .ensures .few;
+      holds = λ s h. none-left s h (length (s .switchboards) + 1) mostBoards manyBoards _ _ (omega (arith, h .boards .counted, test .taken)) (tell .ensures);
+    }
 
 array-read-switchboards : tie.Need-array-read-switchboards
 array-read-switchboards c = search needs
@@ -42,17 +46,23 @@ add-next : tie.Need-add-next
 add-next c = search needs
 
 returns-2 : tie.Need-returns-2
-returns-2 c = λ s h.
-    some-left s h (length (s .switchboards) + 1) mostBoards manyBoards _ _ (omega (arith, h .boards .counted, c .before .if1 .left))
-    (record {
-      lines = h .lines;
-      version = h .version;
-      begun = h .begun;
-      fans = h .fans;
-      boards = stored-more (h .boards) _ (omega (arith, c .before .if1 .left));
-      systems = h .systems;
-      told = h .told;
-    })
+returns-2 c =
+    let sane = c .before .before .before .before .pre .0 in
+    record {
+      sane = record { counted = record { fans = sane .counted .fans; boards = omega (arith, c .before .if1 .left); systems = sane .counted .systems }; room = sane .room };
+      few = omega arith;
+      holds = λ s h.
+          some-left s h (length (s .switchboards) + 1) mostBoards manyBoards _ _ (omega (arith, h .boards .counted, c .before .if1 .left))
+          (record {
+            lines = h .lines;
+            version = h .version;
+            begun = h .begun;
+            fans = h .fans;
+            boards = stored-more (h .boards) _ (omega (arith, c .before .if1 .left));
+            systems = h .systems;
+            told = h .told;
+          });
+    }
 
 pub added-board-spec : {M : Type 1} → statement M
 added-board-spec =
