@@ -29,8 +29,9 @@ held-typed {l} {s} h numbers n =
 pub sane-held : {l : Listing} {s : Listed} {out : List ℕ} → Holds l s out → Sane l out
 sane-held h = record {
   counted = record {
-    fans = record { few = h .fans .parts .few; boards = h .fans .placed .long; lines = h .fans .lined .long };
+    fans = record { few = h .fans .parts .few; survival = h .fans .parts .long; weights = h .fans .weighed .long; boards = h .fans .placed .long; lines = h .fans .lined .long };
     boards = h .boards .few;
+    switchboards = h .boards .long;
     systems = omega (arith, h .systems .numbers .few);
   };
   room = h .told .room;

@@ -20,7 +20,7 @@ telling l t = record { lines = l .lines; version = l .version; begun = l .begun;
 pub ended-steps : {l : Listing} {out then : List ℕ} {t : Told} → Sane l out → Roomy t then → ((s : Listed) → Holds l s out → Holds (telling l t) (ended s) then)
     → Steps 0 l out (telling l t) then ended
 ended-steps sane room holds = record {
-  sane = record { counted = record { fans = sane .counted .fans; boards = sane .counted .boards; systems = sane .counted .systems }; room = room };
+  sane = record { counted = record { fans = sane .counted .fans; boards = sane .counted .boards; switchboards = sane .counted .switchboards; systems = sane .counted .systems }; room = room };
   few = omega arith;
   holds = holds;
 }

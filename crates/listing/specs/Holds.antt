@@ -28,6 +28,7 @@ Starts l = (out : List ℕ) → toldRoom ≤ length out → Holds l nothing out
 pub record Counted (l : Listing) : Type 0 where
   pub fans : Lined (l .fans)
   pub boards : l .boards ≤ mostBoards
+  pub switchboards : length (l .switchboards) ≡ mostBoards
   pub systems : l .systems .count ≤ mostSystems
 
 -- and so has what may still be told: as each step asks

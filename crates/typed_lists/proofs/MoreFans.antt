@@ -9,10 +9,12 @@ use Rattle.typed_lists.specs.declared.fans.Fans.{Fans}
 use Rattle.typed_lists.specs.Lists.{Lined, MoreFans}
 
 -- a fan stored behind the others leaves each array as long as it was
-pub one-lined : {f : Fans} → Lined f → f .count < mostFans → (survival weights : List ℕ) (board line : ℕ)
-    → Lined (record { count = f .count + 1; survival = survival; weights = weights; boards = set (f .boards) (f .count) board; lines = set (f .lines) (f .count) line })
-one-lined {f} l few survival weights board line = record {
+pub one-lined : {f : Fans} → Lined f → f .count < mostFans → (parts weight board line : ℕ)
+    → Lined (record { count = f .count + 1; survival = set (f .survival) (f .count) parts; weights = set (f .weights) (f .count) weight; boards = set (f .boards) (f .count) board; lines = set (f .lines) (f .count) line })
+one-lined {f} l few parts weight board line = record {
   few = omega (arith, few);
+  survival = length-set (f .survival) (f .count) parts ∙ l .survival;
+  weights = length-set (f .weights) (f .count) weight ∙ l .weights;
   boards = length-set (f .boards) (f .count) board ∙ l .boards;
   lines = length-set (f .lines) (f .count) line ∙ l .lines;
 }

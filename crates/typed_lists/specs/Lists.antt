@@ -23,9 +23,11 @@ pub record Fanned (f : Fans) (survival weights boards lines : List ℕ) : Type 0
   pub placed : Stored mostFans (f .count) (f .boards) boards
   pub lined : Stored mostFans (f .count) (f .lines) lines
 
--- where they stand can be looked up
+-- they have room, and can be looked up
 pub record Lined (f : Fans) : Type 0 where
   pub few : f .count ≤ mostFans
+  pub survival : length (f .survival) ≡ mostFans
+  pub weights : length (f .weights) ≡ mostFans
   pub boards : length (f .boards) ≡ mostFans
   pub lines : length (f .lines) ≡ mostFans
 

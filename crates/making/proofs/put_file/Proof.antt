@@ -19,25 +19,33 @@ mul-end : tie.Need-mul-end
 mul-end c = omega (arith, c .before .before .before .before .before .before .before .before .before .pre .systems)
 
 array-share-prefix-survival : tie.Need-array-share-prefix-survival
-array-share-prefix-survival c = omega (arith, c .before .before .before .before .before .before .before .before .before .pre .fans .few)
+array-share-prefix-survival c =
+    let pre = c .before .before .before .before .before .before .before .before .before .pre in
+    omega (arith, pre .fans .few, pre .fans .survival)
 
 slice-aggregate-write-deck : tie.Need-slice-aggregate-write-deck
 slice-aggregate-write-deck c = sym (length-take-le _ _ (array-share-prefix-survival (c .before)))
 
 array-share-prefix-weights : tie.Need-array-share-prefix-weights
-array-share-prefix-weights c = omega (arith, c .before .before .before .before .before .before .before .before .before .before .pre .fans .few)
+array-share-prefix-weights c =
+    let pre = c .before .before .before .before .before .before .before .before .before .before .pre in
+    omega (arith, pre .fans .few, pre .fans .weights)
 
 slice-aggregate-write-deck-2 : tie.Need-slice-aggregate-write-deck-2
 slice-aggregate-write-deck-2 c = sym (length-take-le _ _ (array-share-prefix-weights (c .before)))
 
 array-share-prefix-boards : tie.Need-array-share-prefix-boards
-array-share-prefix-boards c = omega (arith, c .before .before .before .before .before .before .before .before .before .before .before .pre .fans .few)
+array-share-prefix-boards c =
+    let pre = c .before .before .before .before .before .before .before .before .before .before .before .pre in
+    omega (arith, pre .fans .few, pre .fans .boards)
 
 slice-aggregate-write-deck-3 : tie.Need-slice-aggregate-write-deck-3
 slice-aggregate-write-deck-3 c = sym (length-take-le _ _ (array-share-prefix-boards (c .before)))
 
 array-share-prefix-switchboards : tie.Need-array-share-prefix-switchboards
-array-share-prefix-switchboards c = omega (arith, c .before .before .before .before .before .before .before .before .before .before .before .before .pre .boards)
+array-share-prefix-switchboards c =
+    let pre = c .before .before .before .before .before .before .before .before .before .before .before .before .pre in
+    omega (arith, pre .boards, pre .switchboards)
 
 slice-aggregate-write-deck-4 : tie.Need-slice-aggregate-write-deck-4
 slice-aggregate-write-deck-4 c = sym (length-take-le _ _ (array-share-prefix-switchboards (c .before)))

@@ -20,7 +20,7 @@ unfolding added
 returns c =
     let sane = c .before .before .before .pre .0 in
     record {
-      sane = record { counted = record { fans = sane .counted .fans; boards = sane .counted .boards; systems = sane .counted .systems }; room = sane .room };
+      sane = record { counted = record { fans = sane .counted .fans; boards = sane .counted .boards; switchboards = sane .counted .switchboards; systems = sane .counted .systems }; room = sane .room };
       few = omega arith;
       holds = λ s h.
           rw (eq-eqb _ aVersion (c .if1 .taken))

@@ -1,6 +1,7 @@
 -- `adding::added_board` meets its contract: a board's number is stored behind those before it. Assumes nothing.
+use mathlib.Core.Path.{_∙_}
 use Prim.Native.Nat.{_+_}
-use lib.ListN.{length}
+use lib.ListN.{length, getD, length-set}
 use native.Mathlib.Omega.{arith}
 use Rattle.rules.specs.Refusal.{mostBoards}
 use Rattle.grammar.specs.Text.{manyBoards}
@@ -47,9 +48,12 @@ add-next c = search needs
 
 returns-2 : tie.Need-returns-2
 returns-2 c =
-    let sane = c .before .before .before .before .pre .0 in
+    let start = c .before .before .before .before in
+    let x = start .args in
+    let sane = start .pre .0 in
+    let long = length-set (x .listing .switchboards) (x .listing .boards) (getD (x .t3) ofParts 0) in
     record {
-      sane = record { counted = record { fans = sane .counted .fans; boards = omega (arith, c .before .if1 .left); systems = sane .counted .systems }; room = sane .room };
+      sane = record { counted = record { fans = sane .counted .fans; boards = omega (arith, c .before .if1 .left); switchboards = long ∙ sane .counted .switchboards; systems = sane .counted .systems }; room = sane .room };
       few = omega arith;
       holds = λ s h.
           some-left s h (length (s .switchboards) + 1) mostBoards manyBoards _ _ (omega (arith, h .boards .counted, c .before .if1 .left))

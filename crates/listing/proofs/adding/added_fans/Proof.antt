@@ -61,7 +61,7 @@ returns-2 c =
     let sane = start .pre .0 in
     let more = c .plus .ensures in
     record {
-      sane = record { counted = record { fans = more .lined (sane .counted .fans); boards = sane .counted .boards; systems = sane .counted .systems }; room = sane .room };
+      sane = record { counted = record { fans = more .lined (sane .counted .fans); boards = sane .counted .boards; switchboards = sane .counted .switchboards; systems = sane .counted .systems }; room = sane .room };
       few = omega arith;
       holds = λ s h.
           some-left s h (length (s .survival) + getD (start .args .t3) ofNumber 0) mostFans manyFans _ _ (omega (arith, h .fans .parts .counted, c .before .if1 .left))

@@ -36,7 +36,7 @@ returns-2 c =
     let sane = c .before .before .before .before .before .before .pre .0 in
     let more = c .plus .ensures in
     record {
-      sane = record { counted = record { fans = sane .counted .fans; boards = sane .counted .boards; systems = omega (arith, more .count, c .before .if1 .left) }; room = sane .room };
+      sane = record { counted = record { fans = sane .counted .fans; boards = sane .counted .boards; switchboards = sane .counted .switchboards; systems = omega (arith, more .count, c .before .if1 .left) }; room = sane .room };
       few = omega arith;
       holds = λ s h.
           some-left s h (length (s .systems) + 1) mostSystems manySystems _ _ (omega (arith, h .systems .count, c .before .if1 .left))

@@ -17,7 +17,7 @@ returns c =
     let start = told .before .before .before .before .before in
     let counted = start .pre .counted in
     record {
-      sane = record { counted = record { fans = counted .fans; boards = counted .boards; systems = counted .systems }; room = told .plus .ensures .room };
+      sane = record { counted = record { fans = counted .fans; boards = counted .boards; switchboards = counted .switchboards; systems = counted .systems }; room = told .plus .ensures .room };
       few = omega arith;
       holds = λ s h. record {
         lines = h .lines;
