@@ -11,14 +11,27 @@ use borrow.Author.Tests.{eq-eqb, ne-eqb}
 use Rattle.options.specs.declared.Asked.{Asked}
 use Rattle.options.specs.Words as options
 use Rattle.rules.specs.Refusal.{most}
-use Rattle.rules.specs.File.{versionIn, fansIn, boardFans, boardBytes, boardsOffset, nthNumber, deckIn, fileRefusal}
+use Rattle.rules.specs.File.{versionIn, fansIn, boardCountIn, boardFans, boardBytes, boardsOffset, nthNumber, deckIn, fileRefusal}
 use Rattle.rules.proofs.Lists.{below-length}
 use Rattle.rules.proofs.Unless.{unless-none, unless-some}
-use Rattle.deck.proofs.Sound.{sound}
+use Rattle.deck.proofs.Sound as deck
 use Rattle.layout.proofs.Versions.{fans-bound}
+use Rattle.naming.specs.declared.Named.{Named}
+use Rattle.naming.specs.Named.{namedIn}
 use Rattle.deckstate.specs.declared.hearing.Said.{Said}
 use Rattle.deckstate.specs.declared.hearing.Hearing.{Hearing}
-use Rattle.deckstate.specs.Words.{nothing, heard, heardAll, ended, optionTable, mostWords, askedAfter, operandsOf, hearingNone, hearingOf, hearsWord, saidIn, SaidOf}
+use Rattle.deckstate.specs.Words.{nothing, sound, faulty, wantsFans, fansHeard, heard, heardAll, ended, optionTable, mostWords, askedAfter, operandsOf, hearingNone, hearingOf, hearsWord, saidIn, SaidOf}
+
+-- a word by the fans that it names
+module _ (n at : ℕ) (word : List ℕ) (state : ℕ) (r : Named) (is : r ≡ namedIn n word state) where
+  abbrev by : Bool → Named → Said
+  by wrong x = cond wrong (faulty state at wantsFans n) (sound (x .state))
+
+  pub fans-wrong : r .wrong ≡ true → faulty state at wantsFans n ≡ fansHeard n at word state
+  fans-wrong e = sym (ap (λ t. by t r) e) ∙ ap (λ (x : Named). by (x .wrong) x) is
+
+  pub fans-right : r .wrong ≡ false → sound (r .state) ≡ fansHeard n at word state
+  fans-right e = sym (ap (λ t. by t r) e) ∙ ap (λ (x : Named). by (x .wrong) x) is
 
 module _ (n g : ℕ) (boards : List ℕ) where
   -- before the first word, and one word more
@@ -66,10 +79,10 @@ module _ (n g : ℕ) (boards : List ℕ) where
     operand-heard other said e = (λ i. record { asked = next; heard = h .heard + 1; said = e i }) ∙ sym (turned false (ne-eqb (next .operands) (h .asked .operands) other))
 
 module _ (bytes : List ℕ) {h : Hearing} {r : Said} where
-  pub said-heard : fileRefusal bytes ≡ 0 → r ≡ ended (fansIn bytes) (h .heard) (h .said) → SaidOf bytes h r
+  pub said-heard : fileRefusal bytes ≡ 0 → r ≡ ended (boardCountIn bytes) (h .heard) (h .said) → SaidOf bytes h r
   unfolding saidIn
   said-heard none e words holds =
-      e ∙ ap (λ (x : Hearing). ended (fansIn bytes) (x .heard) (x .said)) (holds none) ∙ sym (unless-none _ _ _ none)
+      e ∙ ap (λ (x : Hearing). ended (boardCountIn bytes) (x .heard) (x .said)) (holds none) ∙ sym (unless-none _ _ _ none)
 
   pub said-refused : (fileRefusal bytes ≡ 0 → ⊥) → r ≡ nothing → SaidOf bytes h r
   unfolding saidIn
@@ -80,4 +93,4 @@ module _ (bytes : List ℕ) where
   pub boards-few : fileRefusal bytes ≡ 0 → length (deckIn bytes .boards) ≤ most
   unfolding deckIn
   boards-few none =
-      omega (arith, below-length (boardFans (versionIn bytes) (fansIn bytes)) (nthNumber boardBytes bytes (boardsOffset (versionIn bytes) (fansIn bytes))), fans-bound (versionIn bytes) (fansIn bytes), sound bytes none .most-fans)
+      omega (arith, below-length (boardFans (versionIn bytes) (fansIn bytes)) (nthNumber boardBytes bytes (boardsOffset (versionIn bytes) (fansIn bytes))), fans-bound (versionIn bytes) (fansIn bytes), deck.sound bytes none .most-fans)

@@ -1,62 +1,70 @@
--- What the words say: each is the number of a failed fan; and where a file has boards, `board` and a number is a failed board, whose fans have failed too.
--- The first word that is neither is wrong.
+-- What the words say: each names failed fans, by their numbers, by ranges or by lists of both; and where a file has boards, `board` and a number is a failed board,
+-- whose fans have failed too. The first word that is neither is wrong.
 use mathlib.Core.Path.{_≡_}
-use mathlib.Core.Bool.{Bool, true, false, cond, _&&_, not}
+use mathlib.Core.Bool.{true, false, cond}
 use mathlib.Core.List.{List, [], _∷_}
-use Prim.Native.Nat.{ℕ, suc, _+_, _*_, _-_}
-use lib.Dec.{eqb, ltb}
+use Prim.Native.Nat.{ℕ, suc, _+_}
+use lib.Dec.{eqb}
 use lib.ListN.{length}
 use Rattle.rules.specs.Below.{within}
 use Rattle.rules.specs.Answer.{unless}
 use Rattle.rules.specs.File.{fansIn, boardCountIn, deckIn, fileRefusal}
 use Rattle.text.specs.Decimal.{text}
 use Rattle.options.specs.Texts.{sameText}
-use Rattle.states.specs.States.{fanFailed, boardFailed}
+use Rattle.states.specs.States.{boardFailed}
+use Rattle.naming.specs.Named.{numberIn, namedIn}
 use Rattle.options.specs.declared.Asked.{Asked}
 use Rattle.options.specs.Words as options
 use Rattle.deckstate.specs.declared.hearing.Said.{Said}
 use Rattle.deckstate.specs.declared.hearing.Hearing.{Hearing}
 
--- the most digits of a word
+-- the longest word that is read; a longer one names nothing
 abbrev pub longestWord : ℕ
-longestWord = 16
+longestWord = 256
 
--- the number that decimal digits spell, "0" to "9" being the bytes 48 to 57; 0 where a byte is no digit, where there is none, or where there are too many
-unfoldable pub spelled : (so-far : ℕ) → List ℕ → ℕ
-spelled x [] = x
-spelled x (c ∷ cs) = cond (within 48 c 57) (spelled (x * 10 + (c - 48)) cs) 0
-
-abbrev pub numberIn : (word : List ℕ) → ℕ
-numberIn word = cond (ltb longestWord (length word)) 0 (spelled 0 word)
-
--- a state; or a wrong word by its number, with the most that it could have been
+-- a state; or a wrong word by its number, what was wanted, and the most that it could have been
 abbrev pub sound : (state : ℕ) → Said
-sound state = record { state = state; due = false; wrong = 0; most = 0 }
+sound state = record { state = state; due = false; wrong = 0; wanted = 0; most = 0 }
 
-abbrev pub faulty : (state at most : ℕ) → Said
-faulty state at most = record { state = state; due = false; wrong = at; most = most }
+abbrev pub faulty : (state at wanted most : ℕ) → Said
+faulty state at wanted most = record { state = state; due = false; wrong = at; wanted = wanted; most = most }
 
 abbrev pub nothing : Said
 nothing = sound 0
 
--- the at-th word, where a fan's number may stand: "a number from 1 to n"
-abbrev pub fanHeard : (n at number state : ℕ) → Said
-fanHeard n at number state = cond (within 1 number n) (sound (fanFailed state number)) (faulty state at n)
+-- what can be wanted: fans; a board; no board, since the deck has none; a board's number behind the last word
+abbrev pub wantsFans : ℕ
+wantsFans = 1
+
+abbrev pub wantsBoard : ℕ
+wantsBoard = 2
+
+abbrev pub wantsNoBoard : ℕ
+wantsNoBoard = 3
+
+abbrev pub wantsNumber : ℕ
+wantsNumber = 4
+
+-- the at-th word, where fans may be named
+abbrev pub fansHeard : (n at : ℕ) (word : List ℕ) (state : ℕ) → Said
+fansHeard n at word state =
+    let named = namedIn n word state in
+    cond (named .wrong) (faulty state at wantsFans n) (sound (named .state))
 
 -- and behind `board`: "its fans are dead"
 abbrev pub boardHeard : (g : ℕ) (boards : List ℕ) (at number state : ℕ) → Said
-boardHeard g boards at number state = cond (within 1 number g) (sound (boardFailed boards number state)) (faulty state at g)
+boardHeard g boards at number state = cond (within 1 number g) (sound (boardFailed boards number state)) (faulty state at wantsBoard g)
 
 -- "A file of version 3 also takes `board B` words": it has boards, and no other file has
-abbrev pub asksBoard : (g : ℕ) (word : List ℕ) → Bool
-asksBoard g word = not (eqb g 0) && sameText word (text "board")
+abbrev pub boardAsked : (g at state : ℕ) → Said
+boardAsked g at state = cond (eqb g 0) (faulty state at wantsNoBoard 0) (record { state = state; due = true; wrong = 0; wanted = 0; most = 0 })
 
 unfoldable pub heard : (n g : ℕ) (boards : List ℕ) (at : ℕ) (word : List ℕ) → Said → Said
 heard n g boards at word said =
     let state = said .state in
     cond (eqb (said .wrong) 0)
     (cond (said .due) (boardHeard g boards at (numberIn word) state)
-    (cond (asksBoard g word) (record { state = state; due = true; wrong = 0; most = 0 }) (fanHeard n at (numberIn word) state)))
+    (cond (sameText word (text "board")) (boardAsked g at state) (fansHeard n at word state)))
     said
 
 -- the words, the last one first
@@ -65,8 +73,8 @@ heardAll n g boards [] = nothing
 heardAll n g boards (word ∷ words) = heard n g boards (suc (length words)) word (heardAll n g boards words)
 
 -- `board` as the last of so many words is wrong
-abbrev pub ended : (n count : ℕ) → Said → Said
-ended n count said = cond (said .due) (faulty (said .state) count n) said
+abbrev pub ended : (g count : ℕ) → Said → Said
+ended g count said = cond (said .due) (faulty (said .state) count wantsNumber g) said
 
 -- the program's own table of options, and any number of words
 abbrev pub optionTable : List ℕ
@@ -111,7 +119,7 @@ unfoldable pub saidIn : (bytes : List ℕ) (words : List (List ℕ)) → Said
 saidIn bytes words =
     let n = fansIn bytes in
     let own = operandsOf words in
-    unless (fileRefusal bytes) (λ r. nothing) (ended n (length own) (heardAll n (boardCountIn bytes) (deckIn bytes .boards) own))
+    unless (fileRefusal bytes) (λ r. nothing) (ended (boardCountIn bytes) (length own) (heardAll n (boardCountIn bytes) (deckIn bytes .boards) own))
 
 -- whatever words were heard, that is what they say
 abbrev pub SaidOf : (bytes : List ℕ) → Hearing → Said → Type 0

@@ -5,78 +5,72 @@ ghost use lib.ListN.{length};
 ghost use Rattle.rules.specs.Refusal.{most};
 ghost use Rattle.deck.specs.Outcome.{Opens};
 ghost use Rattle.options.specs.Words.{Sound};
-ghost use Rattle.deckstate.specs.Words.{numberIn, nothing, fanHeard, boardHeard, asksBoard, heard, ended};
+ghost use Rattle.deckstate.specs.Words.{faulty, fansHeard, boardHeard, boardAsked, heard, ended};
 ghost use Rattle.deckstate.specs.Words.{hearingNone, hearsWord, SaidOf};
 use deck::Opened;
 use options::Asked;
 
-// Room for the longest number, so that a longer word, which is cut to none, is none either.
-const WORD: usize = 16;
+// The longest word that is read: a longer one is cut to none, which names nothing.
+const WORD: usize = 256;
 
 // Any number of words is taken.
 pub const MOST_WORDS: u64 = 4294967296;
 
 // What the words so far say: the state of the deck; whether a board's number is due; and the number of the first wrong
-// word, 0 for none, with the most that it could have been.
+// word, 0 for none, with what was wanted and the most that it could have been.
 pub struct Said {
     pub state: u64,
     pub due: bool,
     pub wrong: u64,
+    pub wanted: u64,
     pub most: u64,
 }
 
-// Where nothing is said no fan has failed.
-fn nothing_said() -> Said
-    ensures { λ r. ⌜ r ≡ nothing ⌝ }
+// What can be wanted: fans; a board; no board, since the deck has none; a board's number behind the last word.
+pub const FANS: u64 = 1;
+
+pub const BOARD: u64 = 2;
+
+pub const NO_BOARD: u64 = 3;
+
+pub const NUMBER: u64 = 4;
+
+// What is said without a fault.
+fn sound(state: u64, due: bool) -> Said
+    ensures { λ r. ⌜ r ≡ record { state = state; due = due; wrong = 0; wanted = 0; most = 0 } ⌝ }
 {
     Said {
-        state: 0,
-        due: false,
+        state,
+        due,
         wrong: 0,
+        wanted: 0,
         most: 0,
     }
 }
 
-// The number that a word's decimal digits spell, 0 where it is no number.
-fn number_of(word: &[u8]) -> u64
-    ensures { λ r. ⌜ r ≡ numberIn (now (word .entry)) ⌝ }
+// The at-th word is wrong.
+fn faulty(state: u64, at: u64, wanted: u64, most: u64) -> Said
+    ensures { λ r. ⌜ r ≡ faulty state at wanted most ⌝ }
 {
-    if WORD < word.len() {
-        return 0;
+    Said {
+        state,
+        due: false,
+        wrong: at,
+        wanted,
+        most,
     }
-    let mut number: u64 = 0;
-    let mut i: usize = 0;
-    while i < word.len() {
-        let digit = word[i] as u64;
-        if refusals::outside(48, digit, 57) {
-            return 0;
-        }
-        number = number * 10 + (digit - 48);
-        i += 1;
-    }
-    number
 }
 
-// A number where a fan's may stand, the at-th word.
-fn fan_heard(n: u64, at: u64, number: u64, state: u64) -> Said
+// A word where fans may be named, the at-th.
+fn fans_heard(n: u64, at: u64, word: &[u8], state: u64) -> Said
     requires { ⌜ n ≤ most ⌝ }
-    ensures { λ r. ⌜ r ≡ fanHeard n at number state ⌝ }
+    ensures { λ r. ⌜ r ≡ fansHeard n at (now (word .entry)) state ⌝ }
 {
-    if refusals::outside(1, number, n) {
-        return Said {
-            state,
-            due: false,
-            wrong: at,
-            most: n,
-        };
+    let named = naming::name_fans(n, word, state);
+    if named.wrong {
+        return faulty(state, at, FANS, n);
     }
-    let after = states::fan_failed(state, number);
-    Said {
-        state: after,
-        due: false,
-        wrong: 0,
-        most: 0,
-    }
+    sound(named.state, false)
 }
 
 // A number where a board's is due.
@@ -85,30 +79,19 @@ fn board_heard(g: u64, boards: &[u8], at: u64, number: u64, state: u64) -> Said
     ensures { λ r. ⌜ r ≡ boardHeard g (now (boards .entry)) at number state ⌝ }
 {
     if refusals::outside(1, number, g) {
-        return Said {
-            state,
-            due: false,
-            wrong: at,
-            most: g,
-        };
+        return faulty(state, at, BOARD, g);
     }
-    let after = states::board_failed(boards, number, state);
-    Said {
-        state: after,
-        due: false,
-        wrong: 0,
-        most: 0,
-    }
+    sound(states::board_failed(boards, number, state), false)
 }
 
-// Is it the word that a board's number follows, where there are boards?
-fn asks_board(g: u64, word: &[u8]) -> bool
-    ensures { λ r. ⌜ r ≡ asksBoard g (now (word .entry)) ⌝ }
+// The word that a board's number follows, where there are boards.
+fn board_asked(g: u64, at: u64, state: u64) -> Said
+    ensures { λ r. ⌜ r ≡ boardAsked g at state ⌝ }
 {
     if g == 0 {
-        return false;
+        return faulty(state, at, NO_BOARD, 0);
     }
-    options::same(word, b"board")
+    sound(state, true)
 }
 
 // What is said with one word more, the at-th; what follows a wrong word is not looked at.
@@ -119,34 +102,22 @@ fn hear_word(n: u64, g: u64, boards: &[u8], at: u64, word: &[u8], said: Said) ->
     if said.wrong != 0 {
         return said;
     }
-    let number = number_of(word);
     let state = said.state;
     if said.due {
-        return board_heard(g, boards, at, number, state);
+        return board_heard(g, boards, at, naming::number::number_of(word), state);
     }
-    if asks_board(g, word) {
-        return Said {
-            state,
-            due: true,
-            wrong: 0,
-            most: 0,
-        };
+    if options::same(word, b"board") {
+        return board_asked(g, at, state);
     }
-    fan_heard(n, at, number, state)
+    fans_heard(n, at, word, state)
 }
 
 // At the end of so many words: one after which a board's number did not come is wrong.
-fn end_words(n: u64, count: u64, said: Said) -> Said
-    ensures { λ r. ⌜ r ≡ ended n count said ⌝ }
+fn end_words(g: u64, count: u64, said: Said) -> Said
+    ensures { λ r. ⌜ r ≡ ended g count said ⌝ }
 {
     if said.due {
-        let state = said.state;
-        return Said {
-            state,
-            due: false,
-            wrong: count,
-            most: n,
-        };
+        return faulty(said.state, count, NUMBER, g);
     }
     said
 }
@@ -163,7 +134,7 @@ fn silence() -> Hearing
     ensures { λ r. ⌜ (r ≡ hearingNone) × Sound (r .asked) ⌝ }
 {
     let asked = options::nothing();
-    let said = nothing_said();
+    let said = sound(0, false);
     Hearing {
         asked,
         heard: 0,
@@ -231,9 +202,9 @@ pub fn settled(file: &[u8], opened: Opened, hearing: Hearing) -> Said
     ensures { λ r. ⌜ SaidOf (now (file .entry)) hearing r ⌝ }
 {
     if opened.refusal != 0 {
-        return nothing_said();
+        return sound(0, false);
     }
     let head = opened.head;
     let said = hearing.said;
-    end_words(head.fans as u64, hearing.heard, said)
+    end_words(head.boards as u64, hearing.heard, said)
 }

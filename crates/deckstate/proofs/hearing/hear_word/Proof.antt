@@ -1,7 +1,7 @@
 -- `hearing::hear_word` meets its contract, test by test. Assumes nothing.
 use mathlib.Core.Path.{sym, ap, _∙_}
 use borrow.Author.Tests.{eq-eqb, ne-eqb}
-use Rattle.deckstate.specs.Words.{fanHeard, boardHeard, heard}
+use Rattle.deckstate.specs.Words.{boardHeard, heard}
 use borrow.Author.Needs.{needs}
 use Rattle.deckstate.proofs.hearing.hear_word.Statement.{statement}
 use Rattle.deckstate.proofs.hearing.hear_word.Tie as tie
@@ -19,25 +19,39 @@ board-heard-requires c κs = search needs
 returns-2 : tie.Need-returns-2
 unfolding heard
 returns-2 c =
-    rw (eq-eqb _ _ (c .before .before .before .if1 .left), c .before .if2 .taken)
-    (c .board-heard .ensures ∙ ap (λ x. boardHeard (c .before .before .before .before .before .before .before .args .g) (c .before .before .before .before .before .before .before .args .boards .now) (c .before .before .before .before .before .before .before .args .at) x (c .before .before .before .before .before .before .before .args .said .state)) (c .before .before .number-of .ensures))
+    let due = c .before .before in
+    let listened = due .before in
+    let x = listened .before .before .before .before .args in
+    rw (eq-eqb _ 0 (listened .if1 .left), due .if2 .taken)
+    (c .board-heard .ensures ∙ ap (λ number. boardHeard (x .g) (x .boards .now) (x .at) number (x .said .state)) (c .before .number-of .ensures))
 
-asks-board-requires : tie.Need-asks-board-requires
-asks-board-requires c κs = search needs
+slice-aggregate-same : tie.Need-slice-aggregate-same
+slice-aggregate-same c = search needs
+
+same-requires : tie.Need-same-requires
+same-requires c κs = search needs
+
+board-asked-requires : tie.Need-board-asked-requires
+board-asked-requires c κs = search needs
 
 returns-3 : tie.Need-returns-3
 unfolding heard
 returns-3 c =
-    rw (eq-eqb _ _ (c .before .before .before .before .if1 .left), c .before .before .if2 .left, sym (c .before .asks-board .ensures) ∙ c .if3 .taken)
+    let tested = c .before in
+    let asked = tested .before in
+    let due = asked .before .before in
+    rw (eq-eqb _ 0 (due .before .if1 .left), due .if2 .left, sym (asked .same .ensures) ∙ tested .if3 .taken) (c .board-asked .ensures)
 
-fan-heard-requires : tie.Need-fan-heard-requires
-fan-heard-requires c κs = search needs
+fans-heard-requires : tie.Need-fans-heard-requires
+fans-heard-requires c κs = search needs
 
 returns-4 : tie.Need-returns-4
 unfolding heard
 returns-4 c =
-    rw (eq-eqb _ _ (c .before .before .before .before .before .if1 .left), c .before .before .before .if2 .left, sym (c .before .before .asks-board .ensures) ∙ c .before .if3 .left)
-    (c .fan-heard .ensures ∙ ap (λ x. fanHeard (c .before .before .before .before .before .before .before .before .before .args .n) (c .before .before .before .before .before .before .before .before .before .args .at) x (c .before .before .before .before .before .before .before .before .before .args .said .state)) (c .before .before .before .before .number-of .ensures))
+    let tested = c .before in
+    let asked = tested .before in
+    let due = asked .before .before in
+    rw (eq-eqb _ 0 (due .before .if1 .left), due .if2 .left, sym (asked .same .ensures) ∙ tested .if3 .left) (c .fans-heard .ensures)
 
 pub hear-word-spec : {M : Type 1} → statement M
 hear-word-spec =
@@ -47,7 +61,9 @@ hear-word-spec =
     number-of-requires
     board-heard-requires
     returns-2
-    asks-board-requires
+    slice-aggregate-same
+    same-requires
+    board-asked-requires
     returns-3
-    fan-heard-requires
+    fans-heard-requires
     returns-4)

@@ -7,14 +7,14 @@ use borrow.Author.Needs.{needs}
 use Rattle.deckstate.proofs.hearing.settled.Statement.{statement}
 use Rattle.deckstate.proofs.hearing.settled.Tie as tie
 
-nothing-said-requires : tie.Need-nothing-said-requires
-nothing-said-requires c κs = search needs
+sound-requires : tie.Need-sound-requires
+sound-requires c κs = search needs
 
 returns : tie.Need-returns
 returns c =
     let tested = c .before in
     let opens = tested .before .before .before .pre in
-    said-refused _ (λ none. tested .if1 .taken (opens .refusal ∙ none)) (c .nothing-said .ensures)
+    said-refused _ (λ none. tested .if1 .taken (opens .refusal ∙ none)) (c .sound .ensures)
 
 end-words-requires : tie.Need-end-words-requires
 end-words-requires c κs = search needs
@@ -25,7 +25,7 @@ returns-2 c =
     let start = tested .before .before .before in
     let headed = opened-headed (start .pre) (tested .if1 .left) in
     let h = start .args .hearing in
-    said-heard _ (headed .accepted) (c .end-words .ensures ∙ ap (λ n. ended n (h .heard) (h .said)) (headed .says .fans))
+    said-heard _ (headed .accepted) (c .end-words .ensures ∙ ap (λ g. ended g (h .heard) (h .said)) (headed .says .boards))
 
 pub settled-spec : {M : Type 1} → statement M
-settled-spec = tie.close (tie.spec nothing-said-requires returns end-words-requires returns-2)
+settled-spec = tie.close (tie.spec sound-requires returns end-words-requires returns-2)

@@ -9,13 +9,13 @@ use Rattle.deckstate.proofs.hearing.silence.Tie as tie
 nothing-requires : tie.Need-nothing-requires
 nothing-requires c κs = search needs
 
-nothing-said-requires : tie.Need-nothing-said-requires
-nothing-said-requires c κs = search needs
+sound-requires : tie.Need-sound-requires
+sound-requires c κs = search needs
 
 returns : tie.Need-returns
 returns c =
     let asked = c .before .nothing .ensures in
-    ((λ i. record { asked = asked i; heard = 0; said = c .nothing-said .ensures i }), subst Sound (sym asked) nothing-sound)
+    ((λ i. record { asked = asked i; heard = 0; said = c .sound .ensures i }), subst Sound (sym asked) nothing-sound)
 
 pub silence-spec : {M : Type 1} → statement M
-silence-spec = tie.close (tie.spec nothing-requires nothing-said-requires returns)
+silence-spec = tie.close (tie.spec nothing-requires sound-requires returns)

@@ -1,4 +1,4 @@
--- `hearing::number_of` meets its contract: what is spelled so far and the digits left spell the whole. The measure is what is left. Assumes nothing.
+-- `number::number_of` meets its contract: what is spelled so far and the digits left spell the whole. The measure is what is left. Assumes nothing.
 use mathlib.Core.Path.{_≡_, refl, sym, _∙_}
 use mathlib.Core.Bool.{true}
 use Prim.Native.Nat.{ℕ, _-_, _^_, _≤_, _<_}
@@ -9,14 +9,14 @@ use borrow.Author.Needs.{needs}
 use borrow.Author.Tests.{not-true, not-false, lt-ltb, le-ltb}
 use Rattle.rules.specs.Below.{within}
 use Rattle.rules.proofs.EachKind.{within-true}
-use Rattle.deckstate.specs.Words.{longestWord, spelled}
-use Rattle.deckstate.proofs.Spelling.{digit-on, no-digit, digits-end, one-more, few-digits}
-use Rattle.deckstate.proofs.hearing.number_of.Statement.{statement}
-use Rattle.deckstate.proofs.hearing.number_of.Tie as tie
+use Rattle.naming.specs.Named.{longestNumber, spelled}
+use Rattle.naming.proofs.Spelling.{digit-on, no-digit, digits-end, one-more, few-digits}
+use Rattle.naming.proofs.number.number_of.Statement.{statement}
+use Rattle.naming.proofs.number.number_of.Tie as tie
 
 abbrev Inv-loop : tie.InvT-loop
 Inv-loop word number₀ i₀ number i =
-    (i ≤ length word) × (number < 10 ^ i) × (length word ≤ longestWord) × (spelled number (drop i word) ≡ spelled 0 word)
+    (i ≤ length word) × (number < 10 ^ i) × (length word ≤ longestNumber) × (spelled number (drop i word) ≡ spelled 0 word)
 
 abbrev μ-loop : tie.MeasureT-loop
 μ-loop word number₀ i₀ number i = length word - i
@@ -42,7 +42,7 @@ returns-2 c =
     let passed = c .before .before .before in
     let word = passed .before .before .before .before .args .word .now in
     let other = not-true _ (sym (c .before .outside .ensures) ∙ c .if2 .taken) in
-    rw (le-ltb longestWord (length word) (l .inv .2))
+    rw (le-ltb longestNumber (length word) (l .inv .2))
     (sym (sym (l .inv .3) ∙ no-digit (l .number) word (l .i) (omega arith) other))
 
 -- what the second test leaves
@@ -88,7 +88,7 @@ returns-3 : tie.Need-returns-3 Inv-loop μ-loop
 returns-3 c =
     let l = c .before .loop in
     let word = c .before .before .before .before .args .word .now in
-    rw (le-ltb longestWord (length word) (l .inv .2)) (sym (sym (l .inv .3) ∙ digits-end (l .number) word (l .i) (omega arith)))
+    rw (le-ltb longestNumber (length word) (l .inv .2)) (sym (sym (l .inv .3) ∙ digits-end (l .number) word (l .i) (omega arith)))
 
 pub number-of-spec : {M : Type 1} → statement M
 number-of-spec =

@@ -1,0 +1,2 @@
+-- The fans that a word names.
+pub mod Named
