@@ -151,12 +151,12 @@ def views_right():
 
 
 def refusals_named():
-    """Every number of rules/src/refusal.rt has its words, and README.md has them of the numbers that it names one by one."""
+    """Every number of rules/src/refusal.rt has its words, and man/foambeetle.7 has each number with the same words."""
     numbers = {int(number) for number in re.findall(r"^pub const \w+: u64 = (\d+);$", (root / "crates/rules/src/refusal.rt").read_text(), re.M)}
-    readme = " ".join((root / "README.md").read_text().split())
-    alone = {number for number in numbers if f"{number} {package.WORDS[number]}" in readme}
+    page = (root / "man/foambeetle.7").read_text()
+    listed = {number for number in numbers if f".IP {number} 4\n{package.WORDS[number]}" in page}
     refused = package.Refused(6)
-    return numbers == set(package.WORDS) and alone >= {1, 2, 3, 4, 5, 6, 14, 17, 20, 21, 22} and str(refused) == "refused 6: " + refused.words
+    return numbers == set(package.WORDS) == listed and str(refused) == "refused 6: " + refused.words
 
 
 def in_ctypes(parameter, name):
@@ -210,11 +210,11 @@ def started(path, library):
 
 
 def readme_true():
-    """README.md's two lines, and what they say that they come to."""
-    first, second = re.search(r"^    (import foambeetle)\n    (foambeetle\..*)$", (root / "README.md").read_text(), re.M).groups()
-    asked, _, said = second.partition("    # ")
+    """The program of python/README.md prints what its last line says, in a folder that has the deck."""
+    program = "".join(line.removeprefix("    ") for line in (PACKAGE / "README.md").read_text().splitlines(True) if line.startswith("    "))
+    said = program.rstrip().rpartition("# ")[2]
     own = {**os.environ, "PYTHONPATH": str(PACKAGE), "PYTHONDONTWRITEBYTECODE": "1"}
-    return run([sys.executable, "-c", f"{first}\nprint(repr({asked}))"], env=own, cwd=root).decode() == f"{said}\n"
+    return run([sys.executable, "-c", program], env=own, cwd=root / "samples").decode() == f"{said}\n"
 
 
 def missing_told():
