@@ -7,8 +7,9 @@ import sys
 from datetime import date
 from typing import NamedTuple
 
-from cases import (
-    BOARDS, DECIMAL, KINDS, PAIRS_KIND, SIZES, UNIT, agreed_cases, agreed_windows, count_cases, living, longest_cases, steps, weights, window_cases, worst_cases,
+from bench.cases import (
+    BOARDS, DECIMAL, KINDS, PAIRS_KIND, SIZES, UNIT, agreed_cases, agreed_windows, count_cases, living, longest_cases, steps, weights, window_cases,
+    worst_cases,
 )
 
 # A double that has gone through n rounded steps is this near, in units of 2^-30.

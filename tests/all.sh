@@ -20,7 +20,7 @@ passed=${count%% passed*} failed=${count##*, } failed=${failed%% failed*}
 [ -n "$count" ] || passed=0 failed=1
 [ "$rt_status" -eq 0 ] || [ "$failed" -gt 0 ] || failed=1
 
-tests/others.py "$log"
+python3 -m tests.others "$log"
 failed=$((failed + $?))
 echo "$passed passed, $failed failed" | tee -a "$log"
 [ "$failed" -eq 0 ]

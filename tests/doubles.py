@@ -12,12 +12,13 @@ import struct
 import subprocess
 import sys
 
-from common import OFFICE, compare, decks, ready, root, run, sample, static
-
-from doubles import bits_of, chance, chance_between, planned
-from doubles_samples import CHANCES, NO_CHANCES, about_grid, grid_points, random_plan, wrong_plans
-from files import random_files
-from foambeetle import BOARDS_VERSION, MOST_SYSTEMS, NO_BOARDS, UNITS, Boards, Deck, Refusal, Rule, System, deck_bytes, packed, read_deck
+from second.model.deck_file import deck_bytes, read_deck
+from second.model.doubles import bits_of, chance, chance_between, planned
+from second.model.loading import packed
+from second.model.terms import BOARDS_VERSION, MOST_SYSTEMS, NO_BOARDS, UNITS, Boards, Deck, Refusal, Rule, System
+from second.samples.doubles import CHANCES, NO_CHANCES, about_grid, grid_points, random_plan, wrong_plans
+from second.samples.files import random_files
+from tests.common import OFFICE, compare, decks, ready, root, run, sample, static
 
 FILES, LISTS, WRONG, GRID, SINGLES = 600, 2000, 1280, 500, 60
 HUGE = (2 ** 32 + 1, 2 ** 63, 2 ** 64 - 1)

@@ -13,7 +13,7 @@ import sys
 from pathlib import Path
 from typing import NamedTuple
 
-from common import root
+from tests.common import root
 
 SHOWN = 150  # characters of a refusal
 TOOK = re.compile(r"(\d+) s\)$", re.M)

@@ -8,9 +8,9 @@ import shutil
 import sys
 from pathlib import Path
 
-from common import (
-    EVERY_PROGRAM, LIBRARIES, MAKER, MENDER, NEEDED, OFFICE, PAGER, PROGRAMS, SAMPLES, SHIP, WRITER, build, compare_example, compare_samples, compare_written, decks, held,
-    make, rated_lines, room, root, run, sample, started, texts, tools,
+from tests.common import (
+    EVERY_PROGRAM, LIBRARIES, MAKER, MENDER, NEEDED, OFFICE, PAGER, PROGRAMS, SAMPLES, SHIP, WRITER, build, compare_example, compare_samples, compare_written,
+    decks, held, make, rated_lines, room, root, run, sample, started, texts, tools,
 )
 
 STAGE = room / "stage"

@@ -13,16 +13,15 @@ import subprocess
 import sys
 from pathlib import Path
 
-from common import (
+from second.model.deck_file import read_deck, system_numbers, write_deck
+from second.model.doubles import bits_of, chance, chance_between, planned
+from second.model.loading import decklist_output, packed, rate, unit_of_file, worth_of_file
+from second.model.spares import gain_of_file
+from second.model.terms import NO_BOARDS, UNIT, UNITS, Boards, Refusal, Rule
+from tests.common import (
     LIBRARIES, OFFICE, SAMPLES, SHIP, WRITER, build, compare, compare_example, compare_samples, decks, plus, printed, prototypes, rated_lines, ready, room,
     root, run, sample, static, tools,
 )
-
-from doubles import bits_of, chance, chance_between, planned
-from foambeetle import (
-    NO_BOARDS, UNIT, UNITS, Boards, Refusal, Rule, decklist_output, packed, rate, read_deck, system_numbers, unit_of_file, worth_of_file, write_deck,
-)
-from spares import gain_of_file
 
 LIBRARY = root / "target/lib"
 NEEDED = {"memcpy", "memset"}

@@ -9,11 +9,13 @@ import random
 import struct
 import sys
 
-from common import OFFICE, compare, ready, root, run, static
-
-from files import random_deck
-from foambeetle import BOARDS_VERSION, Boards, Deck, Refusal, boards_read, layout, listed_systems, packed, read_deck, system_numbers, write_deck
-from samples import unread_boards
+from second.model.boards import boards_read
+from second.model.deck_file import layout, listed_systems, read_deck, system_numbers, write_deck
+from second.model.loading import packed
+from second.model.terms import BOARDS_VERSION, Boards, Deck, Refusal
+from second.samples.files import random_deck
+from second.samples.lists import unread_boards
+from tests.common import OFFICE, compare, ready, root, run, static
 
 DECKS = 600
 PAINT = b"\xa5"  # of tests/pages.h

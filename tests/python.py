@@ -13,15 +13,16 @@ import subprocess
 import sys
 from fractions import Fraction
 
-from common import LIBRARIES, SHIP, compare, decks, held, prototypes, ready, room, root, run
-
-from doubles import bits_of, chance, chance_between, double, planned
-from doubles_samples import random_plan
-from files import random_files
-from foambeetle import BOARDS_VERSION, UNIT, UNITS, Boards, Refusal, packed, rate, read_deck, system_numbers, unit_of_file, worth_of_file, write_deck
-from office import cases
-from program import percent
-from spares import gain_of_file
+from second.model.deck_file import read_deck, system_numbers, write_deck
+from second.model.doubles import bits_of, chance, chance_between, double, planned
+from second.model.loading import packed, rate, unit_of_file, worth_of_file
+from second.model.spares import gain_of_file
+from second.model.terms import BOARDS_VERSION, UNIT, UNITS, Boards, Refusal
+from second.samples.doubles import random_plan
+from second.samples.files import random_files
+from tests.common import LIBRARIES, SHIP, compare, decks, held, prototypes, ready, room, root, run
+from tests.office import cases
+from tests.program import percent
 
 FOLDER, PACKAGE = "FOAMBEETLE_LIBRARY", root / "python"
 FILES, PLANS = 300, 600
@@ -36,7 +37,7 @@ POINTERS = {"uint8_t": ctypes.c_uint8, "uint16_t": ctypes.c_uint16, "uint32_t": 
 
 
 def loaded():
-    """The package, under another name than the second program's."""
+    """The package of the sources, whatever is installed."""
     spec = importlib.util.spec_from_file_location("package", PACKAGE / "foambeetle/__init__.py", submodule_search_locations=[str(PACKAGE / "foambeetle")])
     package = sys.modules["package"] = importlib.util.module_from_spec(spec)
     spec.loader.exec_module(package)

@@ -9,7 +9,7 @@ its one call, which the Makefile's main declares: no parameter, and an int for t
 import re
 import sys
 
-from common import EVERY_PROGRAM, prototypes, reported, root
+from tests.common import EVERY_PROGRAM, prototypes, reported, root
 
 HEADERS = {"loading": "foambeetle.h", "office": "foambeetle_office.h"}
 WITHOUT_HEADER = {"ratings"}

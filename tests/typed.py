@@ -9,15 +9,11 @@ files.
 import random
 import sys
 
-from common import (
-    MAKER, PROGRAMS, SHOWER, WRITING, compare, compare_written, decks, fed, linked, mapped, printed, run, texts, written,
-)
-
-from files import random_deck, random_files
-from foambeetle import UNITS, Boards, Deck, Rule, System, deck_bytes, file_refusal
-from typed_samples import (
-    SOUND, across, layouts, long_lines, long_words, many_lines, named, no_text, numbers, other_words, random_lines, several, slips,
-)
+from second.model.deck_file import deck_bytes, file_refusal
+from second.model.terms import UNITS, Boards, Deck, Rule, System
+from second.samples.files import random_deck, random_files
+from second.samples.typed import SOUND, across, layouts, long_lines, long_words, many_lines, named, no_text, numbers, other_words, random_lines, several, slips
+from tests.common import MAKER, PROGRAMS, SHOWER, WRITING, compare, compare_written, decks, fed, linked, mapped, printed, run, texts, written
 
 DECKS = 25  # of each version
 FILES = 60

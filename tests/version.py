@@ -3,7 +3,7 @@
 import re
 import sys
 
-from common import EVERY_PROGRAM, prove, reported, root, run, started
+from tests.common import EVERY_PROGRAM, prove, reported, root, run, started
 
 
 def named():

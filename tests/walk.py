@@ -9,7 +9,7 @@ import shutil
 import subprocess
 import sys
 
-from common import EVERY_PROGRAM, STRICT, held, make, plus, prove, ready, room, root, run, tools
+from tests.common import EVERY_PROGRAM, STRICT, held, make, plus, prove, ready, room, root, run, tools
 
 GUIDE = root / "docs/GUIDE.md"
 FOLDER = room / "guide"

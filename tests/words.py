@@ -7,10 +7,12 @@ import re
 import subprocess
 import sys
 
-from common import compare, held, linked, mapped, prove
-from causes import worded_output
-from files import random_files
-from foambeetle import UNITS, Boards, Deck, Refusal, Rule, System, deck_bytes, decklist_output, read_deck
+from second.model.causes import worded_output
+from second.model.deck_file import deck_bytes, read_deck
+from second.model.loading import decklist_output
+from second.model.terms import UNITS, Boards, Deck, Refusal, Rule, System
+from second.samples.files import random_files
+from tests.common import compare, held, linked, mapped, prove
 
 SEED, FILES = 17, 600
 N = 12
