@@ -1,8 +1,6 @@
 """The cases that are rated: the worst rule of each kind and size, kind 8's longest windows, and every rule of small sizes for the peers to agree on."""
 
-import os
 import random
-import sys
 from typing import NamedTuple
 
 from second.model.calls import figures

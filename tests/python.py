@@ -13,9 +13,9 @@ import subprocess
 import sys
 from fractions import Fraction
 
-from second.model.deck_file import read_deck, system_numbers, write_deck
-from second.model.doubles import bits_of, chance, chance_between, double, planned
-from second.model.loading import packed, rate, unit_of_file, worth_of_file
+from second.model.deck_file import read_deck, write_deck
+from second.model.doubles import chance, chance_between, double, planned
+from second.model.loading import rate, unit_of_file, worth_of_file
 from second.model.spares import gain_of_file
 from second.model.terms import BOARDS_VERSION, UNIT, UNITS, Boards, Refusal
 from second.samples.doubles import random_plan
