@@ -57,7 +57,7 @@ extern "C" {
 #endif
 
 /* The file VERSION. */
-#define FOAMBEETLE_VERSION "1.0.0"
+#define FOAMBEETLE_VERSION "1.1.0"
 
 /* What a chance of 1 is in a file of version 1, and in one of version 2 or 3. */
 #define FOAMBEETLE_UNIT 1073741824u
