@@ -8,7 +8,7 @@ log=target/ci.log
 export PYTHONDONTWRITEBYTECODE=1 PYTHONUNBUFFERED=1
 
 command -v rt >/dev/null || {
-    echo "rt is not on the path (README.md says what is wanted)"
+    echo "rt is not on the path (README.md says what is needed)"
     echo "0 passed, 1 failed"
     exit 1
 }

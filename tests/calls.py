@@ -1,10 +1,9 @@
 """The library's calls and the programs against the second program, byte for byte.
 
-1,800 random deck files of every version, sound and damaged by turns, one of lines shorter than their window, one of pairs, three whose fans stand about
-the units, and some whose boards do, go through a C program linked with libfoambeetle.a, which rates their systems, asks for the worth of a fan under
-each, for the gain of a spare in its place and for the file's unit, with guard pages on either side of what it lends and a stack that shows how deep a call goes. Every refusal is met, and
-every kind is answered in every version. Some of the files, and inputs of odd lengths, go through the programs as they are installed; the samples
-through the programs as rt built them, and through the C samples.
+A C program linked with libfoambeetle.a reads 1,800 random deck files of every version, sound and damaged by turns; one of lines shorter than their window, one
+of pairs, three whose fans' numbers are near the units, and some whose boards' are. It rates their systems and asks for the worth of a fan, the gain of a spare in
+its place and the file's unit. Guard pages stand on either side of what it lends, and its stack shows how deep a call goes. Every refusal is met, and every kind is
+answered in every version. Some of the files, and inputs of odd lengths, go through the installed programs; the samples go through the programs and the C samples.
 """
 
 import random

@@ -1,10 +1,10 @@
 """The office's calls over doubles against the second program, bit for bit.
 
-Out: 600 random deck files of every version, sound and damaged, and the samples, each asked for its systems and for some that it has not, by both calls;
-and by the one for every version 5,952 systems of one fan each, whose figure is the fan's own number, at the ends of both units, about the powers of two and at random. In: every
-edge of the doubles, the grid's points and their neighbours, one fan each; 2,000 random lists under every kind; and 1,280 with every choice of things wrong,
-so that the order of the refusals shows. All of it through a C program linked with libfoambeetle_office.a, with guard pages on either side of what it
-lends.
+Out: 600 random deck files of every version, sound and damaged, and the samples; each is asked for its systems and for some that it does not have, by both calls. The
+call for every version is also asked for 5,952 systems of one fan each, whose figure is the fan's own number, at the ends of both units, near the powers of two
+and at random. In: every edge of the doubles, the grid's points and their neighbours, one fan each; 2,000 random lists under every kind; and 1,280 with every
+choice of things wrong, so that the order of the refusals shows. A C program linked with libfoambeetle_office.a makes the calls, with guard pages on either side
+of what it lends.
 """
 
 import random

@@ -1,8 +1,8 @@
-"""Each library as C programs meet it: it exports its header's calls and nothing else, needs memcpy and memset alone, and answers in a static
-program, a position-independent one, over the shared library, from C++ and through Python's ctypes. The headers compile by every standard of C and C++
-that the compiler knows, and a null pointer with length 0 is an empty list.
+"""Each library as C programs meet it. It exports its header's calls and nothing else, and needs memcpy and memset alone. It answers in a static program, in a
+position-independent one, as a shared library, from C++ and through Python's ctypes. The headers compile by every standard of C and C++ that the compiler knows,
+and a null pointer with length 0 is an empty list.
 
-Where the machine is not x86-64 the programs run under the emulator; what cannot is skipped with a line that says so.
+Off x86-64 the programs run under the emulator. What cannot run there is skipped, and a line says so.
 """
 
 import ctypes

@@ -1,8 +1,8 @@
 """The office's writer against the second program, byte for byte.
 
-600 random decks of every version, each typed into a room that just suffices, one a byte longer and one a byte shorter, and with one thing wrong by
-turns, or two, so that the order of the refusals shows, go through a C program linked with libfoambeetle_office.a, with guard pages on either side of
-what it lends. Versions without boards have lists of any boards beside them. What is written reads back as the deck that was typed.
+600 random decks of every version are each written into a room that just suffices, one a byte longer and one a byte shorter, and with one or two things wrong by
+turns, so that the order of the refusals shows. A C program linked with libfoambeetle_office.a makes the calls, with guard pages on either side of what it
+lends. Versions without boards get lists of boards beside them. What is written reads back as the deck that was typed.
 """
 
 import random

@@ -1,10 +1,10 @@
-"""The gate's other tests, as many at a time as there are processors (RT_JOBS, if set), those that take longest first.
+"""The gate's other tests, as many at a time as there are processors (RT_JOBS, if set), the longest first.
 
     python3 -m tests.others LOG [WORD..]    all of them, or those whose command has one of the words
 
-What they start is built before, so that no two of them build in one folder, beside those that start nothing. A test has one line when it has passed; when it has failed all that it
-said stands before that line. While none ends, a line every half minute says what is being worked on. LOG gets all that each said, one test after the
-other. The last line is how long each part of the gate took. The exit status is how many failed.
+What they start is built first, so that no two of them build in one folder; tests that start nothing run meanwhile. A test that passes has one line. A test that
+fails shows all that it said before that line. While none ends, a line every half minute says what is running. LOG gets all that each said, one test after
+the other. The last line is how long each part of the gate took. The exit status is how many failed.
 """
 
 import os
@@ -108,7 +108,7 @@ def failures(tests, log):
         failed += one.status != 0
         built &= one.test is not BUILD or one.status == 0
     if not built:
-        print(f"not run for want of what they start: {len(starting)} tests")
+        print(f"not run, since what they start could not be built: {len(starting)} tests")
         return failed + len(starting)
     for place, one in enumerate(each_ended(starting), 1 + len(first)):
         tell(one, f"{place} of {total}", log)

@@ -1,6 +1,6 @@
 """The Python package against the second program: 300 random files of every version, sound and damaged, by every call for a file; 1,200 decks written;
-600 lists of doubles. Its refusals have words for every number, its calls have their headers' types, a number that C has no room for and a
-library that is not there are told; and pip installs it from its folder."""
+600 lists of doubles. Its refusals have words for every number, and its calls have their headers' types. It reports a number that C has no room for and a
+library that is missing. pip installs it from its folder."""
 
 import ctypes
 import importlib.util
@@ -227,7 +227,7 @@ def missing_told():
 def pip_installs():
     """From its folder, without a network, setuptools or a wheel of anybody's; nothing is left behind in the folder."""
     if importlib.util.find_spec("pip") is None:
-        print("skipped: the package by pip, for want of pip")
+        print("skipped: the package by pip, since there is no pip")
         return True
     place, before = room / "pip", sorted(PACKAGE.rglob("*"))
     shutil.rmtree(place, ignore_errors=True)

@@ -1,9 +1,8 @@
-"""deckmake and deckshow against the second program, what they write and what they say, byte for byte.
+"""deckmake and deckshow against the second program: what they write and what they say, byte for byte.
 
 Texts with a slip at every place of the grammar and a number at every edge, in each version; other blanks and line ends; bytes that are no text; long words
-and long lines, lines across the end of the buffer, a million lines, a hundred thousand faulty ones; input that comes in pieces; lines at random. Decks
-at random, in deckshow's words and in others, there and back: what deckmake makes of what deckshow shows is the file. The texts of samples/ make its deck
-files.
+and long lines, lines across the end of the buffer, a million lines, a hundred thousand faulty ones; input in pieces; lines at random. Random decks go there and
+back, in deckshow's words and in others: deckmake makes the same file of what deckshow shows. The texts of samples/ make its deck files.
 """
 
 import random

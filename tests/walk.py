@@ -1,6 +1,9 @@
-"""docs/GUIDE.md and README.md are true as printed. Every command of the guide is run in its order, in a folder that has samples/, python/ and target/, and prints the
-block behind it; a program in C, C++ or Python is what stands before its command; what stands behind >>> is run by doctest. The guide's list is samples/hold1.txt,
-of which samples/hold1.deck is made, and README.md begins with it and with two lines of its figures, which `make run` prints."""
+"""docs/GUIDE.md and README.md are true as printed.
+
+Every command of the guide is run in order, in a folder that has samples/, python/ and target/, and must print the block behind it. A program in C, C++ or
+Python is the block before its command. doctest runs the lines behind >>>. The guide's list is samples/hold1.txt, which makes samples/hold1.deck. README.md begins
+with it and with two lines of its figures, and `make run` prints them.
+"""
 
 import os
 import platform

@@ -1,6 +1,6 @@
-"""Refusals in words: decklist --words against the second program, and each remedy carried out: the refusal goes.
+"""Refusals in words: decklist --words against the second program, and each remedy tried: the refusal goes.
 
-Every cause of every refusal of a system stands in a deck of its own; what the program says of it is read, done, and the deck is rated again.
+Every cause of every refusal of a system stands in a deck of its own. The test reads what the program says of it, does that, and rates the deck again.
 """
 
 import re

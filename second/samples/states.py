@@ -35,7 +35,7 @@ def wrong_words(rng, deck):
 
 
 def every_kind(version=BOARDS_VERSION):
-    """Twelve fans, three on each of two boards, and every kind over fans 4 to 9 and over the whole deck, a kind that there is not and stretches that there are not."""
+    """Twelve fans, three on each of two boards, and every kind over fans 4 to 9 and over the whole deck, a kind outside 1 to 8 and stretches off the deck."""
     unit = UNITS[version]
     rules = (Rule(1, 2, 0), Rule(2, 4, 0), Rule(3, 1, 2), Rule(4, 2, 0), Rule(5, 2, 0), Rule(6, 2, 3), Rule(7, 2, 3), Rule(8, 2, 4))
     systems = [System(rule, *stretch) for rule in rules for stretch in ((4, 9), (1, 12))]
