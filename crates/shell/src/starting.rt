@@ -48,7 +48,7 @@ fn put_version(program: &[u8], out: &mut [u8; LINE]) -> usize
 {
     let line: &mut [u8] = out;
     let end = text::put(line, 0, program);
-    text::put(line, end, b" 1.1.0\n")
+    text::put(line, end, b" 1.0.0\n")
 }
 
 // Prints that.
