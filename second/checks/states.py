@@ -40,21 +40,29 @@ def by_hand():
     yield deckstate_output(data[:-1], ["board", "x"]), (f"file refused {13}\n", "")
 
 
+FANS = "wanted a fan from 1 to 12, a range as 3-7 or a list as 3,4,9"
+
+
 def words_by_hand():
     deck, plain = every_kind(), every_kind(2)
     plain = read_deck(deck_bytes(plain))
     yield failed_fans(plain, []), set()
     yield failed_fans(plain, ["12", "012", "1"]), {1, 12}
-    yield failed_fans(plain, ["1", "13", "0"]), Wrong(2, 12)
-    yield failed_fans(plain, ["board", "1"]), Wrong(1, 12)
+    yield failed_fans(plain, ["3-7", "9,11-12", "5"]), {3, 4, 5, 6, 7, 9, 11, 12}
+    yield failed_fans(plain, ["1-12"]), set(range(1, 13))
+    yield failed_fans(plain, ["2,2-2,002"]), {2}
+    yield failed_fans(plain, ["1", "13", "0"]), Wrong(2, "13", FANS)
+    yield failed_fans(plain, ["board", "1"]), Wrong(1, "board", "this deck has no boards")
     yield failed_fans(deck, ["board", "1"]), {1, 2, 3}
-    yield failed_fans(deck, ["3", "board", "3", "x"]), Wrong(3, 2)
-    yield failed_fans(deck, ["board", "board"]), Wrong(2, 2)
-    yield failed_fans(deck, ["1", "board"]), Wrong(2, 12)
+    yield failed_fans(deck, ["3", "board", "3", "x"]), Wrong(3, "3", "wanted a board from 1 to 2")
+    yield failed_fans(deck, ["board", "1-2"]), Wrong(2, "1-2", "wanted a board from 1 to 2")
+    yield failed_fans(deck, ["board", "board"]), Wrong(2, "board", "wanted a board from 1 to 2")
+    yield failed_fans(deck, ["1", "board"]), Wrong(2, "board", "wanted the number of a board from 1 to 2 behind it")
     yield [number_of(word) for word in ("7", "07", "0000000000000007", "00000000000000007")], [7, 7, 7, 0]
     for word in NO_NUMBERS:
-        yield failed_fans(deck, [word]), Wrong(1, 12)
-    yield deckstate_output(deck_bytes(deck), ["9", "x"]), ("", "deckstate: word 2 is no number from 1 to 12\n")
+        yield failed_fans(deck, [word]), Wrong(1, word, FANS)
+    yield deckstate_output(deck_bytes(deck), ["9", "\u0661"]), ("", f'deckstate: word 2, "??": {FANS}\n')
+    yield deckstate_output(deck_bytes(deck), ["x" * 61]), ("", f'deckstate: word 1, "{"x" * 60}": {FANS}\n')
 
 
 def windows_on_deck(rule, a, b):

@@ -9,20 +9,37 @@ from second.model.deck_file import read_deck
 from second.model.refusals import bad_kind, bad_stretch
 from second.model.terms import WORKS, Refusal
 
-LONGEST_WORD = 16  # bytes; a longer word is no number
+LONGEST_NUMBER = 16  # digits; more are no number
+LONGEST_WORD = 256  # bytes; a longer word names nothing
+SHOWN = 60  # bytes of a wrong word
 BOARD = "board"  # "A file of version 3 also takes `board B` words"
 
 
 class Wrong(NamedTuple):
-    """The first wrong word, counted from 1, and the largest number that it could have been."""
+    """The first wrong word, counted from 1, as it is shown, and what was wanted."""
 
-    word: int
-    most: int
+    at: int
+    word: str
+    wanted: str
 
 
 def number_of(word):
     """The number that a word of digits spells; 0 for any other word."""
-    return int(word) if re.fullmatch(f"[0-9]{{1,{LONGEST_WORD}}}", word) else 0
+    return int(word) if re.fullmatch(f"[0-9]{{1,{LONGEST_NUMBER}}}", word) else 0
+
+
+def named_fans(word, n):
+    """The fans that a word names: a number, a range as 3-7, or several of these with commas between them; None where a part is none of these."""
+    if len(word.encode()) > LONGEST_WORD:
+        return None
+    fans = set()
+    for part in word.split(","):
+        first, minus, last = part.partition("-")
+        low, high = number_of(first), number_of(last if minus else first)
+        if not 1 <= low <= high <= n:
+            return None
+        fans.update(range(low, high + 1))
+    return fans
 
 
 def failed_fans(deck, words):
@@ -30,17 +47,28 @@ def failed_fans(deck, words):
     n, g = len(deck.survivals), len(deck.boards.survivals)
     failed, boards, due = set(), set(), False
     for at, word in enumerate(words, 1):
-        if g and word == BOARD and not due:
+        if due:
+            if not 1 <= number_of(word) <= g:
+                return Wrong(at, word, f"wanted a board from 1 to {g}")
+            boards.add(number_of(word))
+            due = False
+        elif word == BOARD:
+            if not g:
+                return Wrong(at, word, "this deck has no boards")
             due = True
-            continue
-        number, most = number_of(word), g if due else n
-        if not 1 <= number <= most:
-            return Wrong(at, most)
-        (boards if due else failed).add(number)
-        due = False
-    if due:  # `board` itself is no number
-        return Wrong(len(words), n)
+        else:
+            fans = named_fans(word, n)
+            if fans is None:
+                return Wrong(at, word, f"wanted a fan from 1 to {n}, a range as 3-7 or a list as 3,4,9")
+            failed |= fans
+    if due:
+        return Wrong(len(words), words[-1], f"wanted the number of a board from 1 to {g} behind it")
     return failed | {fan for fan, board in enumerate(deck.boards.of_fans, 1) if board in boards}
+
+
+def shown(word):
+    """The front of a word; what is no plain character is a question mark."""
+    return "".join(chr(byte) if 32 <= byte <= 126 else "?" for byte in word.encode()[:SHOWN])
 
 
 def system_verdict(deck, system, failed):
@@ -69,6 +97,6 @@ def deckstate_output(data, words=()):
         return f"file refused {deck.number}\n", ""
     failed = failed_fans(deck, words)
     if isinstance(failed, Wrong):
-        return "", f"deckstate: word {failed.word} is no number from 1 to {failed.most}\n"
+        return "", f'deckstate: word {failed.at}, "{shown(failed.word)}": {failed.wanted}\n'
     lines = [system_line(place, system, system_verdict(deck, system, failed)) for place, system in enumerate(deck.systems, 1)]
     return "".join(line + "\n" for line in lines), ""

@@ -4,17 +4,24 @@ from second.model.deck_file import deck_bytes
 from second.model.states import BOARD
 from second.model.terms import BOARDS_VERSION, NO_KIND, UNITS, Boards, Deck, Rule, System
 
-# No deck takes any of these as a fan's number: no digits, no number, too large, too long.
+# No deck takes any of these as fans: no digits, no number, too large, too long, a range that runs backwards or nowhere, a list with a gap.
 NO_NUMBERS = (
-    "", "0", "00", "65", "99", "256", "257", "-1", "+1", "1.", "1 ", " 1", "1,2", "one", "x", "0x1", "1e0", "--", "board1", "Board", "boar", "boards", "\n", "1\n",
+    "", "0", "00", "65", "99", "256", "257", "-1", "+1", "1.", "1 ", " 1", "2-1", "0-1", "1-", "1-65", "1-2-3", "1--2", ",", "1,", ",1", "1,,2", "1,0", "1;2", "1, 2", "one", "x", "0x1", "1e0", "--", "board1", "Board", "boar", "boards", "\n", "1\n",
     "/", ":", "1/", ":1", "18446744073709551617", "4294967297", "9999999999999999", "00000000000000001", "x" * 5000, "\u0661",
 )
 
 
+def fan_part(rng, n):
+    """A fan of n, or a range of them, now and then with zeros before the digits."""
+    low, high = sorted(rng.randint(1, n) for _ in range(2))
+    numbers = rng.choice(((low,), (low,), (high,), (low, high), (low, low)))
+    return "-".join(str(fan).zfill(rng.choice((1, 1, 1, 2, 5, 16))) for fan in numbers)
+
+
 def fan_words(rng, n):
-    """Some fans of n, some of them twice, now and then with zeros before their digits."""
-    fans = [rng.randint(1, n) for _ in range(rng.choice((0, 1, 2, 3, n // 3, n // 2, n, 2 * n)))]
-    return [str(fan).zfill(rng.choice((1, 1, 1, 2, 5, 16))) for fan in fans]
+    """Some fans of n, some of them twice: one, a range or a list of both in a word."""
+    words = [rng.choice((1, 1, 1, 2, 3, 5)) for _ in range(rng.choice((0, 1, 2, 3, n // 3, n // 2, n)))]
+    return [",".join(fan_part(rng, n) for _ in range(parts)) for parts in words]
 
 
 def right_words(rng, deck):
