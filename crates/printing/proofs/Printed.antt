@@ -56,7 +56,7 @@ module _ (words : Bool) (body : List ℕ → List ℕ) {bytes : List ℕ} {r : O
   body-worded none added = rw (unless-none (fileRefusal bytes) (fileWorded words bytes) (body bytes) (opened-accepted opens none)) added
 
 module _ (words : Bool) (body : List ℕ → List ℕ) {buffer : List ℕ} {filled : ℕ} {file : List ℕ} (is : Fronted buffer filled file) where
-  same-worded : (input : List ℕ) → Front input buffer filled → (r : ℕ) → fileRefusal file ≡ r → wordedPrint words body file ≡ wordedPrint words body input
+  pub same-worded : (input : List ℕ) → Front input buffer filled → (r : ℕ) → fileRefusal file ≡ r → wordedPrint words body file ≡ wordedPrint words body input
   unfolding wordedPrint
   same-worded input front zero none = ap (wordedPrint words body) (is .whole input front none)
   same-worded input front (suc r) e =

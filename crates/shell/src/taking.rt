@@ -1,0 +1,75 @@
+// What reads take of an input. Only this file can make a `Taken`, so that its count is what reads answered, added up,
+// and its end one that a read met.
+ghost use mathlib.Core.Path.{_≡_};
+ghost use Prim.Native.Nat.{_+_, _<_, _^_};
+ghost use lib.ListN.{length};
+ghost use Rattle.shell.specs.Taken.{nothing, goesOn, hasFailed, Took};
+use crate::reading;
+use crate::reading::Input;
+
+// Bytes were taken, or none yet; a read met the input's end; a read failed.
+const GOING: u64 = 0;
+
+const ENDED: u64 = 1;
+
+const FAILED: u64 = 2;
+
+pub struct Taken {
+    count: usize,
+    state: u64,
+}
+
+// Before any read.
+pub fn nothing() -> Taken
+    ensures { λ r. ⌜ r ≡ nothing ⌝ }
+{
+    Taken {
+        count: 0,
+        state: GOING,
+    }
+}
+
+// How many bytes were taken.
+pub fn count(taken: Taken) -> usize
+    ensures { λ r. ⌜ r ≡ taken .count ⌝ }
+{
+    taken.count
+}
+
+// Has no read met the end or failed?
+pub fn goes_on(taken: Taken) -> bool
+    ensures { λ r. ⌜ r ≡ goesOn taken ⌝ }
+{
+    taken.state == GOING
+}
+
+// Has a read failed?
+pub fn has_failed(taken: Taken) -> bool
+    ensures { λ r. ⌜ r ≡ hasFailed taken ⌝ }
+{
+    taken.state == FAILED
+}
+
+// One read more, into the front of a buffer that takes some: a read of nothing is the input's end.
+pub fn take(fd: i32, buffer: &mut [u8], taken: Taken) -> Taken
+    requires some { ⌜ 0 < length (now buffer) ⌝ }
+    requires few { ⌜ taken .count + length (now buffer) < 2 ^ 64 ⌝ }
+    ensures { λ r. ⌜ Took (length (now (buffer .exit))) taken r ⌝ }
+{
+    let Input::Filled(more) = reading::read_some(fd, buffer) else {
+        return Taken {
+            count: taken.count,
+            state: FAILED,
+        };
+    };
+    if more == 0 {
+        return Taken {
+            count: taken.count,
+            state: ENDED,
+        };
+    }
+    Taken {
+        count: taken.count + more,
+        state: GOING,
+    }
+}
