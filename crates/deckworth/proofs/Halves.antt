@@ -31,11 +31,24 @@ module _ {out after : List ℕ} {end : ℕ} where
     stands = λ i. one .stands i ++ two .stands i;
   }
 
+-- a text that is the same
+pub two-same : {text other out more : List ℕ} {end stop : ℕ} → other ≡ text → InTwo text out end more stop → InTwo other out end more stop
+two-same same two = record { first = two .first; second = two .second; stands = two .stands ∙ sym same }
+
+-- the lines of the systems from the first on
+pub from-first : (words : Bool) (bytes : List ℕ) (m : ℕ) → someText words bytes 0 m ≡ linesText m (fansText words bytes)
+from-first words bytes m = λ i. linesText m (λ k. fansText words bytes (from-0 k i))
+  where
+    from-0 : (k : ℕ) → 0 + k ≡ k
+    from-0 k = omega arith
+
 -- the lines of both halves
 pub halves : (words : Bool) (bytes : List ℕ) (m : ℕ) → half ≤ m → someText words bytes 0 half ++ someText words bytes half (m - half) ≡ linesText m (fansText words bytes)
 halves words bytes m more =
     let whole : half + (m - half) ≡ m = omega (arith, more) in
-    lines-split half (m - half) (fansText words bytes) ∙ ap (λ k. linesText k (fansText words bytes)) whole
+    ap (λ t. t ++ someText words bytes half (m - half)) (from-first words bytes half)
+    ∙ lines-split half (m - half) (fansText words bytes)
+    ∙ ap (λ k. linesText k (fansText words bytes)) whole
 
 -- for the whole input
 pub whole-in-two : (words : Bool) {buffer : List ℕ} {filled : ℕ} {file : List ℕ} → Fronted buffer filled file → {out : List ℕ} {end : ℕ} {more : List ℕ} {stop : ℕ}

@@ -23,7 +23,7 @@ lines-short room (suc k) line h =
 -- the lines of so many things and of so many more are those of them all
 pub lines-split : (a b : ℕ) (line : ℕ → List ℕ) → linesText a line ++ linesText b (λ k. line (a + k)) ≡ linesText (a + b) line
 unfolding linesText
-lines-split a zero line = append-nil (linesText a line)
+lines-split a zero line = let same : a + 0 ≡ a = omega arith in rw same (append-nil (linesText a line))
 lines-split a (suc b) line =
     let next : a + suc b ≡ suc (a + b) = omega arith in
     rw next (sym (append-assoc (linesText a line) (linesText b (λ k. line (a + k))) (line (a + b))) ∙ ap (λ t. t ++ line (a + b)) (lines-split a b line))

@@ -44,6 +44,10 @@ module _ (body : List ℕ → List ℕ) {buffer : List ℕ} {filled : ℕ} {file
   }
 
 -- the same where words are asked for: what opening a file answers, and the whole input
+pub print-worded : (words : Bool) (body : List ℕ → List ℕ) {bytes : List ℕ} {r : Opened} → Opens bytes r → r .refusal ≡ 0 → wordedPrint words body bytes ≡ body bytes
+unfolding wordedPrint
+print-worded words body {bytes} opens none = unless-none (fileRefusal bytes) (fileWorded words bytes) (body bytes) (opened-accepted opens none)
+
 module _ (words : Bool) (body : List ℕ → List ℕ) {bytes : List ℕ} {r : Opened} (opens : Opens bytes r) {out after : List ℕ} {end : ℕ} where
   pub refused-worded : (r .refusal ≡ 0 → ⊥) → Added (fileWorded words bytes (r .refusal)) out 0 after end → Added (wordedPrint words body bytes) out 0 after end
   unfolding wordedPrint
@@ -52,8 +56,7 @@ module _ (words : Bool) (body : List ℕ → List ℕ) {bytes : List ℕ} {r : O
       rw (unless-some (fileRefusal bytes) (fileWorded words bytes) (body bytes) (λ none. some (e ∙ none)), ← e) added
 
   pub body-worded : r .refusal ≡ 0 → Added (body bytes) out 0 after end → Added (wordedPrint words body bytes) out 0 after end
-  unfolding wordedPrint
-  body-worded none added = rw (unless-none (fileRefusal bytes) (fileWorded words bytes) (body bytes) (opened-accepted opens none)) added
+  body-worded none added = rw (print-worded words body opens none) added
 
 module _ (words : Bool) (body : List ℕ → List ℕ) {buffer : List ℕ} {filled : ℕ} {file : List ℕ} (is : Fronted buffer filled file) where
   pub same-worded : (input : List ℕ) → Front input buffer filled → (r : ℕ) → fileRefusal file ≡ r → wordedPrint words body file ≡ wordedPrint words body input

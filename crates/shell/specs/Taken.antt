@@ -1,6 +1,7 @@
 -- What reads have taken of an input: how many bytes in all, and whether a read met the input's end or failed.
 use mathlib.Core.Path.{_≡_}
 use mathlib.Core.Bool.{Bool, true, false}
+use mathlib.Core.Logic.{_⊎_}
 use Prim.Native.Nat.{ℕ, _+_, _^_, _≤_, _<_}
 use lib.Dec.{eqb}
 use Rattle.shell.specs.declared.taking.Taken.{Taken}
@@ -8,6 +9,9 @@ use Rattle.shell.specs.declared.reading.Whole.{Whole}
 
 abbrev pub nothing : Taken
 nothing = record { count = 0; state = 0 }
+
+abbrev pub unopened : Taken
+unopened = record { count = 0; state = 2 }
 
 -- no read met the end or failed
 abbrev pub goesOn : Taken → Bool
@@ -35,12 +39,11 @@ pub record Counted (r : Taken) : Type 0 where
   pub few : r .count < 2 ^ 63
   pub stops : goesOn r ≡ true → mostCounted ≤ r .count
 
--- the front of an input is in a buffer; what follows a full one is counted, and nothing follows another
-pub record Fronts (most : ℕ) (r : Whole) : Type 0 where
-  pub front : Filled most (r .front)
-  pub rest : r .rest .count < 2 ^ 63
-
+-- the front of an input is in a buffer; what follows a full one is counted, and nothing else is read
 pub record Through (most : ℕ) (r : Whole) : Type 0 where
   pub front : Filled most (r .front)
-  pub rest : goesOn (r .front) ≡ true → Counted (r .rest)
-  pub none : goesOn (r .front) ≡ false → r .rest ≡ nothing
+  pub rest : Counted (r .rest) ⊎ (r .rest ≡ nothing)
+  pub read : goesOn (r .front) ≡ true → Counted (r .rest)
+
+abbrev pub unopenedWhole : Whole
+unopenedWhole = record { front = unopened; rest = nothing }

@@ -3,7 +3,7 @@
 ghost use mathlib.Core.Path.{_≡_};
 ghost use Prim.Native.Nat.{_+_, _<_, _^_};
 ghost use lib.ListN.{length};
-ghost use Rattle.shell.specs.Taken.{nothing, goesOn, hasFailed, Took};
+ghost use Rattle.shell.specs.Taken.{nothing, unopened, goesOn, hasFailed, Took};
 use crate::reading;
 use crate::reading::Input;
 
@@ -26,6 +26,16 @@ pub fn nothing() -> Taken
     Taken {
         count: 0,
         state: GOING,
+    }
+}
+
+// Of an input that could not be opened.
+pub fn unopened() -> Taken
+    ensures { λ r. ⌜ r ≡ unopened ⌝ }
+{
+    Taken {
+        count: 0,
+        state: FAILED,
     }
 }
 

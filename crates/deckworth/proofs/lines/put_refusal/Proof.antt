@@ -7,7 +7,7 @@ use Rattle.deckworth.proofs.lines.put_refusal.Tie as tie
 
 add-fan-why : tie.Need-add-fan-why
 add-fan-why c =
-    let start = c .before in
+    let start = c .before .before in
     omega (arith, start .pre .1 .0, few-fans (start .pre .0 .headed))
 
 fan-why-requires : tie.Need-fan-why-requires

@@ -30,7 +30,7 @@ put-requires c κs =
     let ends = known .worth .given .0 in
     let pair = c .before .before .before .before .put-signed-pair in
     let reach = signed-pair-reach (text " lower ") (held (ends .0)) (text " upper ") (held (ends .1 .0)) (pair .ensures) in
-    omega (arith, known .before .before .before .pre .1 .1, pair .kept, reach)
+    omega (arith, known .before .before .before .before .pre .1 .1, pair .kept, reach)
 
 enum-known-worth-2 : tie.Need-enum-known-worth-2
 enum-known-worth-2 c = search needs
@@ -51,7 +51,7 @@ returns c =
     let upper = toZ-ofZ w64 (is .0 .1 .0) (record { sfits = fits .1 .0 .1 }) in
     let ends = rw (lower, upper) at (pair .ensures) in
     let reach = signed-pair-reach (text " lower ") (is .0 .0) (text " upper ") (is .0 .1 .0) ends in
-    let room = told .before .before .before .before .pre .1 .1 in
+    let room = told .before .before .before .before .before .pre .1 .1 in
     rw (is .1) (added-more ends (put-added (omega (arith, room, pair .kept, reach)) (c .before .before .put .ensures)))
 
 same-length-2 : tie.Need-same-length-2
