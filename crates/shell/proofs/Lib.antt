@@ -1,2 +1,4 @@
--- What ends within a buffer.
+-- The laws of what is read, and of what is said.
 pub mod Counted
+mod Took
+mod Texts

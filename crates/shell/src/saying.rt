@@ -52,8 +52,8 @@ fn plain(byte: u8) -> u8
 }
 
 // Puts the bytes of a word as they are shown.
-fn put_plain(word: &[u8], out: &mut [u8; SHOWN]) -> usize
-    requires { ⌜ length (now word) ≤ mostShown ⌝ }
+fn put_plain(word: &[u8], out: &mut [u8]) -> usize
+    requires { ⌜ length (now word) ≤ length (now out) ⌝ }
     ensures { λ r. ⌜ Added (map plain (now (word .entry))) (now (out .entry)) 0 (now (out .exit)) r ⌝ }
 {
     let mut k: usize = 0;
@@ -65,7 +65,8 @@ fn put_plain(word: &[u8], out: &mut [u8; SHOWN]) -> usize
 }
 
 // Puts the front of a word so.
-fn put_shown(word: &[u8], out: &mut [u8; SHOWN]) -> usize
+fn put_shown(word: &[u8], out: &mut [u8]) -> usize
+    requires { ⌜ mostShown ≤ length (now out) ⌝ }
     ensures { λ r. ⌜ Added (shown (now (word .entry))) (now (out .entry)) 0 (now (out .exit)) r ⌝ }
 {
     if word.len() > SHOWN {

@@ -1,0 +1,80 @@
+-- Reads one after another: what they have taken is within the buffer, or counted, and they go on until one meets the end or fails, the buffer is full or the
+-- count is at the most. Assumes nothing.
+use mathlib.Core.Path.{_≡_, refl, sym, ap, _∙_}
+use mathlib.Core.Bool.{Bool, true, false, true≢false}
+use mathlib.Core.Logic.{_⊎_, inl, inr}
+use Prim.Native.Nat.{ℕ, _+_, _^_, _≤_, _<_}
+use native.Mathlib.Omega.{arith}
+use Rattle.shell.specs.declared.taking.Taken.{Taken}
+use Rattle.shell.specs.declared.reading.Whole.{Whole}
+use Rattle.shell.specs.Taken.{nothing, unopened, goesOn, Took, Filled, mostCounted, Counted, Through, unopenedWhole}
+
+-- a read that fails, that brings nothing, and that brings some
+never : {A : Type 0} {b : Bool} → b ≡ false → b ≡ true → A
+never off on = absurd (true≢false (sym on ∙ off))
+
+always : {A : Type 0} {b : Bool} → b ≡ true → b ≡ false → A
+always on off = absurd (true≢false (sym on ∙ off))
+
+pub took-failed : (t : Taken) (most : ℕ) → Took most t (record { count = t .count; state = 2 })
+took-failed t most = record { few = omega arith; some = λ e. never refl e; none = λ e. refl }
+
+pub took-ended : (t : Taken) (most : ℕ) → Took most t (record { count = t .count; state = 1 })
+took-ended t most = record { few = omega arith; some = λ e. never refl e; none = λ e. refl }
+
+pub took-some : (t : Taken) {most more : ℕ} → more ≤ most → (more ≡ 0 → ⊥) → Took most t (record { count = t .count + more; state = 0 })
+took-some t {most} {more} few some = record { few = omega (arith, few); some = λ e. omega (arith, some); none = λ e. always refl e }
+
+-- a buffer of so many bytes being filled
+pub record Filling (most size : ℕ) (t : Taken) (filled : ℕ) : Type 0 where
+  pub same : t .count ≡ filled
+  pub within : filled ≤ most
+  pub kept : size ≡ most
+  pub going : goesOn t ≡ true
+
+pub filling-none : (most : ℕ) {t : Taken} → t ≡ nothing → Filling most most t 0
+filling-none most e = record { same = ap (λ t. t .count) e; within = omega arith; kept = refl; going = ap goesOn e }
+
+module _ {most size : ℕ} {t : Taken} {filled : ℕ} (f : Filling most size t filled) where
+  pub filling-ends : {left last : ℕ} {r : Taken} → last ≡ most → Took left t r → goesOn r ≡ false → Filled last r
+  filling-ends same took ended = record { within = omega (arith, took .none ended, f .same, f .within, same); stops = λ e. never ended e }
+
+  pub filling-more : {left size' count : ℕ} {r : Taken} → Took left t r → goesOn r ≡ true → filled + left ≤ most → size' ≡ most → count ≡ r .count → Filling most size' r count
+  filling-more took going room kept is = record { same = sym is; within = omega (arith, took .few, f .same, room, is); kept = kept; going = going }
+
+  pub filling-full : size ≤ filled → Filled size t
+  filling-full full = record { within = omega (arith, f .same, f .within, f .kept); stops = λ e. omega (arith, f .same, f .within, f .kept, full) }
+
+-- bytes being counted, through a buffer of 4,096
+pub record Counting (size : ℕ) (t : Taken) (count : ℕ) : Type 0 where
+  pub same : t .count ≡ count
+  pub few : count < 2 ^ 63
+  pub room : size ≡ 4096
+  pub going : goesOn t ≡ true
+
+pub counting-none : (size : ℕ) → size ≡ 4096 → {t : Taken} → t ≡ nothing → Counting size t 0
+counting-none size room e = record { same = ap (λ t. t .count) e; few = omega arith; room = room; going = ap goesOn e }
+
+module _ {size : ℕ} {t : Taken} {count : ℕ} (k : Counting size t count) where
+  pub counting-ends : {left : ℕ} {r : Taken} → count < mostCounted → Took left t r → goesOn r ≡ false → Counted r
+  counting-ends below took ended = record { few = omega (arith, took .none ended, k .same, k .few); stops = λ e. never ended e }
+
+  pub counting-more : {left size' next : ℕ} {r : Taken} → count < mostCounted → Took left t r → goesOn r ≡ true → left ≤ 4096 → size' ≡ 4096 → next ≡ r .count → Counting size' r next
+  counting-more below took going few room is = record { same = sym is; few = omega (arith, took .few, k .same, below, few, is); room = room; going = going }
+
+  pub counting-full : mostCounted ≤ count → Counted t
+  counting-full full = record { few = omega (arith, k .same, k .few); stops = λ e. omega (arith, k .same, full) }
+
+-- an input read through
+module _ {most : ℕ} {front rest : Taken} (filled : Filled most front) where
+  pub through-front : goesOn front ≡ false → rest ≡ nothing → Through most (record { front = front; rest = rest })
+  through-front ended none = record { front = filled; rest = inr none; read = λ e. never ended e }
+
+  pub through-rest : Counted rest → Through most (record { front = front; rest = rest })
+  through-rest counted = record { front = filled; rest = inl counted; read = λ e. counted }
+
+pub unopened-filled : (most : ℕ) → Filled most unopened
+unopened-filled most = record { within = omega arith; stops = λ e. never refl e }
+
+pub unopened-through : (most : ℕ) → Through most unopenedWhole
+unopened-through most = record { front = unopened-filled most; rest = inr refl; read = λ e. never refl e }
