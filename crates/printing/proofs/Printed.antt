@@ -4,6 +4,8 @@ use mathlib.Core.Bool.{Bool}
 use mathlib.Core.List.{List, _++_}
 use Prim.Native.Nat.{ℕ, zero, suc}
 use native.Mathlib.Omega.{arith}
+use lib.IntN.{ℤ}
+use Rattle.shell.specs.Status.{statusOf, OrFailed}
 use Rattle.rules.specs.File.{fileRefusal}
 use Rattle.rules.proofs.Unless.{unless-some, unless-none}
 use Rattle.text.specs.Decimal.{text}
@@ -13,7 +15,7 @@ use Rattle.deck.specs.declared.Opened.{Opened}
 use Rattle.deck.specs.Outcome.{Opens}
 use Rattle.deck.proofs.Outcome.{opened-accepted}
 use Rattle.printing.specs.Lines.{fileText, printText, wordedText, fileWorded, wordedPrint}
-use Rattle.printing.specs.Front.{Front, Fronted, WholePrinted, WholeWorded}
+use Rattle.printing.specs.Front.{Front, Fronted, WholePrinted, WholeWorded, WholeRefused, WholeEnds}
 
 -- by what opening a file answers
 module _ (body : List ℕ → List ℕ) {bytes : List ℕ} {r : Opened} (opens : Opens bytes r) {out after : List ℕ} {end : ℕ} where
@@ -89,3 +91,7 @@ opened-whole {file} {r} is opens input front = go (fileRefusal file) (λ x. file
           refusal = opens .refusal ∙ same;
           head = opens .head ∙ unless-some (fileRefusal file) _ _ some ∙ sym (unless-some (fileRefusal input) _ _ (λ none. some (same ∙ none)));
         }
+
+-- a status by whether the front is refused is one by whether the input is
+pub ends-refused : {buffer : List ℕ} {filled : ℕ} {b tested : Bool} {r : ℤ} → WholeRefused buffer filled b → b ≡ tested → OrFailed (statusOf tested) r → WholeEnds buffer filled r
+ends-refused tells is status = record { ends = λ input front. rw (sym (tells .tells input front) ∙ is) status }

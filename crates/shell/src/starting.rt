@@ -94,18 +94,19 @@ pub fn begin(program: &[u8], synopsis: &[u8], table: &[u8], most: u64, input: &m
     read_at(program, asked, asked.first, input)
 }
 
-// Writes a text to standard output, and answers the program's status: whether the text tells a refusal.
-pub fn print(program: &[u8], text: &[u8], refused: bool) -> i32
+// Writes a text to the output at a place of the words, 0 for standard output, and answers the program's status: whether
+// the text tells a refusal.
+pub fn print(program: &[u8], place: usize, text: &[u8], refused: bool) -> i32
     ensures { λ r. ⌜ OrFailed (statusOf refused) r ⌝ }
     ensures { λ r. ⌜ Status r ⌝ }
 {
-    if !writing::write_out(program, 0, text) {
+    if !writing::write_out(program, place, text) {
         return crate::FAILED;
     }
     if refused { crate::REFUSED } else { crate::DONE }
 }
 
-// The same of a text that stands in two buffers.
+// The same of a text that stands in two buffers, to standard output.
 pub fn print_two(program: &[u8], text: &[u8], more: &[u8], refused: bool) -> i32
     ensures { λ r. ⌜ OrFailed (statusOf refused) r ⌝ }
     ensures { λ r. ⌜ Status r ⌝ }
@@ -113,7 +114,7 @@ pub fn print_two(program: &[u8], text: &[u8], more: &[u8], refused: bool) -> i32
     if !writing::write_out(program, 0, text) {
         return crate::FAILED;
     }
-    print(program, more, refused)
+    print(program, 0, more, refused)
 }
 
 // Answers words that ask for no work: how the program is started and its version on standard output, which word is
@@ -129,8 +130,8 @@ fn answer(program: &[u8], synopsis: &[u8], asked: Asked) -> i32
     let end = saying::put_answer(program, synopsis, asked.task, &word[..length], &mut out);
     let task = asked.task;
     match task {
-        options::HELP => print(program, &out[..end], false),
-        options::VERSION => print(program, &out[..end], false),
+        options::HELP => print(program, 0, &out[..end], false),
+        options::VERSION => print(program, 0, &out[..end], false),
         _ => {
             writing::say(&out[..end]);
             crate::FAILED
