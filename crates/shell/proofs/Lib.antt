@@ -1,4 +1,3 @@
--- The laws of what is read, and of what is said.
+-- The laws of what is read.
 pub mod Counted
 mod Took
-mod Texts

@@ -2,7 +2,6 @@
 -- count is at the most. Assumes nothing.
 use mathlib.Core.Path.{_≡_, refl, sym, ap, _∙_}
 use mathlib.Core.Bool.{Bool, true, false, true≢false}
-use mathlib.Core.Logic.{_⊎_, inl, inr}
 use Prim.Native.Nat.{ℕ, _+_, _^_, _≤_, _<_}
 use native.Mathlib.Omega.{arith}
 use Rattle.shell.specs.declared.taking.Taken.{Taken}
@@ -68,13 +67,18 @@ module _ {size : ℕ} {t : Taken} {count : ℕ} (k : Counting size t count) wher
 -- an input read through
 module _ {most : ℕ} {front rest : Taken} (filled : Filled most front) where
   pub through-front : goesOn front ≡ false → rest ≡ nothing → Through most (record { front = front; rest = rest })
-  through-front ended none = record { front = filled; rest = inr none; read = λ e. never ended e }
+  through-front ended none = record {
+    front = filled;
+    few = omega (arith, ap (λ t. t .count) none);
+    full = λ e. never ended e;
+    ended = λ e. none;
+  }
 
-  pub through-rest : Counted rest → Through most (record { front = front; rest = rest })
-  through-rest counted = record { front = filled; rest = inl counted; read = λ e. counted }
+  pub through-rest : goesOn front ≡ true → Counted rest → Through most (record { front = front; rest = rest })
+  through-rest going counted = record { front = filled; few = counted .few; full = λ e. counted; ended = λ e. always going e }
 
 pub unopened-filled : (most : ℕ) → Filled most unopened
 unopened-filled most = record { within = omega arith; stops = λ e. never refl e }
 
 pub unopened-through : (most : ℕ) → Through most unopenedWhole
-unopened-through most = record { front = unopened-filled most; rest = inr refl; read = λ e. never refl e }
+unopened-through most = record { front = unopened-filled most; few = omega arith; full = λ e. never refl e; ended = λ e. refl }

@@ -2,4 +2,3 @@
 pub mod Edges
 pub mod Taken
 pub mod Status
-pub mod Said

@@ -1,7 +1,6 @@
 -- What reads have taken of an input: how many bytes in all, and whether a read met the input's end or failed.
 use mathlib.Core.Path.{_≡_}
 use mathlib.Core.Bool.{Bool, true, false}
-use mathlib.Core.Logic.{_⊎_}
 use Prim.Native.Nat.{ℕ, _+_, _^_, _≤_, _<_}
 use lib.Dec.{eqb}
 use Rattle.shell.specs.declared.taking.Taken.{Taken}
@@ -42,8 +41,9 @@ pub record Counted (r : Taken) : Type 0 where
 -- the front of an input is in a buffer; what follows a full one is counted, and nothing else is read
 pub record Through (most : ℕ) (r : Whole) : Type 0 where
   pub front : Filled most (r .front)
-  pub rest : Counted (r .rest) ⊎ (r .rest ≡ nothing)
-  pub read : goesOn (r .front) ≡ true → Counted (r .rest)
+  pub few : r .rest .count < 2 ^ 63
+  pub full : goesOn (r .front) ≡ true → Counted (r .rest)
+  pub ended : goesOn (r .front) ≡ false → r .rest ≡ nothing
 
 abbrev pub unopenedWhole : Whole
 unopenedWhole = record { front = unopened; rest = nothing }

@@ -2,7 +2,6 @@
 // standard error what failed.
 pub mod names; // names.rt: what a message names
 pub mod reading; // reading.rt: its input
-pub mod saying; // saying.rt: what it says where its words ask for no work
 pub mod sources; // sources.rt: several inputs as one
 pub mod starting; // starting.rt: how it starts
 pub mod taking; // taking.rt: what reads take of it

@@ -127,6 +127,29 @@ fn read_through(fd: i32, label: &[u8], buffer: &mut [u8]) -> Whole
     Whole { front, rest }
 }
 
+// How many bytes of it are in the buffer.
+pub fn filled(whole: Whole) -> usize
+    ensures { λ r. ⌜ r ≡ whole .front .count ⌝ }
+{
+    let front = whole.front;
+    taking::count(front)
+}
+
+// How many follow.
+pub fn rest(whole: Whole) -> u64
+    ensures { λ r. ⌜ r ≡ whole .rest .count ⌝ }
+{
+    let rest = whole.rest;
+    taking::count(rest) as u64
+}
+
+// Has a read of it failed?
+pub fn has_failed(whole: Whole) -> bool {
+    let front = whole.front;
+    let rest = whole.rest;
+    taking::has_failed(front) || taking::has_failed(rest)
+}
+
 // An input that could not be opened.
 fn unopened() -> Whole
     ensures { λ r. ⌜ r ≡ unopenedWhole ⌝ }

@@ -2,10 +2,9 @@
 ghost use Prim.Native.Nat.{_≤_, _*_};
 ghost use lib.ListN.{length};
 ghost use Rattle.options.specs.Words.{rowLength, mostOptions};
-ghost use Rattle.shell.specs.Said.{nameRoom, synopsisRoom};
+ghost use Rattle.saying.specs.Said.{nameRoom, synopsisRoom};
 ghost use Rattle.shell.specs.Status.{statusOf, answerStatus, Handed, OrFailed, Status, Begins};
 use crate::reading;
-use crate::saying;
 use crate::taking;
 use crate::writing;
 use options::Asked;

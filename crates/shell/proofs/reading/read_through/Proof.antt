@@ -33,9 +33,10 @@ same-length-2 c = search needs
 
 returns-2 : tie.Need-returns-2
 returns-2 c =
-    let to-read = c .before .before .before .before in
-    let read = to-read .before in
-    through-rest (read .fill .ensures) (c .count-rest .ensures)
+    let at-test = c .before in
+    let read = at-test .before .before .before .before in
+    let going = sym (at-test .before .goes-on .ensures) ∙ not-false _ (at-test .if1 .left) in
+    through-rest (read .fill .ensures) going (c .count-rest .ensures)
 
 pub read-through-spec : {M : Type 1} → statement M
 read-through-spec =

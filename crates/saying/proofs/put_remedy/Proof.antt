@@ -1,10 +1,10 @@
--- `saying::put_remedy` meets its contract, by what is wrong. Assumes nothing.
+-- `put_remedy` meets its contract, by what is wrong. Assumes nothing.
 use mathlib.Core.Path.{_≡_}
 use native.Mathlib.Omega.{arith}
 use borrow.Author.Tests.{eq-eqb, ne-eqb}
 use borrow.Author.Needs.{needs}
-use Rattle.shell.proofs.saying.put_remedy.Statement.{statement}
-use Rattle.shell.proofs.saying.put_remedy.Tie as tie
+use Rattle.saying.proofs.put_remedy.Statement.{statement}
+use Rattle.saying.proofs.put_remedy.Tie as tie
 
 slice-aggregate-last : tie.Need-slice-aggregate-last
 slice-aggregate-last c = search needs

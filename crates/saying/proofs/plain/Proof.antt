@@ -1,7 +1,7 @@
--- `saying::plain` meets its contract, test by test. Assumes nothing.
+-- `plain` meets its contract, test by test. Assumes nothing.
 use borrow.Author.Tests.{le-leb, lt-leb}
-use Rattle.shell.proofs.saying.plain.Statement.{statement}
-use Rattle.shell.proofs.saying.plain.Tie as tie
+use Rattle.saying.proofs.plain.Statement.{statement}
+use Rattle.saying.proofs.plain.Tie as tie
 
 returns : tie.Need-returns
 returns c = simp (lt-leb _ _ (c .if1 .taken))

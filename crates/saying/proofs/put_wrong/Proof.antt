@@ -1,12 +1,12 @@
--- `saying::put_wrong` meets its contract: the front of the word as it is shown stands between the name and the remedy. Assumes nothing.
+-- `put_wrong` meets its contract: the front of the word as it is shown stands between the name and the remedy. Assumes nothing.
 use native.Mathlib.Omega.{arith}
 use lib.ListN.{length}
 use Rattle.text.specs.Decimal.{text}
 use Rattle.text.proofs.Adding.{added-counts, added-more}
-use Rattle.shell.proofs.Texts.{three-ends, shown-short}
+use Rattle.saying.proofs.Texts.{three-ends, shown-short}
 use borrow.Author.Needs.{needs}
-use Rattle.shell.proofs.saying.put_wrong.Statement.{statement}
-use Rattle.shell.proofs.saying.put_wrong.Tie as tie
+use Rattle.saying.proofs.put_wrong.Statement.{statement}
+use Rattle.saying.proofs.put_wrong.Tie as tie
 
 slice-aggregate-put-shown : tie.Need-slice-aggregate-put-shown
 slice-aggregate-put-shown c = search needs

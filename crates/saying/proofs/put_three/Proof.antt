@@ -1,9 +1,9 @@
--- `saying::put_three` meets its contract: each text fits behind the one before it. Assumes nothing.
+-- `put_three` meets its contract: each text fits behind the one before it. Assumes nothing.
 use native.Mathlib.Omega.{arith}
 use Rattle.text.proofs.Adding.{put-added, added-more}
 use borrow.Author.Needs.{needs}
-use Rattle.shell.proofs.saying.put_three.Statement.{statement}
-use Rattle.shell.proofs.saying.put_three.Tie as tie
+use Rattle.saying.proofs.put_three.Statement.{statement}
+use Rattle.saying.proofs.put_three.Tie as tie
 
 put-requires : tie.Need-put-requires
 put-requires c κs = search needs

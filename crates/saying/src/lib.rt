@@ -4,8 +4,8 @@ ghost use mathlib.Core.List.{_++_, map};
 ghost use Prim.Native.Nat.{_+_, _≤_};
 ghost use lib.ListN.{length};
 ghost use Rattle.text.specs.Added.{Added};
-ghost use Rattle.shell.specs.Said.{nameRoom, synopsisRoom, mostShown, remedyRoom, answerRoom};
-ghost use Rattle.shell.specs.Said.{plain, shown, remedyText, helpText, wrongText, answerText};
+ghost use Rattle.saying.specs.Said.{nameRoom, synopsisRoom, mostShown, remedyRoom, answerRoom};
+ghost use Rattle.saying.specs.Said.{plain, shown, remedyText, helpText, wrongText, answerText};
 
 // Room for all that is said.
 pub const SAID: usize = 256;

@@ -1,13 +1,13 @@
--- `saying::put_shown` meets its contract, by the word's length. Assumes nothing.
+-- `put_shown` meets its contract, by the word's length. Assumes nothing.
 use mathlib.Core.Path.{sym, ap}
 use mathlib.Core.List.{map}
 use native.Mathlib.Omega.{arith}
 use lib.ListN.{length}
 use lib.Seq.{length-take-le, take-all}
-use Rattle.shell.specs.Said.{plain, mostShown}
+use Rattle.saying.specs.Said.{plain, mostShown}
 use borrow.Author.Needs.{needs}
-use Rattle.shell.proofs.saying.put_shown.Statement.{statement}
-use Rattle.shell.proofs.saying.put_shown.Tie as tie
+use Rattle.saying.proofs.put_shown.Statement.{statement}
+use Rattle.saying.proofs.put_shown.Tie as tie
 
 slice-aggregate-put-plain : tie.Need-slice-aggregate-put-plain
 slice-aggregate-put-plain c =

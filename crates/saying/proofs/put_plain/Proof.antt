@@ -1,4 +1,4 @@
--- `saying::put_plain` meets its contract: the buffer so far has the word's first k bytes, each a plain character. The measure is the bytes left. Assumes nothing.
+-- `put_plain` meets its contract: the buffer so far has the word's first k bytes, each a plain character. The measure is the bytes left. Assumes nothing.
 use mathlib.Core.Path.{_≡_, refl, sym, ap, _∙_}
 use mathlib.Core.List.{map}
 use Prim.Native.Nat.{_+_, _-_, _≤_}
@@ -8,10 +8,10 @@ use lib.ListN.{length, getD, set, length-set, length-map, List·getD-map}
 use lib.Seq.{paste, paste-zero, paste-suc}
 use borrow.Author.Tests.{le-leb}
 use Rattle.text.proofs.Adding.{put-added}
-use Rattle.shell.specs.Said.{plain}
+use Rattle.saying.specs.Said.{plain}
 use borrow.Author.Needs.{needs}
-use Rattle.shell.proofs.saying.put_plain.Statement.{statement}
-use Rattle.shell.proofs.saying.put_plain.Tie as tie
+use Rattle.saying.proofs.put_plain.Statement.{statement}
+use Rattle.saying.proofs.put_plain.Tie as tie
 
 abbrev Inv-loop : tie.InvT-loop
 Inv-loop word out₀ k₀ out k = (k ≤ length word) × (length out ≡ length out₀) × (out ≡ paste out₀ 0 (map plain word) k)

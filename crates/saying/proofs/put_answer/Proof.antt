@@ -1,10 +1,10 @@
--- `saying::put_answer` meets its contract, by what the words ask for. Assumes nothing.
+-- `put_answer` meets its contract, by what the words ask for. Assumes nothing.
 use mathlib.Core.Path.{_≡_}
 use native.Mathlib.Omega.{arith}
 use borrow.Author.Tests.{eq-eqb, ne-eqb}
 use borrow.Author.Needs.{needs}
-use Rattle.shell.proofs.saying.put_answer.Statement.{statement}
-use Rattle.shell.proofs.saying.put_answer.Tie as tie
+use Rattle.saying.proofs.put_answer.Statement.{statement}
+use Rattle.saying.proofs.put_answer.Tie as tie
 
 put-help-requires : tie.Need-put-help-requires
 put-help-requires c κs = search needs

@@ -1,11 +1,11 @@
--- `saying::put_help` meets its contract: three times three texts, with room for each. Assumes nothing.
+-- `put_help` meets its contract: three times three texts, with room for each. Assumes nothing.
 use native.Mathlib.Omega.{arith}
 use Rattle.text.specs.Decimal.{text}
 use Rattle.text.proofs.Adding.{added-more}
-use Rattle.shell.proofs.Texts.{three-ends}
+use Rattle.saying.proofs.Texts.{three-ends}
 use borrow.Author.Needs.{needs}
-use Rattle.shell.proofs.saying.put_help.Statement.{statement}
-use Rattle.shell.proofs.saying.put_help.Tie as tie
+use Rattle.saying.proofs.put_help.Statement.{statement}
+use Rattle.saying.proofs.put_help.Tie as tie
 
 slice-aggregate-put-three : tie.Need-slice-aggregate-put-three
 slice-aggregate-put-three c = search needs
