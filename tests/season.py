@@ -7,10 +7,9 @@ import random
 import subprocess
 import sys
 
-from common import compare, held, linked, mapped, printed
-
-from season import season_output
-from season_samples import many_files, named, random_streams, single_fan
+from second.model.season import season_output
+from second.samples.season import many_files, named, random_streams, single_fan
+from tests.common import compare, held, linked, mapped, printed
 
 STREAMS = 120
 IN_PIECES = 12

@@ -4,12 +4,12 @@ for words that are none of these."""
 import subprocess
 import sys
 
-from common import DONE, FAILED, REFUSED, compare, decks, linked, mapped, ready
-
-from files import random_files
-from foambeetle import UNITS, Boards, Deck, Rule, System, deck_bytes, read_deck
-from spares import deckspare_output
-from typed import Wrong
+from second.model.deck_file import deck_bytes, read_deck
+from second.model.spares import deckspare_output
+from second.model.terms import UNITS, Boards, Deck, Rule, System
+from second.model.typed import Wrong
+from second.samples.files import random_files
+from tests.common import DONE, FAILED, REFUSED, compare, decks, linked, mapped, ready
 
 PROGRAM = "deckspare"
 FILES = 90
