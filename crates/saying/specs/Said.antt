@@ -20,7 +20,7 @@ helpText program synopsis =
     text "usage: " ++ program ++ text " " ++ (synopsis ++ text "\n       " ++ program) ++ (text " --help\n       " ++ program ++ text " --version\n")
 
 abbrev pub versionText : (program : List ℕ) → List ℕ
-versionText program = program ++ text " " ++ text "1.0.0\n"
+versionText program = program ++ text " " ++ text "1.1.0\n"
 
 -- a word as it is shown: its front, what is no plain character a question mark
 abbrev pub mostShown : ℕ

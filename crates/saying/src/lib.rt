@@ -119,7 +119,7 @@ pub fn put_answer(program: &[u8], synopsis: &[u8], task: u64, word: &[u8], out: 
 {
     match task {
         options::HELP => put_help(program, synopsis, out),
-        options::VERSION => put_three(program, b" ", b"1.0.0\n", out, 0),
+        options::VERSION => put_three(program, b" ", b"1.1.0\n", out, 0),
         _ => put_wrong(program, task, word, out),
     }
 }

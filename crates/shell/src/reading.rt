@@ -2,7 +2,7 @@
 ghost use mathlib.Core.Path.{_≡_};
 ghost use lib.ListN.{length};
 ghost use Rattle.shell.specs.Edges.{FitsIn};
-ghost use Rattle.shell.specs.Taken.{unopenedWhole, Filled, Counted, Through};
+ghost use Rattle.shell.specs.Taken.{unopenedWhole, Fills, Counted, Through};
 use crate::names::LABEL;
 use crate::taking;
 use crate::taking::Taken;
@@ -75,7 +75,7 @@ fn tell_failed(taken: Taken, label: &[u8]) {
 
 // Reads until the input ends or the buffer is full; a read that fails is told by its label.
 pub fn fill(fd: i32, label: &[u8], buffer: &mut [u8]) -> Taken
-    ensures { λ r. ⌜ Filled (length (now (buffer .exit))) r ⌝ }
+    ensures { λ r. ⌜ Fills (length (now (buffer .exit))) r ⌝ }
 {
     let mut taken = taking::nothing();
     let mut filled: usize = 0;
@@ -178,7 +178,7 @@ pub fn read_whole(program: &[u8], place: usize, buffer: &mut [u8]) -> Whole
 
 // The same of an input whose rest is of no matter, and is not read.
 pub fn read_front(program: &[u8], place: usize, buffer: &mut [u8]) -> Taken
-    ensures { λ r. ⌜ Filled (length (now (buffer .exit))) r ⌝ }
+    ensures { λ r. ⌜ Fills (length (now (buffer .exit))) r ⌝ }
 {
     let mut label = [0u8; LABEL];
     let end = crate::names::put_label(program, place, b"standard input", &mut label);

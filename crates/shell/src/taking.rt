@@ -3,7 +3,7 @@
 ghost use mathlib.Core.Path.{_≡_};
 ghost use Prim.Native.Nat.{_+_, _<_, _^_};
 ghost use lib.ListN.{length};
-ghost use Rattle.shell.specs.Taken.{nothing, unopened, goesOn, hasFailed, Took};
+ghost use Rattle.shell.specs.Taken.{nothing, unopened, goesOn, hasFailed, Adds, takenWith, Took};
 use crate::reading;
 use crate::reading::Input;
 
@@ -60,26 +60,38 @@ pub fn has_failed(taken: Taken) -> bool
     taken.state == FAILED
 }
 
-// One read more, into the front of a buffer that takes some: a read of nothing is the input's end.
+// With what one read more gave: a read of nothing is the input's end.
+fn added(taken: Taken, got: Input) -> Taken
+    requires { ⌜ Adds taken got ⌝ }
+    ensures { λ r. ⌜ r ≡ takenWith taken got ⌝ }
+{
+    let count = taken.count;
+    match got {
+        Input::Filled(more) => {
+            if more == 0 {
+                return Taken {
+                    count,
+                    state: ENDED,
+                };
+            }
+            Taken {
+                count: count + more,
+                state: GOING,
+            }
+        }
+        Input::Failed => Taken {
+            count,
+            state: FAILED,
+        },
+    }
+}
+
+// One read more, into the front of a buffer that takes some.
 pub fn take(fd: i32, buffer: &mut [u8], taken: Taken) -> Taken
     requires some { ⌜ 0 < length (now buffer) ⌝ }
     requires few { ⌜ taken .count + length (now buffer) < 2 ^ 64 ⌝ }
     ensures { λ r. ⌜ Took (length (now (buffer .exit))) taken r ⌝ }
 {
-    let Input::Filled(more) = reading::read_some(fd, buffer) else {
-        return Taken {
-            count: taken.count,
-            state: FAILED,
-        };
-    };
-    if more == 0 {
-        return Taken {
-            count: taken.count,
-            state: ENDED,
-        };
-    }
-    Taken {
-        count: taken.count + more,
-        state: GOING,
-    }
+    let got = reading::read_some(fd, buffer);
+    added(taken, got)
 }
