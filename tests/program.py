@@ -23,7 +23,7 @@ FILES = 60
 MILLION = 10 ** 6
 NEAR = (0, 1, 10, 11, 107, 108, 1073, 1074, 10737419)  # percents that begin or end in zeros, or just round
 # The words that have a program work, beside none at all; every program takes --help and --version.
-WORDS = {"decklist": ["--percent", "--words"], "deckworth": [], "deckspare": [], "deckmend": [], "season": [], "deckstate": [], "deckpage": [], "deckshow": [], MAKER: []}
+WORDS = {"decklist": ["--percent", "--words"], "deckworth": ["--words"], "deckspare": [], "deckmend": [], "season": [], "deckstate": [], "deckpage": [], "deckshow": [], MAKER: []}
 OUT = ("deckmend", "deckpage", "deckshow", MAKER)  # these take -o
 FANS, SEVERAL = "deckstate", "season"  # its operands are fans, and its file is -f's; any number of operands
 WRONG = (["--percents"], ["--percen"], ["-h"], ["-x" * 2500], ["--help=x"])

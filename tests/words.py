@@ -1,4 +1,4 @@
-"""Refusals in words: decklist --words against the second program, and each remedy tried: the refusal goes.
+"""Refusals in words: decklist --words and deckworth --words against the second program, and each remedy tried: the refusal goes.
 
 Every cause of every refusal of a system stands in a deck of its own. The test reads what the program says of it, does that, and rates the deck again.
 """
@@ -7,14 +7,14 @@ import re
 import subprocess
 import sys
 
-from second.model.causes import worded_output
+from second.model.causes import worded_output, worded_worths
 from second.model.deck_file import deck_bytes, read_deck
 from second.model.loading import decklist_output
-from second.model.terms import UNITS, Boards, Deck, Refusal, Rule, System
+from second.model.terms import MOST_FANS, MOST_SYSTEMS, UNITS, Boards, Deck, Refusal, Rule, System
 from second.samples.files import random_files
 from tests.common import compare, held, linked, mapped, prove
 
-SEED, FILES = 17, 600
+SEED, FILES, FILES_OF_WORTHS = 17, 600, 100
 N = 12
 BROKEN = tuple(Rule(kind, first, second) for kind in range(1, 9) for first in (0, 1, 2, 3, N, N + 1, 65535) for second in (0, 1, 2, 4, 10, 11, N, N + 1, 64, 65, 65535))
 
@@ -85,8 +85,8 @@ def remedied(deck, words):
     raise ValueError(words)
 
 
-def said(data):
-    done = subprocess.run([str(word) for word in (*linked("decklist"), "--words")], input=data, stdout=subprocess.PIPE)
+def said(data, program="decklist"):
+    done = subprocess.run([str(word) for word in (*linked(program), "--words")], input=data, stdout=subprocess.PIPE)
     return done.stdout.decode()
 
 
@@ -126,16 +126,30 @@ def mending_helps():
     return mended > 20
 
 
+def inputs(decks, files):
+    found = [deck_bytes(deck) for deck in decks] + random_files(SEED, files)
+    return found + [data + bytes(5000) for data in found[-20:]] + [b"", bytes(19), bytes(20), b"\3" + bytes(24)]
+
+
 def words_as_the_second_program():
-    inputs = [deck_bytes(deck) for deck in causes()]
-    inputs += random_files(SEED, FILES)
-    inputs += [data + bytes(5000) for data in inputs[-20:]] + [b"", bytes(19), bytes(20), b"\3" + bytes(24)]
-    return compare("inputs through decklist --words", mapped(said, inputs), [worded_output(data) for data in inputs])
+    data = inputs(causes(), FILES)
+    return compare("inputs through decklist --words", mapped(said, data), [worded_output(one) for one in data])
+
+
+def longest():
+    """As many fans and systems as a deck has, each with the longest words: the stretch is none."""
+    return Deck([500] * MOST_FANS, [1] * MOST_FANS, [System(Rule(1, 1, 0), 65535, 65534)] * MOST_SYSTEMS, 1, Boards([], []))
+
+
+def worths_in_words():
+    """Of every tenth cause, of files, and of the longest text."""
+    data = [*inputs(list(causes())[::10], FILES_OF_WORTHS), deck_bytes(longest())]
+    return compare("inputs through deckworth --words", mapped(lambda one: said(one, "deckworth"), data), [worded_worths(one) for one in data])
 
 
 def main():
     prove()
-    return 0 if held(words_as_the_second_program, each_remedy_helps, mending_helps) else 1
+    return 0 if held(words_as_the_second_program, worths_in_words, each_remedy_helps, mending_helps) else 1
 
 
 if __name__ == "__main__":

@@ -1,7 +1,8 @@
-"""Why a deck file or a system of it is refused, in words, and what to do about it: decklist --words, and what deckpage says of a refusal."""
+"""Why a deck file or a system of it is refused, in words, and what to do about it: decklist --words, deckworth --words,
+and what deckpage says of a refusal."""
 
 from second.model.deck_file import boards_in, file_refusal, layout, number_at, read_deck
-from second.model.loading import decklist_output, rate_system
+from second.model.loading import decklist_output, deckworth_output, rate_system
 from second.model.refusals import bad_rule, bad_version
 from second.model.terms import BOARDS_HEADER_BYTES, BOARDS_VERSION, HEADER_BYTES, KINDS, MOST_FANS, MOST_SYSTEMS, MOST_WEIGHT, UNITS, Refusal, Rule
 
@@ -91,3 +92,23 @@ def worded_output(data):
         if isinstance(answer, Refusal):
             lines[place] += f": {system_words(deck, system, answer.number)}"
     return "".join(line + "\n" for line in (head, *lines))
+
+
+def fan_words(system, fan):
+    """Of a fan that its worth to a system is refused by 17."""
+    return f"fan {fan} is outside the stretch, fans {system.a} to {system.b}; look at one of those"
+
+
+def worded_worths(data):
+    """What deckworth --words prints."""
+    deck = read_deck(data)
+    if isinstance(deck, Refusal):
+        return worded_output(data)
+    lines = []
+    for line in deckworth_output(data).splitlines():
+        _, place, _, fan, kind, number, *_ = line.split(" ")
+        if kind == "refused":
+            system = deck.systems[int(place) - 1]
+            line += ": " + (fan_words(system, fan) if number == "17" else system_words(deck, system, int(number)))
+        lines.append(line + "\n")
+    return "".join(lines)

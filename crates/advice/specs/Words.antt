@@ -37,6 +37,7 @@ forms =
     ∷ text "# in # round of # fans cannot be; K is 2 and R from 2 to #"
     ∷ text "# in # round of one fan cannot be; take more fans, K 2 and R from 2 to how many they are"
     ∷ text "needs # of any # among # fans cannot be; R is at most # and at most 10, K from 1 to R"
+    ∷ text "fan # is outside the stretch, fans # to #; look at one of those"
     ∷ []
 
 -- its text, and the room that it takes at most

@@ -1,4 +1,5 @@
 // Refusals in words, and what to do about them.
+pub mod cause; // cause.rt: the causes by name
 pub mod file; // file.rt: why a file is refused
 pub mod system; // system.rt: why a system is refused
 pub mod why; // why.rt: the cause of a refusal, by the numbers at hand
@@ -7,6 +8,7 @@ ghost use mathlib.Core.Path.{_≡_};
 ghost use Prim.Native.Nat.{_≤_, _<_};
 ghost use lib.ListN.{length};
 ghost use Rattle.forms.specs.Form.{PutText};
+ghost use Rattle.advice.specs.Causes.{systemsOut, noSuchKind, secondSet, betweenOut, fanOutside};
 ghost use Rattle.advice.specs.Words.{numbersOf, whyText, whyRoom};
 use why::Why;
 
@@ -19,26 +21,26 @@ fn numbers_of(why: Why) -> [u64; forms::MARKS]
 
 // Of a file's header, version and fans.
 fn put_start(why: Why, out: &mut [u8], at: usize) -> usize
-    requires row { ⌜ why .row < 4 ⌝ }
+    requires row { ⌜ why .row < systemsOut ⌝ }
     requires place { ⌜ at ≤ length (now out) ⌝ }
     ensures { λ r. ⌜ PutText (whyText why) whyRoom (now (out .entry)) at (now (out .exit)) r ⌝ }
 {
     let numbers = numbers_of(why);
     let row = why.row;
     match row {
-        0 => forms::put_form(
+        cause::HEADER_SHORT => forms::put_form(
             b"it has # bytes, and its header alone has #; send it again",
             numbers,
             out,
             at,
         ),
-        1 => forms::put_form(
+        cause::UNKNOWN_VERSION => forms::put_form(
             b"its version is #, and 1 to 3 are known; see that it is a deck file",
             numbers,
             out,
             at,
         ),
-        2 => forms::put_form(
+        cause::ZERO_FIELD_SET => forms::put_form(
             b"its zero field is #; deckmend sets it to 0",
             numbers,
             out,
@@ -55,32 +57,32 @@ fn put_start(why: Why, out: &mut [u8], at: usize) -> usize
 
 // Of its other counts, and of its layout.
 fn put_counts(why: Why, out: &mut [u8], at: usize) -> usize
-    requires row { ⌜ (4 ≤ why .row) × (why .row < 9) ⌝ }
+    requires row { ⌜ (systemsOut ≤ why .row) × (why .row < noSuchKind) ⌝ }
     requires place { ⌜ at ≤ length (now out) ⌝ }
     ensures { λ r. ⌜ PutText (whyText why) whyRoom (now (out .entry)) at (now (out .exit)) r ⌝ }
 {
     let numbers = numbers_of(why);
     let row = why.row;
     match row {
-        4 => forms::put_form(
+        cause::SYSTEMS_OUT => forms::put_form(
             b"it has # systems, and a deck has 1 to 32; make it anew with deckmake",
             numbers,
             out,
             at,
         ),
-        5 => forms::put_form(
+        cause::BOARDS_OUT => forms::put_form(
             b"it has # boards, and a deck of version 3 has 1 to 4; make it anew with deckmake",
             numbers,
             out,
             at,
         ),
-        6 => forms::put_form(
+        cause::ENDS_EARLY => forms::put_form(
             b"it ends after # of its # bytes; send it again",
             numbers,
             out,
             at,
         ),
-        7 => forms::put_form(
+        cause::LAID_WRONGLY => forms::put_form(
             b"its offsets or its length are wrong; deckmend mends them",
             numbers,
             out,
@@ -97,27 +99,32 @@ fn put_counts(why: Why, out: &mut [u8], at: usize) -> usize
 
 // Of a system's kind, stretch, survival numbers and weights.
 fn put_system(why: Why, out: &mut [u8], at: usize) -> usize
-    requires row { ⌜ (9 ≤ why .row) × (why .row < 14) ⌝ }
+    requires row { ⌜ (noSuchKind ≤ why .row) × (why .row < secondSet) ⌝ }
     requires place { ⌜ at ≤ length (now out) ⌝ }
     ensures { λ r. ⌜ PutText (whyText why) whyRoom (now (out .entry)) at (now (out .exit)) r ⌝ }
 {
     let numbers = numbers_of(why);
     let row = why.row;
     match row {
-        9 => forms::put_form(b"there is no kind #; kinds are 1 to #", numbers, out, at),
-        10 => forms::put_form(
+        cause::NO_SUCH_KIND => forms::put_form(
+            b"there is no kind #; kinds are 1 to #",
+            numbers,
+            out,
+            at,
+        ),
+        cause::NO_STRETCH => forms::put_form(
             b"fans # to # are no stretch of # fans; it runs from fan 1 or later to a fan not before that, # at most",
             numbers,
             out,
             at,
         ),
-        11 => forms::put_form(
+        cause::FAN_ABOVE => forms::put_form(
             b"fan # has survival number #; # is the most",
             numbers,
             out,
             at,
         ),
-        12 => forms::put_form(
+        cause::BOARD_ABOVE => forms::put_form(
             b"board # has survival number #; # is the most",
             numbers,
             out,
@@ -134,32 +141,32 @@ fn put_system(why: Why, out: &mut [u8], at: usize) -> usize
 
 // Of a rule with one number.
 fn put_one(why: Why, out: &mut [u8], at: usize) -> usize
-    requires row { ⌜ (14 ≤ why .row) × (why .row < 19) ⌝ }
+    requires row { ⌜ (secondSet ≤ why .row) × (why .row < betweenOut) ⌝ }
     requires place { ⌜ at ≤ length (now out) ⌝ }
     ensures { λ r. ⌜ PutText (whyText why) whyRoom (now (out .entry)) at (now (out .exit)) r ⌝ }
 {
     let numbers = numbers_of(why);
     let row = why.row;
     match row {
-        14 => forms::put_form(
+        cause::SECOND_SET => forms::put_form(
             b"its second number is #; make that 0 and K from 1 to #",
             numbers,
             out,
             at,
         ),
-        15 => forms::put_form(
+        cause::NUMBER_OUT => forms::put_form(
             b"# dead of # fans cannot be; K is from 1 to #",
             numbers,
             out,
             at,
         ),
-        16 => forms::put_form(
+        cause::RUN_OUT => forms::put_form(
             b"# in a row of # fans cannot be; K is from 1 to #",
             numbers,
             out,
             at,
         ),
-        17 => forms::put_form(
+        cause::WEIGHT_OUT => forms::put_form(
             b"weight # of # in all cannot be; K is from 1 to #",
             numbers,
             out,
@@ -176,38 +183,38 @@ fn put_one(why: Why, out: &mut [u8], at: usize) -> usize
 
 // Of a rule with two.
 fn put_two(why: Why, out: &mut [u8], at: usize) -> usize
-    requires row { ⌜ (19 ≤ why .row) × (why .row < 25) ⌝ }
+    requires row { ⌜ (betweenOut ≤ why .row) × (why .row < fanOutside) ⌝ }
     requires place { ⌜ at ≤ length (now out) ⌝ }
     ensures { λ r. ⌜ PutText (whyText why) whyRoom (now (out .entry)) at (now (out .exit)) r ⌝ }
 {
     let numbers = numbers_of(why);
     let row = why.row;
     match row {
-        19 => forms::put_form(
+        cause::BETWEEN_OUT => forms::put_form(
             b"# to # dead of # fans cannot be; the first is at most the second, and the second at most #",
             numbers,
             out,
             at,
         ),
-        20 => forms::put_form(
+        cause::NEAR_OUT => forms::put_form(
             b"# in # cannot be; K is 2 and R from 2 to 64",
             numbers,
             out,
             at,
         ),
-        21 => forms::put_form(
+        cause::NEAR_LACKING => forms::put_form(
             b"# in # cannot be, K is 2; needs # of any # says it",
             numbers,
             out,
             at,
         ),
-        22 => forms::put_form(
+        cause::RING_OUT => forms::put_form(
             b"# in # round of # fans cannot be; K is 2 and R from 2 to #",
             numbers,
             out,
             at,
         ),
-        23 => forms::put_form(
+        cause::RING_OF_ONE => forms::put_form(
             b"# in # round of one fan cannot be; take more fans, K 2 and R from 2 to how many they are",
             numbers,
             out,
@@ -222,25 +229,43 @@ fn put_two(why: Why, out: &mut [u8], at: usize) -> usize
     }
 }
 
+// Of a fan that its worth is asked of.
+fn put_fan(why: Why, out: &mut [u8], at: usize) -> usize
+    requires row { ⌜ why .row ≡ fanOutside ⌝ }
+    requires place { ⌜ at ≤ length (now out) ⌝ }
+    ensures { λ r. ⌜ PutText (whyText why) whyRoom (now (out .entry)) at (now (out .exit)) r ⌝ }
+{
+    let numbers = numbers_of(why);
+    forms::put_form(
+        b"fan # is outside the stretch, fans # to #; look at one of those",
+        numbers,
+        out,
+        at,
+    )
+}
+
 // Puts why something is refused, and what to do about it.
 pub fn put_why(why: Why, out: &mut [u8], at: usize) -> usize
     requires { ⌜ at ≤ length (now out) ⌝ }
     ensures { λ r. ⌜ PutText (whyText why) whyRoom (now (out .entry)) at (now (out .exit)) r ⌝ }
 {
-    if why.row < 4 {
+    if why.row < cause::SYSTEMS_OUT {
         return put_start(why, out, at);
     }
-    if why.row < 9 {
+    if why.row < cause::NO_SUCH_KIND {
         return put_counts(why, out, at);
     }
-    if why.row < 14 {
+    if why.row < cause::SECOND_SET {
         return put_system(why, out, at);
     }
-    if why.row < 19 {
+    if why.row < cause::BETWEEN_OUT {
         return put_one(why, out, at);
     }
-    if why.row < 25 {
+    if why.row < cause::FAN_OUTSIDE {
         return put_two(why, out, at);
+    }
+    if why.row == cause::FAN_OUTSIDE {
+        return put_fan(why, out, at);
     }
     // Not reached: no cause has a row past the table's last. Its text would be empty.
     at

@@ -6,7 +6,8 @@ ghost use lib.ListN.{length, getD};
 ghost use Rattle.rules.specs.Refusal.{badStretch, most, mostBoards};
 ghost use Rattle.rules.specs.File.{deckIn, systemIn};
 ghost use Rattle.deck.specs.Outcome.{Placed};
-ghost use Rattle.advice.specs.System.{aboveWhy, ratedWhy, whyOf, systemWhy};
+ghost use Rattle.advice.specs.System.{aboveWhy, ratedWhy, whyOf, systemWhy, fanWhy};
+use crate::cause;
 use crate::why;
 use crate::why::Why;
 use deck::Head;
@@ -33,10 +34,22 @@ fn above_why(unit: u64, a: u64, b: u64, survival: &[u32], switchboards: &[u32]) 
     let upto = b as usize;
     let i = why::above_from(survival, a as usize - 1, upto, unit);
     if i < upto {
-        return why::because(11, i as u64 + 1, number_at(survival, i), unit, 0);
+        return why::because(
+            cause::FAN_ABOVE,
+            i as u64 + 1,
+            number_at(survival, i),
+            unit,
+            0,
+        );
     }
     let j = why::above_from(switchboards, 0, switchboards.len(), unit);
-    why::because(12, j as u64 + 1, number_at(switchboards, j), unit, 0)
+    why::because(
+        cause::BOARD_ABOVE,
+        j as u64 + 1,
+        number_at(switchboards, j),
+        unit,
+        0,
+    )
 }
 
 // Of a system whose stretch is on the deck.
@@ -63,7 +76,7 @@ fn rated_why(
     }
     let weight = why::weight_from(weights, from, upto);
     if number == refusal::WEIGHTS {
-        return why::because(13, weight, 0, 0, 0);
+        return why::because(cause::TOO_HEAVY, weight, 0, 0, 0);
     }
     let rule = system.rule;
     why::range_why(rule, (upto - from) as u64, weight)
@@ -86,10 +99,10 @@ fn lists_why(
 {
     let n = survival.len() as u64;
     if number == refusal::KIND {
-        return why::because(9, system.rule.kind, kind::LAST, 0, 0);
+        return why::because(cause::NO_SUCH_KIND, system.rule.kind, kind::LAST, 0, 0);
     }
     if asked::stretch_out(system.a, system.b, n) {
-        return why::because(10, system.a, system.b, n, n);
+        return why::because(cause::NO_STRETCH, system.a, system.b, n, n);
     }
     rated_why(version, system, number, survival, weights, switchboards)
 }
@@ -113,4 +126,16 @@ pub fn system_why(file: &[u8], head: Head, s: usize, number: u64) -> Why
         &weights[..n],
         &switchboards[..g],
     )
+}
+
+// Why the worth of a fan to that system is refused by a number.
+pub fn fan_why(file: &[u8], head: Head, s: usize, fan: u64, number: u64) -> Why
+    requires { ⌜ Placed (now file) head s ⌝ }
+    ensures { λ r. ⌜ r ≡ fanWhy (deckIn (now (file .entry))) (systemIn (now (file .entry)) s) fan number ⌝ }
+{
+    if number == refusal::FAN {
+        let system = deck::system_in(file, head, s);
+        return why::because(cause::FAN_OUTSIDE, fan, system.a, system.b, 0);
+    }
+    system_why(file, head, s, number)
 }

@@ -5,6 +5,7 @@ ghost use lib.ListN.{length};
 ghost use Rattle.rules.specs.Refusal.{most};
 ghost use Rattle.advice.specs.Words.{because};
 ghost use Rattle.advice.specs.System.{oneWhy, weightWhy, nearWhy, ringWhy, rangeWhy, aboveFrom, weightFrom};
+use crate::cause;
 use rules::Rule;
 use rules::kind;
 
@@ -32,23 +33,23 @@ fn one_why(row: u64, first: u64, second: u64, most: u64) -> Why
     if second == 0 {
         return because(row, first, most, most, 0);
     }
-    because(14, second, most, 0, 0)
+    because(cause::SECOND_SET, second, most, 0, 0)
 }
 
 fn weight_why(first: u64, second: u64, total: u64) -> Why
     ensures { λ r. ⌜ r ≡ weightWhy first second total ⌝ }
 {
     if total == 0 {
-        return because(18, 0, 0, 0, 0);
+        return because(cause::NO_WEIGHT, 0, 0, 0, 0);
     }
-    one_why(17, first, second, total)
+    one_why(cause::WEIGHT_OUT, first, second, total)
 }
 
 fn near_why(first: u64, second: u64, n: u64) -> Why
     ensures { λ r. ⌜ r ≡ nearWhy first second n ⌝ }
 {
     if refusals::outside(1, first, second) {
-        return because(20, first, second, 0, 0);
+        return because(cause::NEAR_OUT, first, second, 0, 0);
     }
     let needed = second - first + 1;
     let lacking = Rule {
@@ -57,18 +58,18 @@ fn near_why(first: u64, second: u64, n: u64) -> Why
         second,
     };
     if refusals::range_out(lacking, n, 0, &NO_MORE) {
-        return because(20, first, second, 0, 0);
+        return because(cause::NEAR_OUT, first, second, 0, 0);
     }
-    because(21, first, second, needed, second)
+    because(cause::NEAR_LACKING, first, second, needed, second)
 }
 
 fn ring_why(first: u64, second: u64, n: u64) -> Why
     ensures { λ r. ⌜ r ≡ ringWhy first second n ⌝ }
 {
     if n <= 1 {
-        return because(23, first, second, 0, 0);
+        return because(cause::RING_OF_ONE, first, second, 0, 0);
     }
-    because(22, first, second, n, n)
+    because(cause::RING_OUT, first, second, n, n)
 }
 
 // A rule whose numbers are out of range for so many fans of such a weight.
@@ -79,13 +80,13 @@ pub fn range_why(rule: Rule, n: u64, total: u64) -> Why
     let first = rule.first;
     let second = rule.second;
     match asked {
-        kind::NUMBER => one_why(15, first, second, n),
+        kind::NUMBER => one_why(cause::NUMBER_OUT, first, second, n),
         kind::WEIGHT => weight_why(first, second, total),
-        kind::BETWEEN => because(19, first, second, n, n),
+        kind::BETWEEN => because(cause::BETWEEN_OUT, first, second, n, n),
         kind::NEAR => near_why(first, second, n),
         kind::NEAR_ROUND => ring_why(first, second, n),
-        kind::LACKING => because(24, first, second, n, n),
-        _ => one_why(16, first, second, n),
+        kind::LACKING => because(cause::LACKING_OUT, first, second, n, n),
+        _ => one_why(cause::RUN_OUT, first, second, n),
     }
 }
 

@@ -6,6 +6,7 @@ use Prim.Native.Nat.{ℕ, _+_, _-_, _*_, _≤_}
 use native.Mathlib.Decide.{decLe}
 use native.Mathlib.Omega.{arith}
 use lib.ListN.{length, take, drop, length-append, List·getD-append}
+use lib.IntN.{ℤ}
 use lib.Seq.{length-take-le, take-all, take-at}
 use Rattle.io.specs.Counts.{Counts}
 use Rattle.rules.specs.declared.Mending.{Mending}
@@ -18,11 +19,13 @@ use Rattle.mend.specs.Outcome as outcome
 use Rattle.mend.proofs.Heading.{changed-most}
 use Rattle.mend.proofs.Front.{AsWhole, as-whole}
 use Rattle.mend.proofs.Outcome.{rooms-enough}
+use Rattle.shell.specs.Status.{Handed}
 use Rattle.printing.specs.Front.{Front}
 use Rattle.printing.specs.Lines.{fileText}
 use Rattle.text.proofs.Adding.{added-counts}
 use Rattle.deckmend.specs.Lines.{changesText, cutText, mostChanges}
-use Rattle.deckmend.specs.Whole.{fileRoom, WholeMended}
+use Rattle.deckmend.specs.declared.mending.Told.{Told}
+use Rattle.deckmend.specs.Whole.{fileRoom, WholeMended, MendedEnds}
 use Rattle.deckmend.proofs.Lengths.{changes-alike}
 
 -- a whole input by its front, or by all of it
@@ -101,3 +104,8 @@ module _ (buffer : List ℕ) (filled rest : ℕ) {file list fileAfter listAfter 
                   ∙ sym (unless-none _ _ _ free),
             );
       }
+
+-- what is handed over is the file of the whole input
+pub mended-ends : {buffer : List ℕ} {filled rest : ℕ} {file out : List ℕ} {t : Told} {r : ℤ} → WholeMended buffer filled rest file out t → Handed (length (take (t .size) file)) r
+    → MendedEnds buffer filled rest r
+mended-ends whole handed = record { ends = λ input front size. rw (whole .stands input front size .0) at handed }

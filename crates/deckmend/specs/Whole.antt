@@ -3,7 +3,9 @@ use mathlib.Core.Path.{_≡_}
 use mathlib.Core.List.{List}
 use Prim.Native.Nat.{ℕ, _+_}
 use lib.ListN.{length, take}
+use lib.IntN.{ℤ}
 use Rattle.io.specs.Counts.{Counts}
+use Rattle.shell.specs.Status.{Handed}
 use Rattle.rules.specs.Refusal.{lastVersion, mostBoards}
 use Rattle.rules.specs.File.{fileLength, mostFans, mostSystems}
 use Rattle.printing.specs.Front.{Front}
@@ -19,3 +21,7 @@ pub record WholeMended (buffer : List ℕ) (filled rest : ℕ) (file out : List 
   pub out-counts : Counts (r .end) out
   pub stands : (input : List ℕ) → Front input buffer filled → length input ≡ filled + rest
       → (take (r .size) file ≡ fileOut input) × (take (r .end) out ≡ linesOut input)
+
+-- how deckmend ends: of a refused input there is no file
+pub record MendedEnds (buffer : List ℕ) (filled rest : ℕ) (r : ℤ) : Type 0 where
+  pub ends : (input : List ℕ) → Front input buffer filled → length input ≡ filled + rest → Handed (length (fileOut input)) r

@@ -2,44 +2,52 @@
 // changed to standard error.
 mod mending; // mending.rt: both of them, put into buffers
 
+ghost use Prim.Native.Nat.{_≤_, _<_, _^_};
+ghost use lib.ListN.{length};
 ghost use Rattle.shell.specs.Status.{Status};
+ghost use Rattle.deckmend.specs.Whole.{MendedEnds};
 use options::Asked;
+use printing::INPUT;
 use shell::reading;
 use shell::starting;
-use shell::writing;
+
+const PROGRAM: [u8; 8] = *b"deckmend";
+
+const SYNOPSIS: [u8; 15] = *b"[-o OUT] [FILE]";
+
+const OPTIONS: [u8; 12] = *b"-o         =";
 
 const OUT: usize = 0;
 
-// Mends the file that is asked for; nothing is written of one that is refused, and nothing is told of one that cannot
-// be written.
-fn mend(asked: Asked) -> i32
-    ensures { λ r. ⌜ Status r ⌝ }
+// Mends the input of which the buffer holds the front, and so many bytes follow; nothing is written of one that is
+// refused, and nothing is told of one that cannot be written.
+fn mend(asked: Asked, input: &[u8; INPUT], filled: usize, rest: u64) -> i32
+    requires { ⌜ (filled ≤ length (now input)) × (rest < 2 ^ 63) ⌝ }
+    ensures ends { λ r. ⌜ MendedEnds (now (input .entry)) filled rest r ⌝ }
+    ensures status { λ r. ⌜ Status r ⌝ }
 {
-    let mut input = [0u8; printing::INPUT];
-    let whole = reading::read_whole(b"deckmend", asked.first, &mut input);
-    if whole.failed {
-        return shell::FAILED;
-    }
     let mut file = [0u8; mending::FILE];
     let mut lines = [0u8; mending::LINES];
-    let told = mending::mend_front(&input, whole.filled, whole.rest, &mut file, &mut lines);
+    let told = mending::mend_front(input, filled, rest, &mut file, &mut lines);
     let size = told.size;
     let end = told.end;
-    let out = asked.given[OUT];
-    starting::hand_over(b"deckmend", out, &file[..size], &lines[..end])
+    let place = asked.given[OUT];
+    starting::hand_over(&PROGRAM, place, &file[..size], &lines[..end])
 }
 
 // What the program does, by its words: its status.
 pub fn run() -> i32
     ensures { λ r. ⌜ Status r ⌝ }
 {
-    let asked = starting::hear_all(b"-o         =", 1);
-    if asked.task == options::WORK {
-        return mend(asked);
+    let heard = starting::hear(&PROGRAM, &SYNOPSIS, &OPTIONS, 1);
+    if heard.ended {
+        return heard.status;
     }
-    starting::answer(
-        b"deckmend",
-        b"usage: deckmend [-o OUT] [FILE]\n       deckmend --help\n       deckmend --version\n",
-        asked,
-    )
+    let asked = heard.asked;
+    let mut input = [0u8; INPUT];
+    let whole = reading::read_whole(&PROGRAM, asked.first, &mut input);
+    if reading::has_failed(whole) {
+        return shell::FAILED;
+    }
+    mend(asked, &input, reading::filled(whole), reading::rest(whole))
 }

@@ -1,15 +1,22 @@
 // Draws a deck file as one page of HTML that needs nothing else.
 ghost use Prim.Native.Nat.{_≤_};
 ghost use lib.ListN.{length};
-ghost use Rattle.io.specs.Counts.{Counts};
 ghost use Rattle.deck.specs.Outcome.{Headed};
 ghost use Rattle.forms.specs.Within.{Within};
-ghost use Rattle.shell.specs.Status.{Status};
+ghost use mathlib.Core.Path.{_≡_};
+ghost use Rattle.shell.specs.Status.{Status, refused};
+ghost use Rattle.printing.specs.Front.{WholeEnds};
 use deck::Head;
 use options::Asked;
-use shell::reading;
+use printing::INPUT;
 use shell::starting;
 use shell::writing;
+
+const PROGRAM: [u8; 8] = *b"deckpage";
+
+const SYNOPSIS: [u8; 15] = *b"[-o OUT] [FILE]";
+
+const OPTIONS: [u8; 12] = *b"-o         =";
 
 // Room for the page: twice what the largest deck takes.
 const PAGE: usize = 262144;
@@ -45,67 +52,55 @@ fn put_page(file: &[u8], head: Head, out: &mut [u8]) -> usize
     page::put_end(out, end)
 }
 
-// Draws a file that is not refused.
-fn draw_file(file: &[u8], head: Head, place: usize) -> i32
-    requires { ⌜ Headed (now file) head ⌝ }
-    ensures { λ r. ⌜ Status r ⌝ }
-{
-    let mut out = [0u8; PAGE];
-    let end = put_page(file, head, &mut out);
-    starting::hand_over(b"deckpage", place, &out[..end], b"")
-}
-
-// Says that a file is refused: by a page of its own, or in a line where the page's file stays as it was.
-fn tell_refused(refusal: u64, file: &[u8], place: usize) -> i32
-    ensures { λ r. ⌜ Status r ⌝ }
-{
-    if place != 0 {
-        let mut line = [0u8; LINE];
-        let end = printing::put_refused_file(refusal, &mut line);
-        writing::say(&line[..end]);
-        return shell::REFUSED;
-    }
-    let mut out = [0u8; PAGE];
-    let end = page::put_refused(refusal, file, &mut out);
-    starting::print(b"deckpage", &out[..end], true)
-}
-
-// Draws a file, of which the buffer holds the front.
-fn draw_front(file: &[u8], place: usize) -> i32
-    ensures { λ r. ⌜ Status r ⌝ }
+// Puts the page of a file, or that of a refused one, and answers where it ends.
+fn put_file(file: &[u8], out: &mut [u8]) -> usize
+    ensures { λ r. ⌜ Within r (now (out .exit)) ⌝ }
 {
     let opened = deck::open(file);
     if opened.refusal != 0 {
-        return tell_refused(opened.refusal, file, place);
+        return page::put_refused(opened.refusal, file, out);
     }
     let head = opened.head;
-    draw_file(file, head, place)
+    put_page(file, head, out)
 }
 
-// Draws the file that is asked for; nothing is drawn where it cannot be read.
-fn draw(asked: Asked) -> i32
-    ensures { λ r. ⌜ Status r ⌝ }
+// Says in a line that a file is refused.
+fn tell_refused(file: &[u8]) -> i32
+    ensures { λ r. ⌜ r ≡ refused ⌝ }
 {
-    let mut input = [0u8; printing::INPUT];
-    let front = reading::read_front(b"deckpage", asked.first, &mut input);
-    if front.failed {
-        return shell::FAILED;
+    let opened = deck::open(file);
+    let mut line = [0u8; LINE];
+    let end = printing::put_refused_file(opened.refusal, &mut line);
+    writing::say(&line[..end]);
+    shell::REFUSED
+}
+
+// Draws the input of which the buffer holds the front; a refused one leaves OUT as it was.
+fn draw(asked: Asked, input: &[u8; INPUT], filled: usize) -> i32
+    requires { ⌜ filled ≤ length (now input) ⌝ }
+    ensures ends { λ r. ⌜ WholeEnds (now (input .entry)) filled r ⌝ }
+    ensures status { λ r. ⌜ Status r ⌝ }
+{
+    let place = asked.given[OUT];
+    if place != 0 {
+        if printing::refused(input, filled) {
+            return tell_refused(printing::front_of(input, filled));
+        }
     }
-    let filled = front.filled;
-    draw_front(&input[..filled], asked.given[OUT])
+    let mut out = [0u8; PAGE];
+    let end = put_file(printing::front_of(input, filled), &mut out);
+    printing::finish(&PROGRAM, place, input, filled, &out[..end])
 }
 
 // What the program does, by its words: its status.
 pub fn run() -> i32
     ensures { λ r. ⌜ Status r ⌝ }
 {
-    let asked = starting::hear_all(b"-o         =", 1);
-    if asked.task == options::WORK {
-        return draw(asked);
+    let mut input = [0u8; INPUT];
+    let begun = starting::begin(&PROGRAM, &SYNOPSIS, &OPTIONS, 1, &mut input);
+    if begun.ended {
+        return begun.status;
     }
-    starting::answer(
-        b"deckpage",
-        b"usage: deckpage [-o OUT] [FILE]\n       deckpage --help\n       deckpage --version\n",
-        asked,
-    )
+    let asked = begun.asked;
+    draw(asked, &input, begun.filled)
 }

@@ -2,15 +2,23 @@
 // file's refusal.
 mod lines; // lines.rt: the lines
 
+ghost use mathlib.Core.Path.{_≡_};
 ghost use Prim.Native.Nat.{_≤_};
 ghost use lib.ListN.{length};
 ghost use Rattle.io.specs.Counts.{Counts};
-ghost use Rattle.shell.specs.Status.{Status};
+ghost use Rattle.shell.specs.Status.{Status, failed};
 ghost use Rattle.grammar.specs.Numbers.{offGrid};
+ghost use Rattle.printing.specs.Front.{WholeEnds};
 use options::Asked;
-use shell::reading;
+use printing::INPUT;
 use shell::starting;
 use shell::writing;
+
+const PROGRAM: [u8; 9] = *b"deckspare";
+
+const SYNOPSIS: [u8; 19] = *b"[--best K] P [FILE]";
+
+const OPTIONS: [u8; 12] = *b"--best     =";
 
 // What is no survival number; and a decimal between two parts is named as this and the lower of them.
 const NONE: u64 = 4294967296;
@@ -22,16 +30,6 @@ const BEST: usize = 0;
 
 // Room for two numbers in a message.
 const NUMBERS: usize = 96;
-
-// Says on standard error what the program takes.
-fn tell_use() -> i32
-    ensures { λ r. ⌜ Status r ⌝ }
-{
-    writing::say(
-        b"deckspare: the spare's survival number is missing; deckspare --help says what it takes\n",
-    );
-    shell::FAILED
-}
 
 // Puts the two parts that a decimal stands between.
 fn put_nearest(p: u64, out: &mut [u8; NUMBERS]) -> usize
@@ -47,7 +45,7 @@ fn put_nearest(p: u64, out: &mut [u8; NUMBERS]) -> usize
 
 // Says that its first word is no survival number, and what is one.
 fn tell_number(p: u64) -> i32
-    ensures { λ r. ⌜ Status r ⌝ }
+    ensures { λ r. ⌜ r ≡ failed ⌝ }
 {
     writing::say(b"deckspare: the spare's survival number: wanted ");
     if p < OFF_GRID {
@@ -61,42 +59,62 @@ fn tell_number(p: u64) -> i32
     shell::FAILED
 }
 
-// Says that the word of an option is no number that it takes.
-fn tell_best() -> i32
-    ensures { λ r. ⌜ Status r ⌝ }
-{
-    writing::say(b"deckspare: --best: wanted a number from 1 to 4294967295\n");
-    shell::FAILED
-}
-
-// The number of the word at a place, from 1 on; 0 where it is none.
+// The number of the word at a place, from 1 on; 0 where it is none, and where there is no place.
 fn number_at(place: usize) -> u64 {
+    if place == 0 {
+        return 0;
+    }
     let mut word = io::buffer();
     let length = os::arg(place, &mut word);
     let number = grammar::numbers::whole(&word[..length]);
-    if number == NONE {
-        return 0;
+    if number == NONE { 0 } else { number }
+}
+
+// Says which word is missing or wrong, before a file is read; answers whether one is.
+fn tell_wrong(asked: Asked) -> bool {
+    if asked.operands == 0 {
+        writing::say(
+            b"deckspare: the spare's survival number is missing; deckspare --help says what it takes\n",
+        );
+        return true;
     }
-    number
+    let place = asked.given[BEST];
+    let wrong = place != 0 && number_at(place) == 0;
+    if wrong {
+        writing::say(b"deckspare: --best: wanted a number from 1 to 4294967295\n");
+    }
+    wrong
 }
 
 // Lists an input of which the buffer holds the front, for the spare that a word names; nothing is printed where the
 // word is no survival number.
-fn list_front(word: &[u8], best: u64, input: &[u8; printing::INPUT], filled: usize) -> i32
+fn list_for(word: &[u8], best: u64, input: &[u8; INPUT], filled: usize) -> i32
     requires { ⌜ filled ≤ length (now input) ⌝ }
-    ensures { λ r. ⌜ Status r ⌝ }
+    ensures ends { λ r. ⌜ WholeEnds (now (input .entry)) filled r ⌝ }
+    ensures status { λ r. ⌜ Status r ⌝ }
 {
     let opened = deck::open(printing::front_of(input, filled));
-    let refused = opened.refusal != 0;
     let p = grammar::numbers::parts(opened.head.version, word);
-    if !refused {
+    if opened.refusal == 0 {
         if p >= NONE {
             return tell_number(p);
         }
     }
     let mut out = [0u8; lines::OUTPUT];
     let end = lines::list_front(word, best, input, filled, &mut out);
-    starting::print(b"deckspare", &out[..end], refused)
+    printing::finish(&PROGRAM, 0, input, filled, &out[..end])
+}
+
+// The same for what is asked.
+fn list(asked: Asked, input: &[u8; INPUT], filled: usize) -> i32
+    requires { ⌜ filled ≤ length (now input) ⌝ }
+    ensures ends { λ r. ⌜ WholeEnds (now (input .entry)) filled r ⌝ }
+    ensures status { λ r. ⌜ Status r ⌝ }
+{
+    let mut word = io::buffer();
+    let length = os::arg(asked.first, &mut word);
+    let best = number_at(asked.given[BEST]);
+    list_for(&word[..length], best, input, filled)
 }
 
 // The place of the second operand, the file's name; 0 where there is none.
@@ -104,45 +122,26 @@ fn file_place(asked: Asked) -> usize {
     if asked.operands < 2 {
         return 0;
     }
-    let until = starting::hear_all(b"--best     =", 1);
+    let until = starting::hear_all(&OPTIONS, 1);
     until.at
-}
-
-// Lists the file that is asked for; nothing is listed where it cannot be read.
-fn list(asked: Asked) -> i32
-    ensures { λ r. ⌜ Status r ⌝ }
-{
-    if asked.operands == 0 {
-        return tell_use();
-    }
-    let place = asked.given[BEST];
-    let best = if place == 0 { 0 } else { number_at(place) };
-    if place != 0 {
-        if best == 0 {
-            return tell_best();
-        }
-    }
-    let mut word = io::buffer();
-    let length = os::arg(asked.first, &mut word);
-    let mut input = [0u8; printing::INPUT];
-    let front = reading::read_front(b"deckspare", file_place(asked), &mut input);
-    if front.failed {
-        return shell::FAILED;
-    }
-    list_front(&word[..length], best, &input, front.filled)
 }
 
 // What the program does, by its words: its status.
 pub fn run() -> i32
     ensures { λ r. ⌜ Status r ⌝ }
 {
-    let asked = starting::hear_all(b"--best     =", 2);
-    if asked.task == options::WORK {
-        return list(asked);
+    let heard = starting::hear(&PROGRAM, &SYNOPSIS, &OPTIONS, 2);
+    if heard.ended {
+        return heard.status;
     }
-    starting::answer(
-        b"deckspare",
-        b"usage: deckspare [--best K] P [FILE]\n       deckspare --help\n       deckspare --version\n",
-        asked,
-    )
+    let asked = heard.asked;
+    if tell_wrong(asked) {
+        return shell::FAILED;
+    }
+    let mut input = [0u8; INPUT];
+    let begun = starting::read_at(&PROGRAM, asked, file_place(asked), &mut input);
+    if begun.ended {
+        return begun.status;
+    }
+    list(asked, &input, begun.filled)
 }

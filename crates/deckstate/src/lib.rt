@@ -2,19 +2,26 @@
 mod hearing; // hearing.rt: what the words say
 mod telling; // telling.rt: the lines
 
+ghost use mathlib.Core.Path.{_≡_};
 ghost use Prim.Native.Nat.{_≤_};
 ghost use lib.ListN.{length};
-ghost use Rattle.shell.specs.Status.{Status};
-use options::Asked;
-use shell::reading;
+ghost use Rattle.shell.specs.Status.{Status, failed};
+ghost use Rattle.printing.specs.Front.{WholeEnds};
+use printing::INPUT;
 use shell::starting;
 use shell::writing;
+
+const PROGRAM: [u8; 9] = *b"deckstate";
+
+const SYNOPSIS: [u8; 32] = *b"[-f FILE] [FAN | board BOARD]...";
+
+const OPTIONS: [u8; 12] = *b"-f         =";
 
 const FILE: usize = 0;
 
 // Says on standard error which word is wrong.
 fn tell_wrong(wrong: u64, most: u64) -> i32
-    ensures { λ r. ⌜ Status r ⌝ }
+    ensures { λ r. ⌜ r ≡ failed ⌝ }
 {
     let mut line = [0u8; telling::LINE];
     let end = telling::put_wrong(wrong, most, &mut line);
@@ -23,9 +30,10 @@ fn tell_wrong(wrong: u64, most: u64) -> i32
 }
 
 // Judges an input of which the buffer holds the front; nothing is printed where a word is wrong.
-fn judge_front(input: &[u8; printing::INPUT], filled: usize) -> i32
+fn judge(input: &[u8; INPUT], filled: usize) -> i32
     requires { ⌜ filled ≤ length (now input) ⌝ }
-    ensures { λ r. ⌜ Status r ⌝ }
+    ensures ends { λ r. ⌜ WholeEnds (now (input .entry)) filled r ⌝ }
+    ensures status { λ r. ⌜ Status r ⌝ }
 {
     let file = printing::front_of(input, filled);
     let opened = deck::open(file);
@@ -36,32 +44,22 @@ fn judge_front(input: &[u8; printing::INPUT], filled: usize) -> i32
     }
     let mut out = [0u8; telling::OUTPUT];
     let end = telling::state_front(said.state, input, filled, opened, &mut out);
-    starting::print(b"deckstate", &out[..end], opened.refusal != 0)
-}
-
-// Judges the file that is asked for; nothing is printed where it cannot be read.
-fn judge(asked: Asked) -> i32
-    ensures { λ r. ⌜ Status r ⌝ }
-{
-    let mut input = [0u8; printing::INPUT];
-    let front = reading::read_front(b"deckstate", asked.given[FILE], &mut input);
-    if front.failed {
-        return shell::FAILED;
-    }
-    judge_front(&input, front.filled)
+    printing::finish(&PROGRAM, 0, input, filled, &out[..end])
 }
 
 // What the program does, by its words: its status.
 pub fn run() -> i32
     ensures { λ r. ⌜ Status r ⌝ }
 {
-    let asked = starting::hear_all(b"-f         =", hearing::MOST_WORDS);
-    if asked.task == options::WORK {
-        return judge(asked);
+    let heard = starting::hear(&PROGRAM, &SYNOPSIS, &OPTIONS, hearing::MOST_WORDS);
+    if heard.ended {
+        return heard.status;
     }
-    starting::answer(
-        b"deckstate",
-        b"usage: deckstate [-f FILE] [FAN | board BOARD]...\n       deckstate --help\n       deckstate --version\n",
-        asked,
-    )
+    let asked = heard.asked;
+    let mut input = [0u8; INPUT];
+    let begun = starting::read_at(&PROGRAM, asked, asked.given[FILE], &mut input);
+    if begun.ended {
+        return begun.status;
+    }
+    judge(&input, begun.filled)
 }

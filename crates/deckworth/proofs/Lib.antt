@@ -1,2 +1,3 @@
 -- The laws of the listing of a file.
 mod Lengths
+mod Halves

@@ -21,6 +21,7 @@ use Rattle.deck.proofs.Sound.{sound, sound-few}
 use Rattle.ending.proofs.Asking.{same-number}
 use Rattle.advice.specs.Words.{because}
 use Rattle.advice.specs.File.{laidWhy, countsWhy, headerWhy, fileWhy}
+use Rattle.advice.specs.Causes.{headerShort, unknownVersion, zeroFieldSet, fansOut, systemsOut, boardsOut, boardPastLast}
 use Rattle.printing.specs.Front.{Front, Fronted}
 
 -- of two choices: by tests that both fail, and by tests that are the same
@@ -119,14 +120,14 @@ module _ (bytes : List ℕ) (k : ℕ) (long : longest < k) (inside : k ≤ lengt
       let lengths : lengthIn front ≡ lengthIn bytes = λ i. fileLength (version-same i) (fans-same i) (boards-same i) (count-same i) in
       past _ _ _ _ _ _ (le-ltb (length front) (lengthIn front) (omega (arith, size, early, lengths))) (le-ltb (length bytes) (lengthIn bytes) (omega (arith, early)))
       (either _ _ _ _ _ _ (long-layout front (rw size long) n m counted ∙ sym (long-layout bytes (omega arith) n' m' counted')) refl
-      (λ none. ap (λ g. because 8 g 0 0 0) boards-same))
+      (λ none. ap (λ g. because boardPastLast g 0 0 0) boards-same))
 
   counts-same : countsWhy front ≡ countsWhy bytes
   unfolding countsWhy
   counts-same =
-      either _ _ _ _ _ _ (ap badSize fans-same) (ap (λ n. because 3 n 0 0 0) fans-same) (λ fans.
-      either _ _ _ _ _ _ (ap (λ m. not (within 1 m mostSystems)) count-same) (ap (λ m. because 4 m 0 0 0) count-same) (λ systems.
-      either _ _ _ _ _ _ (λ i. badBoards (version-same i) (boards-same i)) (ap (λ g. because 5 g 0 0 0) boards-same) (λ counted. laid-same fans systems counted)))
+      either _ _ _ _ _ _ (ap badSize fans-same) (ap (λ n. because fansOut n 0 0 0) fans-same) (λ fans.
+      either _ _ _ _ _ _ (ap (λ m. not (within 1 m mostSystems)) count-same) (ap (λ m. because systemsOut m 0 0 0) count-same) (λ systems.
+      either _ _ _ _ _ _ (λ i. badBoards (version-same i) (boards-same i)) (ap (λ g. because boardsOut g 0 0 0) boards-same) (λ counted. laid-same fans systems counted)))
 
   header-same : headerWhy front ≡ headerWhy bytes
   unfolding headerWhy
@@ -134,17 +135,17 @@ module _ (bytes : List ℕ) (k : ℕ) (long : longest < k) (inside : k ≤ lengt
       let zeros = same-number bytes k 2 zeroField (omega arith) in
       let header = header-bounds (versionIn bytes) in
       let lengths = ap headerLength version-same in
-      let whole : cond (shortHeader front) (because 0 (length front) (headerLength (versionIn front)) 0 0) (countsWhy front)
-      ≡ cond (shortHeader bytes) (because 0 (length bytes) (headerLength (versionIn bytes)) 0 0) (countsWhy bytes) =
+      let whole : cond (shortHeader front) (because headerShort (length front) (headerLength (versionIn front)) 0 0) (countsWhy front)
+      ≡ cond (shortHeader bytes) (because headerShort (length bytes) (headerLength (versionIn bytes)) 0 0) (countsWhy bytes) =
       past _ _ _ _ _ _ (le-ltb (length front) (headerLength (versionIn front)) (omega (arith, size, lengths))) (le-ltb (length bytes) (headerLength (versionIn bytes)) (omega arith))
       counts-same in
-      λ i. cond (eqb (zeros i) 0) (whole i) (because 2 (zeros i) 0 0 0)
+      λ i. cond (eqb (zeros i) 0) (whole i) (because zeroFieldSet (zeros i) 0 0 0)
 
   same-why : fileWhy front ≡ fileWhy bytes
   unfolding fileWhy
   same-why =
       past _ _ _ _ _ _ (le-ltb (length front) shortestHeader (omega (arith, size))) (le-ltb (length bytes) shortestHeader (omega arith))
-      (either _ _ _ _ _ _ (ap badVersion version-same) (ap (λ v. because 1 v 0 0 0) version-same) (λ known. header-same))
+      (either _ _ _ _ _ _ (ap badVersion version-same) (ap (λ v. because unknownVersion v 0 0 0) version-same) (λ known. header-same))
 
   front-refused : fileRefusal front ≡ 0 → ⊥
   front-refused = long-refused front (rw size long)

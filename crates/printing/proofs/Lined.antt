@@ -1,7 +1,7 @@
 -- Lines put one after another into a buffer that has room for as many as there may be: how long they are at most, and how one more is added. Assumes nothing.
-use mathlib.Core.Path.{_≡_, refl}
+use mathlib.Core.Path.{_≡_, refl, sym, ap, _∙_}
 use mathlib.Core.Bool.{Bool, true, false}
-use mathlib.Core.List.{List}
+use mathlib.Core.List.{List, _++_, append-assoc, append-nil}
 use Prim.Native.Nat.{ℕ, zero, suc, _+_, _*_, _≤_, _<_}
 use native.Mathlib.Omega.{arith}
 use native.Mathlib.Numerals.{add-one}
@@ -19,6 +19,14 @@ unfolding linesText
 lines-short room zero line h = omega arith
 lines-short room (suc k) line h =
     omega (arith, length-append (linesText k line) (line k), lines-short room k line h, h k)
+
+-- the lines of so many things and of so many more are those of them all
+pub lines-split : (a b : ℕ) (line : ℕ → List ℕ) → linesText a line ++ linesText b (λ k. line (a + k)) ≡ linesText (a + b) line
+unfolding linesText
+lines-split a zero line = let same : a + 0 ≡ a = omega arith in rw same (append-nil (linesText a line))
+lines-split a (suc b) line =
+    let next : a + suc b ≡ suc (a + b) = omega arith in
+    rw next (sym (append-assoc (linesText a line) (linesText b (λ k. line (a + k))) (line (a + b))) ∙ ap (λ t. t ++ line (a + b)) (lines-split a b line))
 
 -- the lines of the first k of n things, in a buffer
 pub record Lined (n : ℕ) (line : ℕ → List ℕ) (out₀ : List ℕ) (at : ℕ) (out : List ℕ) (end k : ℕ) : Type 0 where

@@ -4,6 +4,8 @@ use mathlib.Core.Bool.{Bool}
 use mathlib.Core.List.{List, _++_}
 use Prim.Native.Nat.{ℕ, zero, suc}
 use native.Mathlib.Omega.{arith}
+use lib.IntN.{ℤ}
+use Rattle.shell.specs.Status.{statusOf, OrFailed}
 use Rattle.rules.specs.File.{fileRefusal}
 use Rattle.rules.proofs.Unless.{unless-some, unless-none}
 use Rattle.text.specs.Decimal.{text}
@@ -13,7 +15,7 @@ use Rattle.deck.specs.declared.Opened.{Opened}
 use Rattle.deck.specs.Outcome.{Opens}
 use Rattle.deck.proofs.Outcome.{opened-accepted}
 use Rattle.printing.specs.Lines.{fileText, printText, wordedText, fileWorded, wordedPrint}
-use Rattle.printing.specs.Front.{Front, Fronted, WholePrinted, WholeWorded}
+use Rattle.printing.specs.Front.{Front, Fronted, WholePrinted, WholeWorded, WholeRefused, WholeEnds}
 
 -- by what opening a file answers
 module _ (body : List ℕ → List ℕ) {bytes : List ℕ} {r : Opened} (opens : Opens bytes r) {out after : List ℕ} {end : ℕ} where
@@ -44,6 +46,10 @@ module _ (body : List ℕ → List ℕ) {buffer : List ℕ} {filled : ℕ} {file
   }
 
 -- the same where words are asked for: what opening a file answers, and the whole input
+pub print-worded : (words : Bool) (body : List ℕ → List ℕ) {bytes : List ℕ} {r : Opened} → Opens bytes r → r .refusal ≡ 0 → wordedPrint words body bytes ≡ body bytes
+unfolding wordedPrint
+print-worded words body {bytes} opens none = unless-none (fileRefusal bytes) (fileWorded words bytes) (body bytes) (opened-accepted opens none)
+
 module _ (words : Bool) (body : List ℕ → List ℕ) {bytes : List ℕ} {r : Opened} (opens : Opens bytes r) {out after : List ℕ} {end : ℕ} where
   pub refused-worded : (r .refusal ≡ 0 → ⊥) → Added (fileWorded words bytes (r .refusal)) out 0 after end → Added (wordedPrint words body bytes) out 0 after end
   unfolding wordedPrint
@@ -52,11 +58,10 @@ module _ (words : Bool) (body : List ℕ → List ℕ) {bytes : List ℕ} {r : O
       rw (unless-some (fileRefusal bytes) (fileWorded words bytes) (body bytes) (λ none. some (e ∙ none)), ← e) added
 
   pub body-worded : r .refusal ≡ 0 → Added (body bytes) out 0 after end → Added (wordedPrint words body bytes) out 0 after end
-  unfolding wordedPrint
-  body-worded none added = rw (unless-none (fileRefusal bytes) (fileWorded words bytes) (body bytes) (opened-accepted opens none)) added
+  body-worded none added = rw (print-worded words body opens none) added
 
 module _ (words : Bool) (body : List ℕ → List ℕ) {buffer : List ℕ} {filled : ℕ} {file : List ℕ} (is : Fronted buffer filled file) where
-  same-worded : (input : List ℕ) → Front input buffer filled → (r : ℕ) → fileRefusal file ≡ r → wordedPrint words body file ≡ wordedPrint words body input
+  pub same-worded : (input : List ℕ) → Front input buffer filled → (r : ℕ) → fileRefusal file ≡ r → wordedPrint words body file ≡ wordedPrint words body input
   unfolding wordedPrint
   same-worded input front zero none = ap (wordedPrint words body) (is .whole input front none)
   same-worded input front (suc r) e =
@@ -86,3 +91,7 @@ opened-whole {file} {r} is opens input front = go (fileRefusal file) (λ x. file
           refusal = opens .refusal ∙ same;
           head = opens .head ∙ unless-some (fileRefusal file) _ _ some ∙ sym (unless-some (fileRefusal input) _ _ (λ none. some (same ∙ none)));
         }
+
+-- a status by whether the front is refused is one by whether the input is
+pub ends-refused : {buffer : List ℕ} {filled : ℕ} {b tested : Bool} {r : ℤ} → WholeRefused buffer filled b → b ≡ tested → OrFailed (statusOf tested) r → WholeEnds buffer filled r
+ends-refused tells is status = record { ends = λ input front. rw (sym (tells .tells input front) ∙ is) status }

@@ -4,9 +4,11 @@ use mathlib.Core.Bool.{Bool, not}
 use mathlib.Core.List.{List}
 use Prim.Native.Nat.{ℕ, min}
 use lib.Dec.{eqb}
+use lib.IntN.{ℤ}
 use lib.ListN.{length, take}
 use Rattle.io.specs.Counts.{Counts}
 use Rattle.rules.specs.File.{fileRefusal}
+use Rattle.shell.specs.Status.{statusOf, OrFailed}
 use Rattle.advice.specs.File.{fileWhy}
 use Rattle.printing.specs.Lines.{printText, wordedPrint}
 
@@ -35,3 +37,7 @@ pub record WholeRefused (buffer : List ℕ) (filled : ℕ) (r : Bool) : Type 0 w
 pub record WholeWorded (words : Bool) (body : List ℕ → List ℕ) (buffer : List ℕ) (filled : ℕ) (out : List ℕ) (end : ℕ) : Type 0 where
   pub counts : Counts end out
   pub stands : (input : List ℕ) → Front input buffer filled → take end out ≡ wordedPrint words body input
+
+-- how a program ends that prints the input: by whether it is refused
+pub record WholeEnds (buffer : List ℕ) (filled : ℕ) (r : ℤ) : Type 0 where
+  pub ends : (input : List ℕ) → Front input buffer filled → OrFailed (statusOf (not (eqb (fileRefusal input) 0))) r

@@ -1,12 +1,14 @@
-// What the programs that print a deck file share: the file in a buffer that holds only the front of an input, and the
-// line of a refused one.
+// What the programs that print a deck file share: the file in a buffer that holds only the front of an input, the line
+// of a refused one, and how they end.
 ghost use Prim.Native.Nat.{_+_, _≤_};
 ghost use lib.ListN.{length};
 ghost use Rattle.text.specs.Added.{Added};
 ghost use Rattle.text.specs.Decimal.{text};
+ghost use Rattle.shell.specs.Status.{Status};
 ghost use Rattle.printing.specs.Lines.{fileText, fileRoom, wordedText, wordedRoom, fileWorded};
-ghost use Rattle.printing.specs.Front.{Fronted, WholeRefused};
+ghost use Rattle.printing.specs.Front.{Fronted, WholeRefused, WholeEnds};
 use advice::why::Why;
+use shell::starting;
 use text::lines;
 
 // The buffer for the input. No sound file has more than 812 bytes: what is cut from a longer input changes nothing.
@@ -62,4 +64,33 @@ pub fn put_worded_file(words: bool, file: &[u8], number: u64, out: &mut [u8]) ->
     let why = advice::file::file_why(file);
     let end = text::put(out, 0, b"file");
     put_worded(words, why, number, out, end)
+}
+
+// Ends a program that prints a text of the input: to standard output where the input is refused, and else to the output
+// at a place of the words, 0 for standard output. Answers the status.
+pub fn finish(program: &[u8], place: usize, input: &[u8; INPUT], filled: usize, text: &[u8]) -> i32
+    requires { ⌜ filled ≤ length (now input) ⌝ }
+    ensures ends { λ r. ⌜ WholeEnds (now (input .entry)) filled r ⌝ }
+    ensures status { λ r. ⌜ Status r ⌝ }
+{
+    if refused(input, filled) {
+        return starting::print(program, 0, text, true);
+    }
+    starting::print(program, place, text, false)
+}
+
+// The same of a text in two buffers, to standard output.
+pub fn finish_two(
+    program: &[u8],
+    input: &[u8; INPUT],
+    filled: usize,
+    text: &[u8],
+    more: &[u8],
+) -> i32
+    requires { ⌜ filled ≤ length (now input) ⌝ }
+    ensures ends { λ r. ⌜ WholeEnds (now (input .entry)) filled r ⌝ }
+    ensures status { λ r. ⌜ Status r ⌝ }
+{
+    let refused = refused(input, filled);
+    starting::print_two(program, text, more, refused)
 }

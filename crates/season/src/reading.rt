@@ -4,6 +4,7 @@ ghost use lib.ListN.{length};
 ghost use Rattle.shell.specs.Edges.{labelRoom, FitsNext};
 ghost use Rattle.season_stream.specs.Reading.{Sane};
 use ending::LONGEST;
+use libc::STDERR_FILENO;
 use options::Asked;
 use season_stream::Reading;
 use shell::names::LABEL;
@@ -55,7 +56,7 @@ fn read_piece(
 }
 
 // Reads until the stream ends, or nothing more is read of it.
-pub fn read_stream(shown: bool, asked: Asked, source: Source, label: &mut [u8; LABEL]) -> Got
+fn read_stream(shown: bool, asked: Asked, source: Source, label: &mut [u8; LABEL]) -> Got
     requires { ⌜ source .end ≤ labelRoom ⌝ }
     ensures { λ r. ⌜ Sane (r .reading) ⌝ }
 {
@@ -82,4 +83,30 @@ pub fn read_stream(shown: bool, asked: Asked, source: Source, label: &mut [u8; L
         reading,
         failed: false,
     }
+}
+
+// Wipes what was told of the decks.
+fn wipe(shown: bool) {
+    if shown {
+        writing::say(b"\r                \r");
+    }
+}
+
+// Reads the files that are asked for. Where standard error is a terminal, decks are told as they are read.
+pub fn read_all(asked: Asked) -> Got
+    ensures { λ r. ⌜ Sane (r .reading) ⌝ }
+{
+    let mut label = [0u8; LABEL];
+    let source = sources::begin(b"season", asked, &mut label);
+    if source.fd < 0 {
+        let reading = season_stream::start();
+        return Got {
+            reading,
+            failed: true,
+        };
+    }
+    let shown = libc::isatty(STDERR_FILENO) == 1;
+    let got = read_stream(shown, asked, source, &mut label);
+    wipe(shown);
+    got
 }

@@ -1,2 +1,3 @@
--- What ends within a buffer.
+-- The laws of what is read.
 pub mod Counted
+mod Took

@@ -3,8 +3,9 @@ use lib.IntN.{ℤ, pos, negsuc}
 use mathlib.Core.Bool.{Bool, true, false, cond}
 use mathlib.Core.Logic.{_⊎_}
 use mathlib.Core.Path.{_≡_}
-use Prim.Native.Nat.{ℕ}
+use Prim.Native.Nat.{ℕ, _≤_}
 use lib.Dec.{eqb, ltb}
+use Rattle.shell.specs.declared.starting.Begun.{Begun}
 
 -- what was asked for was written
 abbrev pub done : ℤ
@@ -30,6 +31,10 @@ OrFailed status r = (r ≡ status) ⊎ (r ≡ failed)
 abbrev pub Handed : (size : ℕ) (r : ℤ) → Type 0
 Handed size r = OrFailed (statusOf (eqb size 0)) r
 
+-- what words ask for without work was written, or a word was wrong
+abbrev pub answerStatus : (task : ℕ) → ℤ
+answerStatus task = cond (eqb task 1) done (cond (eqb task 2) done failed)
+
 -- one of the three
 abbrev pub isStatus : ℤ → Bool
 isStatus (pos n) = ltb n 3
@@ -37,3 +42,8 @@ isStatus (negsuc n) = false
 
 abbrev pub Status : ℤ → Type 0
 Status r = isStatus r ≡ true
+
+-- a program has begun: so many bytes of its input are in a buffer, and its status is one of these where it has ended
+pub record Begins (most : ℕ) (r : Begun) : Type 0 where
+  pub front : r .filled ≤ most
+  pub status : Status (r .status)

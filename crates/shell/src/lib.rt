@@ -4,6 +4,7 @@ pub mod names; // names.rt: what a message names
 pub mod reading; // reading.rt: its input
 pub mod sources; // sources.rt: several inputs as one
 pub mod starting; // starting.rt: how it starts
+pub mod taking; // taking.rt: what reads take of it
 pub mod writing; // writing.rt: its output
 
 // The exit status: what was asked for was written; the file was refused, or the text has faults; a word was wrong, or

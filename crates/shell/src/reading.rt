@@ -1,21 +1,17 @@
 // A program's input: standard input, or the file that one of its words names.
-ghost use Prim.Native.Nat.{_≤_};
-ghost use lib.ListN.{length};
 ghost use mathlib.Core.Path.{_≡_};
-ghost use Rattle.shell.specs.Edges.{FitsIn, FewMore, FitsWith};
+ghost use lib.ListN.{length};
+ghost use Rattle.shell.specs.Edges.{FitsIn};
+ghost use Rattle.shell.specs.Taken.{unopenedWhole, Fills, Counted, Through};
 use crate::names::LABEL;
+use crate::taking;
+use crate::taking::Taken;
 use libc::STDERR_FILENO;
 use libc::STDIN_FILENO;
 
 // What reading gave: so many bytes at the buffer's front, up to the input's end or the buffer's; or a read that failed.
 pub enum Input {
     Filled(usize),
-    Failed,
-}
-
-// What counting gave: so many bytes up to the input's end; or a read that failed.
-pub enum Rest {
-    Counted(u64),
     Failed,
 }
 
@@ -26,7 +22,7 @@ const MOST_TRIES: u64 = 1000000;
 // reaches.
 const PASSING: usize = 4096;
 
-const MOST_COUNTED: u64 = 4611686018427387904;
+const MOST_COUNTED: usize = 4611686018427387904;
 
 // The descriptor of the input at a place of the words, or -1: standard input for place 0 and for `-`.
 pub fn open(place: usize) -> i32 {
@@ -70,95 +66,109 @@ pub fn read_some(fd: i32, buffer: &mut [u8]) -> Input
     Input::Failed
 }
 
-// Reads until the input ends or the buffer is full; a read that fails is told by its label.
-pub fn fill(fd: i32, label: &[u8], buffer: &mut [u8]) -> Input
-    ensures { λ r. ⌜ FitsIn (length (now (buffer .exit))) r ⌝ }
-{
-    let mut filled = 0;
-    while filled < buffer.len() {
-        let Input::Filled(more) = read_some(fd, &mut buffer[filled..]) else {
-            os::fail(label);
-            return Input::Failed;
-        };
-        if more == 0 {
-            return Input::Filled(filled);
-        }
-        filled += more;
+// Tells a read that failed by its label.
+fn tell_failed(taken: Taken, label: &[u8]) {
+    if taking::has_failed(taken) {
+        os::fail(label);
     }
-    Input::Filled(filled)
+}
+
+// Reads until the input ends or the buffer is full; a read that fails is told by its label.
+pub fn fill(fd: i32, label: &[u8], buffer: &mut [u8]) -> Taken
+    ensures { λ r. ⌜ Fills (length (now (buffer .exit))) r ⌝ }
+{
+    let mut taken = taking::nothing();
+    let mut filled: usize = 0;
+    while filled < buffer.len() {
+        taken = taking::take(fd, &mut buffer[filled..], taken);
+        if !taking::goes_on(taken) {
+            tell_failed(taken, label);
+            return taken;
+        }
+        filled = taking::count(taken);
+    }
+    taken
 }
 
 // Reads what is left of an input and counts it; a read that fails is told likewise.
-pub fn count_rest(fd: i32, label: &[u8]) -> Rest
-    ensures { λ r. ⌜ FewMore r ⌝ }
+pub fn count_rest(fd: i32, label: &[u8]) -> Taken
+    ensures { λ r. ⌜ Counted r ⌝ }
 {
     let mut passing = [0u8; PASSING];
-    let mut count: u64 = 0;
+    let mut taken = taking::nothing();
+    let mut count: usize = 0;
     while count < MOST_COUNTED {
-        let Input::Filled(more) = read_some(fd, &mut passing) else {
-            os::fail(label);
-            return Rest::Failed;
-        };
-        if more == 0 {
-            return Rest::Counted(count);
+        taken = taking::take(fd, &mut passing, taken);
+        if !taking::goes_on(taken) {
+            tell_failed(taken, label);
+            return taken;
         }
-        count += more as u64;
+        count = taking::count(taken);
     }
-    Rest::Counted(count)
+    taken
 }
 
-// An input whose front is read into a buffer and whose rest is counted, or one that could not be read.
+// An input whose front is read into a buffer, and what follows a full one.
 pub struct Whole {
-    pub filled: usize,
-    pub rest: u64,
-    pub failed: bool,
-}
-
-// Nothing was read.
-fn nothing() -> Whole
-    ensures { λ r. ⌜ (r .filled ≡ 0) × (r .rest ≡ 0) ⌝ }
-{
-    Whole {
-        filled: 0,
-        rest: 0,
-        failed: true,
-    }
+    pub front: Taken,
+    pub rest: Taken,
 }
 
 // The front of an open input, and how much follows it; what fails is told by its label.
 fn read_through(fd: i32, label: &[u8], buffer: &mut [u8]) -> Whole
-    ensures { λ r. ⌜ FitsWith (length (now (buffer .exit))) r ⌝ }
+    ensures { λ r. ⌜ Through (length (now (buffer .exit))) r ⌝ }
 {
-    let Input::Filled(filled) = fill(fd, label, buffer) else {
-        return nothing();
-    };
-    if filled < buffer.len() {
-        return Whole {
-            filled,
-            rest: 0,
-            failed: false,
-        };
+    let front = fill(fd, label, buffer);
+    if !taking::goes_on(front) {
+        let rest = taking::nothing();
+        return Whole { front, rest };
     }
-    let Rest::Counted(rest) = count_rest(fd, label) else {
-        return nothing();
-    };
-    Whole {
-        filled,
-        rest,
-        failed: false,
-    }
+    let rest = count_rest(fd, label);
+    Whole { front, rest }
+}
+
+// How many bytes of it are in the buffer.
+pub fn filled(whole: Whole) -> usize
+    ensures { λ r. ⌜ r ≡ whole .front .count ⌝ }
+{
+    let front = whole.front;
+    taking::count(front)
+}
+
+// How many follow.
+pub fn rest(whole: Whole) -> u64
+    ensures { λ r. ⌜ r ≡ whole .rest .count ⌝ }
+{
+    let rest = whole.rest;
+    taking::count(rest) as u64
+}
+
+// Has a read of it failed?
+pub fn has_failed(whole: Whole) -> bool {
+    let front = whole.front;
+    let rest = whole.rest;
+    taking::has_failed(front) || taking::has_failed(rest)
+}
+
+// An input that could not be opened.
+fn unopened() -> Whole
+    ensures { λ r. ⌜ r ≡ unopenedWhole ⌝ }
+{
+    let front = taking::unopened();
+    let rest = taking::nothing();
+    Whole { front, rest }
 }
 
 // Opens the input at a place of the words, reads its front into the buffer and counts its rest; what fails is told.
 pub fn read_whole(program: &[u8], place: usize, buffer: &mut [u8]) -> Whole
-    ensures { λ r. ⌜ FitsWith (length (now (buffer .exit))) r ⌝ }
+    ensures { λ r. ⌜ Through (length (now (buffer .exit))) r ⌝ }
 {
     let mut label = [0u8; LABEL];
     let end = crate::names::put_label(program, place, b"standard input", &mut label);
     let fd = open(place);
     if fd < 0 {
         os::fail(&label[..end]);
-        return nothing();
+        return unopened();
     }
     tell_waiting(program, fd);
     let whole = read_through(fd, &label[..end], buffer);
@@ -167,32 +177,18 @@ pub fn read_whole(program: &[u8], place: usize, buffer: &mut [u8]) -> Whole
 }
 
 // The same of an input whose rest is of no matter, and is not read.
-pub fn read_front(program: &[u8], place: usize, buffer: &mut [u8]) -> Whole
-    ensures { λ r. ⌜ FitsWith (length (now (buffer .exit))) r ⌝ }
+pub fn read_front(program: &[u8], place: usize, buffer: &mut [u8]) -> Taken
+    ensures { λ r. ⌜ Fills (length (now (buffer .exit))) r ⌝ }
 {
     let mut label = [0u8; LABEL];
     let end = crate::names::put_label(program, place, b"standard input", &mut label);
     let fd = open(place);
     if fd < 0 {
         os::fail(&label[..end]);
-        return nothing();
+        return taking::unopened();
     }
     tell_waiting(program, fd);
-    let whole = fill_front(fd, &label[..end], buffer);
+    let front = fill(fd, &label[..end], buffer);
     libc::close(fd);
-    whole
-}
-
-// The front of an open input.
-fn fill_front(fd: i32, label: &[u8], buffer: &mut [u8]) -> Whole
-    ensures { λ r. ⌜ FitsWith (length (now (buffer .exit))) r ⌝ }
-{
-    let Input::Filled(filled) = fill(fd, label, buffer) else {
-        return nothing();
-    };
-    Whole {
-        filled,
-        rest: 0,
-        failed: false,
-    }
+    front
 }

@@ -1,19 +1,21 @@
-// How a program starts: it hears its words, and answers those that ask for no work.
+// How a program starts: it hears its words, answers those that ask for no work, and reads its input; and how it ends.
 ghost use Prim.Native.Nat.{_≤_, _*_};
 ghost use lib.ListN.{length};
-ghost use Rattle.io.specs.Counts.{Counts};
 ghost use Rattle.options.specs.Words.{rowLength, mostOptions};
-ghost use mathlib.Core.Bool.{false};
-ghost use mathlib.Core.Path.{_≡_};
-ghost use Rattle.shell.specs.Status.{failed, statusOf, Handed, OrFailed, Status};
+ghost use Rattle.saying.specs.Said.{nameRoom, synopsisRoom};
+ghost use Rattle.shell.specs.Status.{statusOf, answerStatus, Handed, OrFailed, Status, Begins};
+use crate::reading;
+use crate::taking;
 use crate::writing;
 use options::Asked;
 
-// Room for a program's name and version.
-const LINE: usize = 64;
-
-// So much of a wrong word is shown.
-const SHOWN: usize = 60;
+// What a program is to do, with so many bytes of its input in a buffer; or it has ended, with its status.
+pub struct Begun {
+    pub asked: Asked,
+    pub filled: usize,
+    pub ended: bool,
+    pub status: i32,
+}
 
 // All words of the program, by its table of options and the most operands that it takes.
 pub fn hear_all(table: &[u8], most: u64) -> Asked
@@ -31,91 +33,108 @@ pub fn hear_all(table: &[u8], most: u64) -> Asked
     options::finish(asked, i - 1)
 }
 
-// Writes a text to standard output, and answers the program's status: whether the text tells a refusal.
-pub fn print(program: &[u8], text: &[u8], refused: bool) -> i32
+// Hears the words; those that ask for no work are answered, and the program has ended.
+pub fn hear(program: &[u8], synopsis: &[u8], table: &[u8], most: u64) -> Begun
+    requires named { ⌜ (length (now program) ≤ nameRoom) × (length (now synopsis) ≤ synopsisRoom) ⌝ }
+    requires rows { ⌜ length (now table) ≤ rowLength * mostOptions ⌝ }
+    ensures { λ r. ⌜ Begins 0 r ⌝ }
+{
+    let asked = hear_all(table, most);
+    if asked.task != options::WORK {
+        let status = answer(program, synopsis, asked);
+        return Begun {
+            asked,
+            filled: 0,
+            ended: true,
+            status,
+        };
+    }
+    Begun {
+        asked,
+        filled: 0,
+        ended: false,
+        status: crate::DONE,
+    }
+}
+
+// Reads the front of the input at a place of the words; one that cannot be read has been told, and the program has
+// ended.
+pub fn read_at(program: &[u8], asked: Asked, place: usize, input: &mut [u8]) -> Begun
+    ensures { λ r. ⌜ Begins (length (now (input .exit))) r ⌝ }
+{
+    let front = reading::read_front(program, place, input);
+    if taking::has_failed(front) {
+        return Begun {
+            asked,
+            filled: 0,
+            ended: true,
+            status: crate::FAILED,
+        };
+    }
+    Begun {
+        asked,
+        filled: taking::count(front),
+        ended: false,
+        status: crate::DONE,
+    }
+}
+
+// Both, of the input that the first operand names, or of standard input.
+pub fn begin(program: &[u8], synopsis: &[u8], table: &[u8], most: u64, input: &mut [u8]) -> Begun
+    requires named { ⌜ (length (now program) ≤ nameRoom) × (length (now synopsis) ≤ synopsisRoom) ⌝ }
+    requires rows { ⌜ length (now table) ≤ rowLength * mostOptions ⌝ }
+    ensures { λ r. ⌜ Begins (length (now (input .exit))) r ⌝ }
+{
+    let heard = hear(program, synopsis, table, most);
+    if heard.ended {
+        return heard;
+    }
+    let asked = heard.asked;
+    read_at(program, asked, asked.first, input)
+}
+
+// Writes a text to the output at a place of the words, 0 for standard output, and answers the program's status: whether
+// the text tells a refusal.
+pub fn print(program: &[u8], place: usize, text: &[u8], refused: bool) -> i32
+    ensures { λ r. ⌜ OrFailed (statusOf refused) r ⌝ }
+    ensures { λ r. ⌜ Status r ⌝ }
+{
+    if !writing::write_out(program, place, text) {
+        return crate::FAILED;
+    }
+    if refused { crate::REFUSED } else { crate::DONE }
+}
+
+// The same of a text that stands in two buffers, to standard output.
+pub fn print_two(program: &[u8], text: &[u8], more: &[u8], refused: bool) -> i32
     ensures { λ r. ⌜ OrFailed (statusOf refused) r ⌝ }
     ensures { λ r. ⌜ Status r ⌝ }
 {
     if !writing::write_out(program, 0, text) {
         return crate::FAILED;
     }
-    if refused { crate::REFUSED } else { crate::DONE }
+    print(program, 0, more, refused)
 }
 
-// Puts the program's name and version; answers where that ends.
-fn put_version(program: &[u8], out: &mut [u8; LINE]) -> usize
-    ensures { λ r. ⌜ Counts r (now (out .exit)) ⌝ }
-{
-    let line: &mut [u8] = out;
-    let end = text::put(line, 0, program);
-    text::put(line, end, b" 1.0.0\n")
-}
-
-// Prints that.
-fn print_version(program: &[u8]) -> i32
-    ensures { λ r. ⌜ OrFailed (statusOf false) r ⌝ }
-    ensures { λ r. ⌜ Status r ⌝ }
-{
-    let mut line = [0u8; LINE];
-    let end = put_version(program, &mut line);
-    print(program, &line[..end], false)
-}
-
-// A byte as it is shown: what is no plain character is a question mark.
-fn plain(byte: u8) -> u8 {
-    if byte < 32 {
-        return b'?';
-    }
-    if byte > 126 {
-        return b'?';
-    }
-    byte
-}
-
-// Shows the front of a word on standard error.
-fn show(word: &[u8]) {
-    let mut shown = [0u8; SHOWN];
-    let mut i: usize = 0;
-    while i < SHOWN {
-        if i >= word.len() {
-            break;
-        }
-        shown[i] = plain(word[i]);
-        i += 1;
-    }
-    writing::say(&shown[..i]);
-}
-
-// Says which word is wrong and what to do.
-fn tell_wrong(program: &[u8], asked: Asked) -> i32
-    ensures { λ r. ⌜ r ≡ failed ⌝ }
+// Answers words that ask for no work: how the program is started and its version on standard output, which word is
+// wrong on standard error.
+fn answer(program: &[u8], synopsis: &[u8], asked: Asked) -> i32
+    requires { ⌜ (length (now program) ≤ nameRoom) × (length (now synopsis) ≤ synopsisRoom) ⌝ }
+    ensures { λ r. ⌜ OrFailed (answerStatus (asked .task)) r ⌝ }
     ensures { λ r. ⌜ Status r ⌝ }
 {
     let mut word = io::buffer();
     let length = os::arg(asked.at, &mut word);
-    writing::say(program);
-    writing::say(b": ");
-    show(&word[..length]);
+    let mut out = [0u8; saying::SAID];
+    let end = saying::put_answer(program, synopsis, asked.task, &word[..length], &mut out);
     let task = asked.task;
     match task {
-        options::UNKNOWN => writing::say(b": there is no such option; "),
-        options::MANY => writing::say(b": one word too many; "),
-        _ => writing::say(b": the word that belongs to it is missing; "),
-    }
-    writing::say(program);
-    writing::say(b" --help says what it takes\n");
-    crate::FAILED
-}
-
-// Answers words that ask for no work: how the program is started, its version, or which word is wrong.
-pub fn answer(program: &[u8], usage: &[u8], asked: Asked) -> i32
-    ensures { λ r. ⌜ Status r ⌝ }
-{
-    let task = asked.task;
-    match task {
-        options::HELP => print(program, usage, false),
-        options::VERSION => print_version(program),
-        _ => tell_wrong(program, asked),
+        options::HELP => print(program, 0, &out[..end], false),
+        options::VERSION => print(program, 0, &out[..end], false),
+        _ => {
+            writing::say(&out[..end]);
+            crate::FAILED
+        }
     }
 }
 

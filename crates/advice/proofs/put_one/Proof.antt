@@ -2,6 +2,7 @@
 use mathlib.Core.Path.{_≡_, refl}
 use native.Mathlib.Omega.{arith}
 use Rattle.advice.specs.Words.{forms}
+use Rattle.advice.specs.Causes.{secondSet, numberOut, runOut, weightOut, noWeight}
 use Rattle.advice.proofs.Worded.{worded}
 use borrow.Author.Needs.{needs}
 use Rattle.advice.proofs.put_one.Statement.{statement}
@@ -48,7 +49,7 @@ unfolding forms
 returns c =
     let put = c .before .before in
     let in-arm = put .before .before .before in
-    worded (in-arm .before .before .before .args .why) 14 (in-arm .match .keys1) refl (in-arm .before .numbers-of .ensures) (put .put-form .ensures)
+    worded (in-arm .before .before .before .args .why) secondSet (in-arm .match .keys1) refl (in-arm .before .numbers-of .ensures) (put .put-form .ensures)
 
 same-length-2 : tie.Need-same-length-2
 same-length-2 c = search needs
@@ -58,7 +59,7 @@ unfolding forms
 returns-2 c =
     let put = c .before .before in
     let in-arm = put .before .before .before in
-    worded (in-arm .before .before .before .args .why) 15 (in-arm .match .keys2) refl (in-arm .before .numbers-of .ensures) (put .put-form2 .ensures)
+    worded (in-arm .before .before .before .args .why) numberOut (in-arm .match .keys2) refl (in-arm .before .numbers-of .ensures) (put .put-form2 .ensures)
 
 same-length-3 : tie.Need-same-length-3
 same-length-3 c = search needs
@@ -68,7 +69,7 @@ unfolding forms
 returns-3 c =
     let put = c .before .before in
     let in-arm = put .before .before .before in
-    worded (in-arm .before .before .before .args .why) 16 (in-arm .match .keys3) refl (in-arm .before .numbers-of .ensures) (put .put-form3 .ensures)
+    worded (in-arm .before .before .before .args .why) runOut (in-arm .match .keys3) refl (in-arm .before .numbers-of .ensures) (put .put-form3 .ensures)
 
 same-length-4 : tie.Need-same-length-4
 same-length-4 c = search needs
@@ -78,7 +79,7 @@ unfolding forms
 returns-4 c =
     let put = c .before .before in
     let in-arm = put .before .before .before in
-    worded (in-arm .before .before .before .args .why) 17 (in-arm .match .keys4) refl (in-arm .before .numbers-of .ensures) (put .put-form4 .ensures)
+    worded (in-arm .before .before .before .args .why) weightOut (in-arm .match .keys4) refl (in-arm .before .numbers-of .ensures) (put .put-form4 .ensures)
 
 same-length-5 : tie.Need-same-length-5
 same-length-5 c = search needs
@@ -93,8 +94,8 @@ returns-5 c =
     let none16 = none17 .0 in
     let none15 = none16 .0 in
     let none14 = none15 .0 in
-    let last : start .args .why .row ≡ 18 = omega (arith, start .pre .0, none17 .1, none16 .1, none15 .1, none14 .1) in
-    worded (start .args .why) 18 last refl (in-arm .before .numbers-of .ensures) (put .put-form5 .ensures)
+    let last : start .args .why .row ≡ noWeight = omega (arith, start .pre .0, none17 .1, none16 .1, none15 .1, none14 .1) in
+    worded (start .args .why) noWeight last refl (in-arm .before .numbers-of .ensures) (put .put-form5 .ensures)
 
 pub put-one-spec : {M : Type 1} → statement M
 put-one-spec =

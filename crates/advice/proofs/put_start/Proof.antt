@@ -2,6 +2,7 @@
 use mathlib.Core.Path.{_≡_, refl}
 use native.Mathlib.Omega.{arith}
 use Rattle.advice.specs.Words.{forms}
+use Rattle.advice.specs.Causes.{headerShort, unknownVersion, zeroFieldSet, fansOut}
 use Rattle.advice.proofs.Worded.{worded}
 use borrow.Author.Needs.{needs}
 use Rattle.advice.proofs.put_start.Statement.{statement}
@@ -42,7 +43,7 @@ unfolding forms
 returns c =
     let put = c .before .before in
     let in-arm = put .before .before .before in
-    worded (in-arm .before .before .before .args .why) 0 (in-arm .match .keys1) refl (in-arm .before .numbers-of .ensures) (put .put-form .ensures)
+    worded (in-arm .before .before .before .args .why) headerShort (in-arm .match .keys1) refl (in-arm .before .numbers-of .ensures) (put .put-form .ensures)
 
 same-length-2 : tie.Need-same-length-2
 same-length-2 c = search needs
@@ -52,7 +53,7 @@ unfolding forms
 returns-2 c =
     let put = c .before .before in
     let in-arm = put .before .before .before in
-    worded (in-arm .before .before .before .args .why) 1 (in-arm .match .keys2) refl (in-arm .before .numbers-of .ensures) (put .put-form2 .ensures)
+    worded (in-arm .before .before .before .args .why) unknownVersion (in-arm .match .keys2) refl (in-arm .before .numbers-of .ensures) (put .put-form2 .ensures)
 
 same-length-3 : tie.Need-same-length-3
 same-length-3 c = search needs
@@ -62,7 +63,7 @@ unfolding forms
 returns-3 c =
     let put = c .before .before in
     let in-arm = put .before .before .before in
-    worded (in-arm .before .before .before .args .why) 2 (in-arm .match .keys3) refl (in-arm .before .numbers-of .ensures) (put .put-form3 .ensures)
+    worded (in-arm .before .before .before .args .why) zeroFieldSet (in-arm .match .keys3) refl (in-arm .before .numbers-of .ensures) (put .put-form3 .ensures)
 
 same-length-4 : tie.Need-same-length-4
 same-length-4 c = search needs
@@ -76,8 +77,8 @@ returns-4 c =
     let none2 = in-arm .match .rest in
     let none1 = none2 .0 in
     let none0 = none1 .0 in
-    let last : start .args .why .row ≡ 3 = omega (arith, start .pre .0, none2 .1, none1 .1, none0 .1) in
-    worded (start .args .why) 3 last refl (in-arm .before .numbers-of .ensures) (put .put-form4 .ensures)
+    let last : start .args .why .row ≡ fansOut = omega (arith, start .pre .0, none2 .1, none1 .1, none0 .1) in
+    worded (start .args .why) fansOut last refl (in-arm .before .numbers-of .ensures) (put .put-form4 .ensures)
 
 pub put-start-spec : {M : Type 1} → statement M
 put-start-spec =

@@ -1,4 +1,5 @@
 -- `put_why` meets its contract, by which rows each function has. Assumes nothing.
+use native.Mathlib.Omega.{arith}
 use Rattle.advice.specs.Words.{forms}
 use Rattle.advice.proofs.Worded.{none-worded}
 use borrow.Author.Needs.{needs}
@@ -50,13 +51,22 @@ same-length-5 c = search needs
 returns-5 : tie.Need-returns-5
 returns-5 c = search needs
 
+put-fan-requires : tie.Need-put-fan-requires
+put-fan-requires c κs = search needs
+
+same-length-6 : tie.Need-same-length-6
+same-length-6 c = search needs
+
 returns-6 : tie.Need-returns-6
+returns-6 c = search needs
+
+returns-7 : tie.Need-returns-7
 unfolding forms
-returns-6 c =
-    let past14 = c .before .before .before .before in
-    let past4 = past14 .before .before .before .before in
-    let start = past4 .before .before .before in
-    none-worded _ _ (start .args .why) (c .if5 .left) (start .pre)
+returns-7 c =
+    let past19 = c .before .before .before .before in
+    let past9 = past19 .before .before .before .before in
+    let start = past9 .before .before .before .before .before in
+    none-worded _ _ (start .args .why) (omega (arith, c .if6 .left, c .before .before .if5 .left)) (start .pre)
 
 pub put-why-spec : {M : Type 1} → statement M
 put-why-spec =
@@ -77,4 +87,7 @@ put-why-spec =
     put-two-requires
     same-length-5
     returns-5
-    returns-6)
+    put-fan-requires
+    same-length-6
+    returns-6
+    returns-7)

@@ -6,6 +6,7 @@ use Rattle.rules.specs.Refusal.{badSize, badBoards}
 use Rattle.rules.specs.File.{mostSystems}
 use Rattle.advice.specs.Words.{because}
 use Rattle.advice.specs.File.{countsWhy}
+use Rattle.advice.specs.Causes.{fansOut, systemsOut, boardsOut}
 use borrow.Author.Needs.{needs}
 use Rattle.advice.proofs.file.counts_why.Statement.{statement}
 use Rattle.advice.proofs.file.counts_why.Tie as tie
@@ -22,7 +23,7 @@ returns c =
     let sized = c .before .before in
     let says = sized .before .before .pre .says in
     let fans = sym (sized .size-out .ensures ∙ ap badSize (says .fans)) in
-    rw (fans ∙ c .before .if1 .taken) (c .because .ensures ∙ ap (λ n. because 3 n 0 0 0) (says .fans))
+    rw (fans ∙ c .before .if1 .taken) (c .because .ensures ∙ ap (λ n. because fansOut n 0 0 0) (says .fans))
 
 outside-requires : tie.Need-outside-requires
 outside-requires c κs = search needs
@@ -38,7 +39,7 @@ returns-2 c =
     let says = sized .before .before .pre .says in
     let fans = sym (sized .size-out .ensures ∙ ap badSize (says .fans)) in
     let systems = sym (counted .outside .ensures ∙ ap (λ m. not (within 1 m mostSystems)) (says .systems)) in
-    rw (fans ∙ counted .before .if1 .left, systems ∙ c .before .if2 .taken) (c .because2 .ensures ∙ ap (λ m. because 4 m 0 0 0) (says .systems))
+    rw (fans ∙ counted .before .if1 .left, systems ∙ c .before .if2 .taken) (c .because2 .ensures ∙ ap (λ m. because systemsOut m 0 0 0) (says .systems))
 
 boards-out-requires : tie.Need-boards-out-requires
 boards-out-requires c κs = search needs
@@ -57,7 +58,7 @@ returns-3 c =
     let systems = sym (counted .outside .ensures ∙ ap (λ m. not (within 1 m mostSystems)) (says .systems)) in
     let boards = sym (boarded .boards-out .ensures ∙ (λ i. badBoards (says .version i) (says .boards i))) in
     rw (fans ∙ counted .before .if1 .left, systems ∙ boarded .before .if2 .left, boards ∙ c .before .if3 .taken)
-    (c .because3 .ensures ∙ ap (λ g. because 5 g 0 0 0) (says .boards))
+    (c .because3 .ensures ∙ ap (λ g. because boardsOut g 0 0 0) (says .boards))
 
 laid-why-requires : tie.Need-laid-why-requires
 laid-why-requires c κs = search needs

@@ -6,6 +6,7 @@ use Rattle.rules.specs.Refusal.{badVersion}
 use Rattle.rules.specs.File.{shortestHeader, versionIn}
 use Rattle.advice.specs.Words.{because}
 use Rattle.advice.specs.File.{fileWhy}
+use Rattle.advice.specs.Causes.{unknownVersion}
 use borrow.Author.Needs.{needs}
 use Rattle.advice.proofs.file.file_why.Statement.{statement}
 use Rattle.advice.proofs.file.file_why.Tie as tie
@@ -34,7 +35,7 @@ returns-2 c =
     let bytes = read .before .before .before .args .file .now in
     let version = read .number2 .ensures in
     rw (le-ltb (length bytes) shortestHeader (read .before .if1 .left), sym (asked .version-out .ensures ∙ ap badVersion version) ∙ c .before .if2 .taken)
-    (c .because2 .ensures ∙ ap (λ v. because 1 v 0 0 0) version)
+    (c .because2 .ensures ∙ ap (λ v. because unknownVersion v 0 0 0) version)
 
 header-why-requires : tie.Need-header-why-requires
 header-why-requires c κs = search needs

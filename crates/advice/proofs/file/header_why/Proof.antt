@@ -6,6 +6,7 @@ use borrow.Author.Tests.{eq-eqb, ne-eqb, lt-ltb, le-ltb}
 use Rattle.rules.specs.File.{zeroField, headerLength, numberAt, versionIn}
 use Rattle.advice.specs.Words.{because}
 use Rattle.advice.specs.File.{headerWhy}
+use Rattle.advice.specs.Causes.{headerShort, zeroFieldSet}
 use borrow.Author.Needs.{needs}
 use Rattle.advice.proofs.file.header_why.Statement.{statement}
 use Rattle.advice.proofs.file.header_why.Tie as tie
@@ -22,7 +23,7 @@ returns c =
     let read = c .before .before in
     let bytes = read .before .before .args .file .now in
     let zeros = read .number2 .ensures in
-    rw (ne-eqb (numberAt 2 bytes zeroField) 0 (λ e. c .before .if1 .taken (zeros ∙ e))) (c .because .ensures ∙ ap (λ z. because 2 z 0 0 0) zeros)
+    rw (ne-eqb (numberAt 2 bytes zeroField) 0 (λ e. c .before .if1 .taken (zeros ∙ e))) (c .because .ensures ∙ ap (λ z. because zeroFieldSet z 0 0 0) zeros)
 
 header-length-requires : tie.Need-header-length-requires
 header-length-requires c κs = search needs
@@ -41,7 +42,7 @@ returns-2 c =
     rw (
       eq-eqb (numberAt 2 bytes zeroField) 0 (sym (read .number2 .ensures) ∙ measured .before .if1 .left),
       lt-ltb (length bytes) (headerLength (versionIn bytes)) (rw header at (c .before .if2 .taken)),
-    ) (c .because2 .ensures ∙ ap (λ h. because 0 (length bytes) h 0 0) header)
+    ) (c .because2 .ensures ∙ ap (λ h. because headerShort (length bytes) h 0 0) header)
 
 head-given-requires : tie.Need-head-given-requires
 head-given-requires c κs =

@@ -5,6 +5,7 @@ use borrow.Author.Tests.{lt-ltb, le-ltb}
 use Rattle.rules.specs.File.{fileLength, lengthIn}
 use Rattle.advice.specs.Words.{because}
 use Rattle.advice.specs.File.{laidWhy}
+use Rattle.advice.specs.Causes.{endsEarly, boardPastLast}
 use borrow.Author.Needs.{needs}
 use Rattle.advice.proofs.file.laid_why.Statement.{statement}
 use Rattle.advice.proofs.file.laid_why.Tie as tie
@@ -23,7 +24,7 @@ returns c =
     let bytes = start .args .file .now in
     let says = start .pre .says in
     let ends = measured .length-given .ensures ∙ (λ x. fileLength (says .version x) (says .fans x) (says .boards x) (says .systems x)) in
-    rw (lt-ltb (length bytes) (lengthIn bytes) (rw ends at (c .before .if1 .taken))) (c .because .ensures ∙ ap (λ x. because 6 (length bytes) x 0 0) ends)
+    rw (lt-ltb (length bytes) (lengthIn bytes) (rw ends at (c .before .if1 .taken))) (c .because .ensures ∙ ap (λ x. because endsEarly (length bytes) x 0 0) ends)
 
 bad-layout-requires : tie.Need-bad-layout-requires
 bad-layout-requires c κs = search needs
@@ -55,7 +56,7 @@ returns-3 c =
     let says = start .pre .says in
     let ends = measured .length-given .ensures ∙ (λ x. fileLength (says .version x) (says .fans x) (says .boards x) (says .systems x)) in
     rw (le-ltb (length bytes) (lengthIn bytes) (rw ends at (looked .before .if1 .left)), sym (looked .bad-layout .ensures) ∙ c .before .if2 .left)
-    (c .because3 .ensures ∙ ap (λ g. because 8 g 0 0 0) (says .boards))
+    (c .because3 .ensures ∙ ap (λ g. because boardPastLast g 0 0 0) (says .boards))
 
 pub laid-why-spec : {M : Type 1} → statement M
 laid-why-spec =

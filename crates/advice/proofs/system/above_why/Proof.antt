@@ -8,6 +8,7 @@ use borrow.Author.Tests.{lt-ltb, le-ltb}
 use Rattle.rules.proofs.Accepted.{in-stretch}
 use Rattle.advice.specs.Words.{because}
 use Rattle.advice.specs.System.{aboveFrom, aboveWhy}
+use Rattle.advice.specs.Causes.{fanAbove, boardAbove}
 use borrow.Author.Needs.{needs}
 use Rattle.advice.proofs.system.above_why.Statement.{statement}
 use Rattle.advice.proofs.system.above_why.Tie as tie
@@ -39,7 +40,7 @@ returns c =
     let looked = at-test .before in
     let unit = looked .before .before .before .args .unit in
     rw (← looked .above-from .ensures .0, lt-ltb _ _ (at-test .if1 .taken))
-    (c .because .ensures ∙ ap (λ p. because 11 (looked .above-from .result + 1) p unit 0) (c .before .number-at .ensures))
+    (c .because .ensures ∙ ap (λ p. because fanAbove (looked .above-from .result + 1) p unit 0) (c .before .number-at .ensures))
 
 above-from-requires-2 : tie.Need-above-from-requires-2
 above-from-requires-2 c κs = search needs
@@ -63,7 +64,7 @@ returns-2 c =
     let boards = looked .before .before .before .args .switchboards .now in
     let found : again .above-from2 .result ≡ aboveFrom unit boards 0 (length boards) = rw (sub-zero (length boards)) at (again .above-from2 .ensures .0) in
     rw (← looked .above-from .ensures .0, le-ltb _ _ (at-test .if1 .left), ← found)
-    (c .because2 .ensures ∙ ap (λ p. because 12 (again .above-from2 .result + 1) p unit 0) (c .before .number-at2 .ensures))
+    (c .because2 .ensures ∙ ap (λ p. because boardAbove (again .above-from2 .result + 1) p unit 0) (c .before .number-at2 .ensures))
 
 pub above-why-spec : {M : Type 1} → statement M
 above-why-spec =

@@ -7,6 +7,7 @@ use borrow.Author.Tests.{eq-eqb, ne-eqb}
 use Rattle.rules.proofs.Accepted.{in-stretch}
 use Rattle.advice.specs.Words.{because}
 use Rattle.advice.specs.System.{aboveWhy, rangeWhy, ratedWhy}
+use Rattle.advice.specs.Causes.{tooHeavy}
 use borrow.Author.Needs.{needs}
 use Rattle.advice.proofs.system.rated_why.Statement.{statement}
 use Rattle.advice.proofs.system.rated_why.Tie as tie
@@ -52,7 +53,7 @@ returns-2 c =
     let at-test = weighed .before in
     let start = at-test .before .before .before .before in
     rw (ne-eqb (start .args .number) 4 (at-test .if1 .left), eq-eqb (start .args .number) 5 (c .before .if2 .taken))
-    (c .because .ensures ∙ ap (λ w. because 13 w 0 0 0) (weighed .weight-from .ensures))
+    (c .because .ensures ∙ ap (λ w. because tooHeavy w 0 0 0) (weighed .weight-from .ensures))
 
 sub-range-why : tie.Need-sub-range-why
 sub-range-why c =

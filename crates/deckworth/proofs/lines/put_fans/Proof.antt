@@ -1,20 +1,20 @@
 -- `lines::put_fans` meets its contract: the buffer so far has the lines of the fans passed, and room for the rest. The measure is the number of fans
 -- left. Assumes nothing.
-use Prim.Native.Nat.{_+_, _-_}
+use Prim.Native.Nat.{_-_}
 use native.Mathlib.Omega.{arith}
-use Rattle.rules.specs.File.{mostFans, worthIn}
+use Rattle.rules.specs.File.{mostFans}
 use Rattle.deck.proofs.Kept.{few-fans}
 use Rattle.printing.proofs.Lined.{Lined, no-lines, room-left, one-more, all-lines}
 use Rattle.deckworth.specs.Lines.{lineRoom, fanLine}
-use Rattle.deckworth.proofs.Lengths.{line-short}
+use Rattle.deckworth.proofs.Lengths.{fan-short}
 use Rattle.deckworth.proofs.lines.put_fans.Statement.{statement}
 use Rattle.deckworth.proofs.lines.put_fans.Tie as tie
 
 abbrev Inv-loop : tie.InvT-loop
-Inv-loop file head s out₀ at end₀ i₀ out end i = Lined (head .fans) (fanLine file s) out₀ at out end i
+Inv-loop words file head s out₀ at end₀ i₀ out end i = Lined (head .fans) (fanLine words file s) out₀ at out end i
 
 abbrev μ-loop : tie.MeasureT-loop
-μ-loop file head s out₀ at end₀ i₀ out end i = head .fans - i
+μ-loop words file head s out₀ at end₀ i₀ out end i = head .fans - i
 
 loop-holds : tie.Need-loop-holds Inv-loop μ-loop
 loop-holds c = no-lines _ _ _ _
@@ -23,13 +23,11 @@ put-fan-requires : tie.Need-put-fan-requires Inv-loop μ-loop
 put-fan-requires c κs =
     let in-loop = c .before .before .before in
     let start = in-loop .before .before .before in
-    let bytes = start .args .file .now in
-    let s = start .args .s in
     let placed = start .pre .0 in (
       placed,
       (
         c .before .if1 .taken,
-        room-left (in-loop .loop .inv) lineRoom mostFans (λ i. line-short (s + 1) (i + 1) (worthIn bytes s (i + 1))) (c .before .if1 .taken) (few-fans (placed .headed)) (start .pre .1),
+        room-left (in-loop .loop .inv) lineRoom mostFans (fan-short (start .args .words) (start .args .file .now) (start .args .s)) (c .before .if1 .taken) (few-fans (placed .headed)) (start .pre .1),
       ),
     )
 

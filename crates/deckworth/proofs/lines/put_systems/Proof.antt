@@ -1,68 +1,74 @@
--- `lines::put_systems` meets its contract: the buffer so far has the lines of the systems passed, and room for the rest. The measure is the number of systems
--- left. Assumes nothing.
-use Prim.Native.Nat.{_-_}
+-- `lines::put_systems` meets its contract: the lines of few systems stand in the first buffer, those of more in both, half of the most in the first. Assumes nothing.
+use mathlib.Core.Path.{ap, sym, _∙_}
 use native.Mathlib.Omega.{arith}
-use Rattle.rules.specs.File.{mostSystems}
 use Rattle.deck.proofs.Kept.{few-systems}
-use Rattle.printing.proofs.Lined.{Lined, no-lines, room-left, one-more, all-lines}
-use Rattle.deckworth.specs.Lines.{fansText, fansRoom}
-use Rattle.deckworth.proofs.Lengths.{fans-short}
+use Rattle.printing.specs.Lines.{linesText}
+use Rattle.deckworth.specs.Lines.{fansText, InTwo}
+use Rattle.deckworth.proofs.Halves.{in-first, in-both, from-first, halves}
+use borrow.Author.Needs.{needs}
 use Rattle.deckworth.proofs.lines.put_systems.Statement.{statement}
 use Rattle.deckworth.proofs.lines.put_systems.Tie as tie
 
-abbrev Inv-loop : tie.InvT-loop
-Inv-loop file head out₀ end₀ s₀ out end s = Lined (head .systems) (fansText file) out₀ 0 out end s
+put-some-requires : tie.Need-put-some-requires
+put-some-requires c κs =
+    let at-test = c .before in
+    let start = at-test .before .before .before .before .before in
+    (start .pre .0, ((omega arith, omega (arith, at-test .if1 .taken)), start .pre .1 .0))
 
-abbrev μ-loop : tie.MeasureT-loop
-μ-loop file head out₀ end₀ s₀ out end s = head .systems - s
+same-length : tie.Need-same-length
+same-length c = search needs
 
-loop-holds : tie.Need-loop-holds Inv-loop μ-loop
-loop-holds c = no-lines _ _ _ _
-
-put-fans-requires : tie.Need-put-fans-requires Inv-loop μ-loop
-put-fans-requires c κs =
-    let in-loop = c .before .before .before in
-    let start = in-loop .before .before .before in
-    let headed = start .pre .0 in (
-      record { headed = headed; place = c .before .if1 .taken },
-      room-left (in-loop .loop .inv) fansRoom mostSystems (fans-short headed) (c .before .if1 .taken) (few-systems headed) (omega (arith, start .pre .1)),
-    )
-
-add-s : tie.Need-add-s Inv-loop μ-loop
-add-s c =
-    let at-test = c .before .before .before .before in
-    let at-loop = at-test .before .before in
-    let start = at-loop .before .before .before in
-    omega (arith, at-test .if1 .taken, few-systems (start .pre .0))
-
-loop-less : tie.Need-loop-less Inv-loop μ-loop
-loop-less c = omega (arith, c .before .before .before .before .if1 .taken)
-
-loop-again : tie.Need-loop-again Inv-loop μ-loop
-loop-again c =
-    let put = c .before .before .put-fans in
-    let at-test = c .before .before .before .before in
-    one-more (at-test .before .before .loop .inv) (at-test .if1 .taken) (omega (arith, put .kept)) (put .ensures)
-
-same-length : tie.Need-same-length Inv-loop μ-loop
-same-length c = c .before .before .loop .inv .same
-
-returns : tie.Need-returns Inv-loop μ-loop
+returns : tie.Need-returns
 returns c =
-    let at-loop = c .before .before in
-    let start = at-loop .before .before .before in
-    rw (start .pre .0 .says .systems) at (all-lines (at-loop .loop .inv) (c .if1 .left))
+    let put = c .before .before in
+    let start = put .before .before .before .before .before .before .before in
+    let words = start .args .words in
+    let bytes = start .args .file .now in
+    let all = in-first (start .args .more .now) (put .put-some .ensures) in
+    rw (from-first words bytes (start .args .head .systems), start .pre .0 .says .systems) at all
+
+put-some-requires-2 : tie.Need-put-some-requires-2
+put-some-requires-2 c κs =
+    let at-test = c .before in
+    let start = at-test .before .before .before .before .before in
+    (start .pre .0, ((omega (arith, at-test .if1 .left), omega arith), start .pre .1 .0))
+
+sub-put-some : tie.Need-sub-put-some
+sub-put-some c = search needs
+
+put-some-requires-3 : tie.Need-put-some-requires-3
+put-some-requires-3 c κs =
+    let at-test = c .before .before .before .before .before .before in
+    let start = at-test .before .before .before .before .before in
+    (start .pre .0, ((omega (arith, at-test .if1 .left), omega (arith, few-systems (start .pre .0))), start .pre .1 .1))
+
+same-length-2 : tie.Need-same-length-2
+same-length-2 c = search needs
+
+same-length-3 : tie.Need-same-length-3
+same-length-3 c = search needs
+
+returns-2 : tie.Need-returns-2
+returns-2 c =
+    let second = c .before .before in
+    let first = second .before .before .before .before .before in
+    let at-test = first .before .before in
+    let start = at-test .before .before .before .before .before in
+    let words = start .args .words in
+    let bytes = start .args .file .now in
+    let m = start .args .head .systems in
+    rw (halves words bytes m (omega (arith, at-test .if1 .left)), start .pre .0 .says .systems) at (in-both (first .put-some2 .ensures) (second .put-some3 .ensures))
 
 pub put-systems-spec : {M : Type 1} → statement M
 put-systems-spec =
     tie.close
     (tie.spec
-    Inv-loop
-    μ-loop
-    loop-holds
-    put-fans-requires
-    add-s
-    loop-less
-    loop-again
+    put-some-requires
     same-length
-    returns)
+    returns
+    put-some-requires-2
+    sub-put-some
+    put-some-requires-3
+    same-length-2
+    same-length-3
+    returns-2)

@@ -30,13 +30,13 @@ put-requires c κs =
     let ends = known .worth .given .0 in
     let pair = c .before .before .before .before .put-signed-pair in
     let reach = signed-pair-reach (text " lower ") (held (ends .0)) (text " upper ") (held (ends .1 .0)) (pair .ensures) in
-    omega (arith, known .before .before .before .pre, pair .kept, reach)
+    omega (arith, known .before .before .before .before .pre .1 .1, pair .kept, reach)
 
 enum-known-worth-2 : tie.Need-enum-known-worth-2
 enum-known-worth-2 c = search needs
 
-put-refused-requires : tie.Need-put-refused-requires
-put-refused-requires c κs = search needs
+put-refusal-requires : tie.Need-put-refusal-requires
+put-refusal-requires c κs = search needs
 
 same-length : tie.Need-same-length
 same-length c = search needs
@@ -51,14 +51,14 @@ returns c =
     let upper = toZ-ofZ w64 (is .0 .1 .0) (record { sfits = fits .1 .0 .1 }) in
     let ends = rw (lower, upper) at (pair .ensures) in
     let reach = signed-pair-reach (text " lower ") (is .0 .0) (text " upper ") (is .0 .1 .0) ends in
-    let room = told .before .before .before .before .pre in
+    let room = told .before .before .before .before .before .pre .1 .1 in
     rw (is .1) (added-more ends (put-added (omega (arith, room, pair .kept, reach)) (c .before .before .put .ensures)))
 
 same-length-2 : tie.Need-same-length-2
 same-length-2 c = search needs
 
 returns-2 : tie.Need-returns-2
-returns-2 c = rw (c .before .before .before .before .before .worth2 .given .1) (c .before .before .put-refused .ensures)
+returns-2 c = rw (c .before .before .before .before .before .worth2 .given .1) (c .before .before .put-refusal .ensures)
 
 pub put-worth-spec : {M : Type 1} → statement M
 put-worth-spec =
@@ -71,7 +71,7 @@ put-worth-spec =
     slice-aggregate-put
     put-requires
     enum-known-worth-2
-    put-refused-requires
+    put-refusal-requires
     same-length
     returns
     same-length-2

@@ -1,60 +1,74 @@
--- `reading::count_rest` meets its contract: a read adds no more than its buffer takes to a count that is below the most. The measure is what that leaves, which every turn
--- makes less. Assumes nothing.
-use mathlib.Core.Path.{_≡_, refl}
-use Prim.Native.Nat.{_-_, _^_, _<_}
+-- `reading::count_rest` meets its contract: reads go on while bytes come and the count is below the most. The measure is what that leaves, which every turn makes less. Assumes nothing.
+use mathlib.Core.Path.{_≡_, refl, sym, _∙_}
+use Prim.Native.Nat.{_-_, _^_}
 use native.Mathlib.Omega.{arith}
 use lib.ListN.{length}
+use borrow.Author.Tests.{not-true, not-false}
+use Rattle.shell.proofs.Took.{Counting, counting-none, counting-ends, counting-more, counting-full}
 use borrow.Author.Needs.{needs}
 use Rattle.shell.proofs.reading.count_rest.Statement.{statement}
 use Rattle.shell.proofs.reading.count_rest.Tie as tie
 
 abbrev Inv-loop : tie.InvT-loop
-Inv-loop fd label passing₀ count₀ passing count = (count < 2 ^ 63) × (length passing ≡ 4096)
+Inv-loop fd label passing₀ taken₀ count₀ passing taken count = Counting (length passing) taken count
 
 abbrev μ-loop : tie.MeasureT-loop
-μ-loop fd label passing₀ count₀ passing count = 2 ^ 62 - count
+μ-loop fd label passing₀ taken₀ count₀ passing taken count = 2 ^ 62 - count
+
+nothing-requires : tie.Need-nothing-requires Inv-loop μ-loop
+nothing-requires c κs = search needs
 
 loop-holds : tie.Need-loop-holds Inv-loop μ-loop
-loop-holds c = (omega arith, refl)
+loop-holds c = counting-none _ refl (c .nothing .ensures)
 
-slice-aggregate-read-some : tie.Need-slice-aggregate-read-some Inv-loop μ-loop
-slice-aggregate-read-some c = search needs
+slice-aggregate-take : tie.Need-slice-aggregate-take Inv-loop μ-loop
+slice-aggregate-take c = search needs
 
-read-some-requires : tie.Need-read-some-requires Inv-loop μ-loop
-read-some-requires c κs = search needs
+take-requires : tie.Need-take-requires Inv-loop μ-loop
+take-requires c κs =
+    let at-test = c .before in
+    let at-loop = at-test .before in
+    let inv = at-loop .loop .inv in
+    (omega (arith, inv .room), omega (arith, inv .same, inv .room, at-test .loop-test .taken))
 
-enum-known-more : tie.Need-enum-known-more Inv-loop μ-loop
-enum-known-more c = search needs
+goes-on-requires : tie.Need-goes-on-requires Inv-loop μ-loop
+goes-on-requires c κs = search needs
 
-enum-told : tie.Need-enum-told Inv-loop μ-loop
-enum-told c = search needs
-
-fail-requires : tie.Need-fail-requires Inv-loop μ-loop
-fail-requires c κs = search needs
+tell-failed-requires : tie.Need-tell-failed-requires Inv-loop μ-loop
+tell-failed-requires c κs = search needs
 
 returns : tie.Need-returns Inv-loop μ-loop
-returns c = search needs
+returns c =
+    let at-test = c .before in
+    let took = at-test .before .before .before in
+    let in-turn = took .before .before in
+    let at-loop = in-turn .before in
+    let ended = sym (at-test .before .goes-on .ensures) ∙ not-true _ (at-test .if1 .taken) in
+    counting-ends (at-loop .loop .inv) (in-turn .loop-test .taken) (took .take .ensures) ended
 
-returns-2 : tie.Need-returns-2 Inv-loop μ-loop
-returns-2 c = c .before .before .before .before .before .before .before .before .loop .inv .0
-
-add-count : tie.Need-add-count Inv-loop μ-loop
-add-count c =
-    let read = c .before .before .before .before .before .read-some in
-    let some = rw (c .before .before .more .given .1) at (read .ensures) in
-    omega (arith, some, read .kept, c .before .before .before .before .before .before .before .before .loop .inv .1)
+count-requires : tie.Need-count-requires Inv-loop μ-loop
+count-requires c κs = search needs
 
 loop-less : tie.Need-loop-less Inv-loop μ-loop
-loop-less c = omega arith
+loop-less c =
+    let asked = c .before .before in
+    let took = asked .before .before in
+    let in-turn = took .before .before in
+    let at-loop = in-turn .before in
+    let going = sym (asked .goes-on .ensures) ∙ not-false _ (c .before .if1 .left) in
+    omega (arith, c .count .ensures, took .take .ensures .some going, at-loop .loop .inv .same, in-turn .loop-test .taken)
 
 loop-again : tie.Need-loop-again Inv-loop μ-loop
 loop-again c =
-    let read = c .before .before .before .before .before .read-some in
-    let some = rw (c .before .before .more .given .1) at (read .ensures) in
-    (omega (arith, some, read .kept, c .before .before .before .before .before .before .before .before .loop .inv .1), omega (arith, read .kept, c .before .before .before .before .before .before .before .before .loop .inv .1))
+    let asked = c .before .before in
+    let took = asked .before .before in
+    let in-turn = took .before .before in
+    let at-loop = in-turn .before in
+    let going = sym (asked .goes-on .ensures) ∙ not-false _ (c .before .if1 .left) in
+    counting-more (at-loop .loop .inv) (in-turn .loop-test .taken) (took .take .ensures) going (omega (arith, took .take .kept, at-loop .loop .inv .room)) (omega (arith, took .take .kept, at-loop .loop .inv .room)) (c .count .ensures)
 
-returns-3 : tie.Need-returns-3 Inv-loop μ-loop
-returns-3 c = c .before .loop .inv .0
+returns-2 : tie.Need-returns-2 Inv-loop μ-loop
+returns-2 c = counting-full (c .before .loop .inv) (c .loop-test .left)
 
 pub count-rest-spec : {M : Type 1} → statement M
 count-rest-spec =
@@ -62,15 +76,14 @@ count-rest-spec =
     (tie.spec
     Inv-loop
     μ-loop
+    nothing-requires
     loop-holds
-    slice-aggregate-read-some
-    read-some-requires
-    enum-known-more
-    enum-told
-    fail-requires
+    slice-aggregate-take
+    take-requires
+    goes-on-requires
+    tell-failed-requires
     returns
-    returns-2
-    add-count
+    count-requires
     loop-less
     loop-again
-    returns-3)
+    returns-2)

@@ -1,75 +1,88 @@
--- `reading::fill` meets its contract: what is filled lies within the buffer, and a read fills no more than what is left. The measure is what
--- is left of the buffer, of which every turn fills some. Assumes nothing.
-use mathlib.Core.Path.{_≡_, refl}
-use Prim.Native.Nat.{_-_, _≤_}
+-- `reading::fill` meets its contract: reads go on while bytes come and the buffer has room. The measure is what is left of the buffer, of which every turn fills some. Assumes nothing.
+use mathlib.Core.Path.{_≡_, refl, sym, ap, _∙_}
+use Prim.Native.Nat.{_-_}
 use native.Mathlib.Omega.{arith}
 use lib.ListN.{length}
+use borrow.Author.Tests.{not-true, not-false}
+use Rattle.shell.proofs.Took.{Filling, filling-ends, filling-more, filling-full, filling-none}
 use borrow.Author.Needs.{needs}
 use Rattle.shell.proofs.reading.fill.Statement.{statement}
 use Rattle.shell.proofs.reading.fill.Tie as tie
 
 abbrev Inv-loop : tie.InvT-loop
-Inv-loop fd label buffer₀ filled₀ buffer filled = (filled ≤ length buffer) × (length buffer ≡ length buffer₀)
+Inv-loop fd label buffer₀ taken₀ filled₀ buffer taken filled = Filling (length buffer₀) (length buffer) taken filled
 
 abbrev μ-loop : tie.MeasureT-loop
-μ-loop fd label buffer₀ filled₀ buffer filled = length buffer - filled
+μ-loop fd label buffer₀ taken₀ filled₀ buffer taken filled = length buffer - filled
+
+nothing-requires : tie.Need-nothing-requires Inv-loop μ-loop
+nothing-requires c κs = search needs
 
 loop-holds : tie.Need-loop-holds Inv-loop μ-loop
-loop-holds c = (omega arith, refl)
+loop-holds c = filling-none _ (c .nothing .ensures)
 
-sub-read-some : tie.Need-sub-read-some Inv-loop μ-loop
-sub-read-some c = search needs
+sub-take : tie.Need-sub-take Inv-loop μ-loop
+sub-take c = search needs
 
-part-read-some-start : tie.Need-part-read-some-start Inv-loop μ-loop
-part-read-some-start c = search needs
+part-take-start : tie.Need-part-take-start Inv-loop μ-loop
+part-take-start c = search needs
 
-part-read-some-end : tie.Need-part-read-some-end Inv-loop μ-loop
-part-read-some-end c = search needs
+part-take-end : tie.Need-part-take-end Inv-loop μ-loop
+part-take-end c = search needs
 
-read-some-requires : tie.Need-read-some-requires Inv-loop μ-loop
-read-some-requires c κs = search needs
+take-requires : tie.Need-take-requires Inv-loop μ-loop
+take-requires c κs =
+    let at-test = c .before in
+    let at-loop = at-test .before in
+    let inv = at-loop .loop .inv in
+    (omega (arith, at-test .loop-test .taken), omega (arith, inv .same, at-test .loop-test .taken))
 
-enum-known-more : tie.Need-enum-known-more Inv-loop μ-loop
-enum-known-more c = search needs
+goes-on-requires : tie.Need-goes-on-requires Inv-loop μ-loop
+goes-on-requires c κs = search needs
 
-enum-told : tie.Need-enum-told Inv-loop μ-loop
-enum-told c = search needs
-
-fail-requires : tie.Need-fail-requires Inv-loop μ-loop
-fail-requires c κs = search needs
+tell-failed-requires : tie.Need-tell-failed-requires Inv-loop μ-loop
+tell-failed-requires c κs = search needs
 
 same-length : tie.Need-same-length Inv-loop μ-loop
-same-length c = search needs
+same-length c =
+    let to-took = c .before .before .before .before in
+    let took = to-took .before in
+    let at-loop = took .before .before .before in
+    omega (arith, took .take .kept, at-loop .loop .inv .kept)
 
 returns : tie.Need-returns Inv-loop μ-loop
-returns c = search needs
+returns c =
+    let at-test = c .before in
+    let took = at-test .before .before .before .before in
+    let at-loop = took .before .before .before in
+    let ended = sym (at-test .before .goes-on .ensures) ∙ not-true _ (at-test .if1 .taken) in
+    filling-ends (at-loop .loop .inv) (omega (arith, took .take .kept, at-loop .loop .inv .kept)) (took .take .ensures) ended
 
-same-length-2 : tie.Need-same-length-2 Inv-loop μ-loop
-same-length-2 c = search needs
-
-returns-2 : tie.Need-returns-2 Inv-loop μ-loop
-returns-2 c = search needs
-
-add-filled : tie.Need-add-filled Inv-loop μ-loop
-add-filled c =
-    let read = c .before .before .before .before .before .before .read-some in
-    let some = rw (c .before .before .more .given .1) at (read .ensures) in
-    omega (arith, some, read .kept)
+count-requires : tie.Need-count-requires Inv-loop μ-loop
+count-requires c κs = search needs
 
 loop-less : tie.Need-loop-less Inv-loop μ-loop
-loop-less c = search needs
+loop-less c =
+    let asked = c .before .before in
+    let took = asked .before .before .before in
+    let in-turn = took .before .before in
+    let at-loop = in-turn .before in
+    let going = sym (asked .goes-on .ensures) ∙ not-false _ (c .before .if1 .left) in
+    omega (arith, c .count .ensures, took .take .ensures .some going, at-loop .loop .inv .same, in-turn .loop-test .taken, took .take .kept)
 
 loop-again : tie.Need-loop-again Inv-loop μ-loop
 loop-again c =
-    let read = c .before .before .before .before .before .before .read-some in
-    let some = rw (c .before .before .more .given .1) at (read .ensures) in
-    (omega (arith, some, read .kept), omega (arith, read .kept))
+    let asked = c .before .before in
+    let took = asked .before .before .before in
+    let at-loop = took .before .before .before in
+    let going = sym (asked .goes-on .ensures) ∙ not-false _ (c .before .if1 .left) in
+    filling-more (at-loop .loop .inv) (took .take .ensures) going (omega (arith, took .take .kept)) (omega (arith, took .take .kept)) (c .count .ensures)
 
-same-length-3 : tie.Need-same-length-3 Inv-loop μ-loop
-same-length-3 c = search needs
+same-length-2 : tie.Need-same-length-2 Inv-loop μ-loop
+same-length-2 c = c .before .loop .inv .kept
 
-returns-3 : tie.Need-returns-3 Inv-loop μ-loop
-returns-3 c = search needs
+returns-2 : tie.Need-returns-2 Inv-loop μ-loop
+returns-2 c = filling-full (c .before .loop .inv) (c .loop-test .left)
 
 pub fill-spec : {M : Type 1} → statement M
 fill-spec =
@@ -77,20 +90,18 @@ fill-spec =
     (tie.spec
     Inv-loop
     μ-loop
+    nothing-requires
     loop-holds
-    sub-read-some
-    part-read-some-start
-    part-read-some-end
-    read-some-requires
-    enum-known-more
-    enum-told
-    fail-requires
+    sub-take
+    part-take-start
+    part-take-end
+    take-requires
+    goes-on-requires
+    tell-failed-requires
     same-length
     returns
-    same-length-2
-    returns-2
-    add-filled
+    count-requires
     loop-less
     loop-again
-    same-length-3
-    returns-3)
+    same-length-2
+    returns-2)
