@@ -8,9 +8,11 @@ use Rattle.rules.specs.declared.Verdict.{Verdict}
 use Rattle.rules.specs.declared.Verdict.the-variants.{Works, Fails, Refused}
 use Rattle.rules.specs.File.{mostSystems, countIn}
 use Rattle.text.specs.Decimal.{text}
-use Rattle.text.specs.Lines.{named, namedRoom, pairText, pairRoom, refusedText}
+use Rattle.text.specs.Lines.{named, namedRoom, refusedText}
 use Rattle.printing.specs.Lines.{linesText}
 use Rattle.states.specs.States.{verdictIn}
+use Rattle.saying.specs.Said.{mostShown, shown}
+use Rattle.deckstate.specs.Words.{wantsBoard, wantsNoBoard, wantsNumber}
 
 -- place 0 is none
 abbrev pub placeText : (place : ℕ) → List ℕ
@@ -44,9 +46,23 @@ statesText state bytes = linesText (countIn bytes) (systemLine state bytes)
 abbrev pub outputRoom : ℕ
 outputRoom = 2048
 
--- the line of a wrong word: "one line on standard error that says which"
-abbrev pub wrongText : (wrong most : ℕ) → List ℕ
-wrongText wrong most = pairText (text "deckstate: word ") wrong (text " is no number from 1 to ") most ++ text "\n"
+-- the line of a wrong word: "one line on standard error that says which"; and what was wanted in its place
+abbrev pub mostText : (before : List ℕ) (most : ℕ) (behind : List ℕ) → List ℕ
+mostText before most behind = named before most ++ behind
+
+abbrev pub wantedText : (wanted most : ℕ) → List ℕ
+wantedText wanted most =
+    cond (eqb wanted wantsBoard) (mostText (text "wanted a board from 1 to ") most (text "\n"))
+    (cond (eqb wanted wantsNoBoard) (text "this deck has no boards\n")
+    (cond (eqb wanted wantsNumber) (mostText (text "wanted the number of a board from 1 to ") most (text " behind it\n"))
+    (mostText (text "wanted a fan from 1 to ") most (text ", a range as 3-7 or a list as 3,4,9\n"))))
+
+abbrev pub wantedRoom : ℕ
+wantedRoom = 96
+
+abbrev pub wrongText : (wrong : ℕ) (word : List ℕ) (wanted most : ℕ) → List ℕ
+wrongText wrong word wanted most =
+    named (text "deckstate: word ") wrong ++ (text ", \"" ++ shown word ++ text "\": ") ++ wantedText wanted most
 
 abbrev pub wrongRoom : ℕ
-wrongRoom = pairRoom (text "deckstate: word ") (text " is no number from 1 to ") + 1
+wrongRoom = namedRoom (text "deckstate: word ") + mostShown + 6 + wantedRoom

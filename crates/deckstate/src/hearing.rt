@@ -168,28 +168,46 @@ fn hear(n: u64, g: u64, boards: &[u8], hearing: Hearing, place: usize, word: &[u
     }
 }
 
+// The place of the last word that was listened to: one that is no option, while none before it is wrong.
+fn listened(before: Hearing, next: Hearing, place: usize, at: usize) -> usize {
+    if before.said.wrong != 0 {
+        return at;
+    }
+    if before.heard < next.heard { place } else { at }
+}
+
+// What was heard, and the place of the last word that was listened to: the wrong one, where one is.
+pub struct AllHeard {
+    pub hearing: Hearing,
+    pub at: usize,
+}
+
 // The loop over the words of the program, for a deck of n fans on these boards, of which there are g.
-fn hear_words(n: u64, g: u64, boards: &[u8]) -> Hearing
+fn hear_words(n: u64, g: u64, boards: &[u8]) -> AllHeard
     requires { ⌜ (n ≤ most) × (length (now boards) ≤ most) ⌝ }
 {
     let count = os::arg_count();
     let mut word = [0u8; WORD];
     let mut hearing = silence();
+    let mut at: usize = 0;
     let mut i: usize = 1;
     while i < count {
         let length = os::arg(i, &mut word);
-        hearing = hear(n, g, boards, hearing, i, &word[..length]);
+        let next = hear(n, g, boards, hearing, i, &word[..length]);
+        at = listened(hearing, next, i, at);
+        hearing = next;
         i += 1;
     }
-    hearing
+    AllHeard { hearing, at }
 }
 
 // The same for the deck of a file that was opened; of a refused file no word is heard.
-pub fn hear_all(file: &[u8], opened: Opened) -> Hearing
+pub fn hear_all(file: &[u8], opened: Opened) -> AllHeard
     requires { ⌜ Opens (now file) opened ⌝ }
 {
     if opened.refusal != 0 {
-        return silence();
+        let hearing = silence();
+        return AllHeard { hearing, at: 0 };
     }
     let head = opened.head;
     let boards = deck::boards_in(file, head);

@@ -7,24 +7,33 @@ ghost use Prim.Native.Nat.{_≤_};
 ghost use lib.ListN.{length};
 ghost use Rattle.shell.specs.Status.{Status, failed};
 ghost use Rattle.printing.specs.Front.{WholeEnds};
+use crate::hearing::Said;
 use printing::INPUT;
 use shell::starting;
 use shell::writing;
 
 const PROGRAM: [u8; 9] = *b"deckstate";
 
-const SYNOPSIS: [u8; 32] = *b"[-f FILE] [FAN | board BOARD]...";
+const SYNOPSIS: [u8; 33] = *b"[-f FILE] [FANS | board BOARD]...";
 
 const OPTIONS: [u8; 12] = *b"-f         =";
 
 const FILE: usize = 0;
 
-// Says on standard error which word is wrong.
-fn tell_wrong(wrong: u64, most: u64) -> i32
+// Says on standard error which word is wrong, and what was wanted; it stands at this place.
+fn tell_wrong(said: Said, place: usize) -> i32
     ensures { λ r. ⌜ r ≡ failed ⌝ }
 {
+    let mut word = io::buffer();
+    let length = os::arg(place, &mut word);
     let mut line = [0u8; telling::LINE];
-    let end = telling::put_wrong(wrong, most, &mut line);
+    let end = telling::put_wrong(
+        said.wrong,
+        &word[..length],
+        said.wanted,
+        said.most,
+        &mut line,
+    );
     writing::say(&line[..end]);
     shell::FAILED
 }
@@ -37,10 +46,10 @@ fn judge(input: &[u8; INPUT], filled: usize) -> i32
 {
     let file = printing::front_of(input, filled);
     let opened = deck::open(file);
-    let hearing = hearing::hear_all(file, opened);
-    let said = hearing::settled(file, opened, hearing);
+    let listened = hearing::hear_all(file, opened);
+    let said = hearing::settled(file, opened, listened.hearing);
     if said.wrong != 0 {
-        return tell_wrong(said.wrong, said.most);
+        return tell_wrong(said, listened.at);
     }
     let mut out = [0u8; telling::OUTPUT];
     let end = telling::state_front(said.state, input, filled, opened, &mut out);

@@ -2,11 +2,13 @@
 ghost use Prim.Native.Nat.{_+_, _≤_};
 ghost use lib.ListN.{length, take};
 ghost use Rattle.text.specs.Added.{Added};
+ghost use Rattle.text.specs.Lines.{namedRoom};
 ghost use Rattle.deck.specs.Outcome.{Opens, Headed, Placed};
 ghost use Rattle.printing.specs.Lines.{printText};
 ghost use Rattle.printing.specs.Front.{WholePrinted};
-ghost use Rattle.deckstate.specs.Lines.{placeText, verdictText, systemLine, statesText, wrongText};
-ghost use Rattle.deckstate.specs.Lines.{verdictRoom, lineRoom, linesRoom, outputRoom, wrongRoom};
+ghost use Rattle.deckstate.specs.Lines.{placeText, verdictText, systemLine, statesText, mostText, wantedText, wrongText};
+ghost use Rattle.deckstate.specs.Lines.{verdictRoom, lineRoom, linesRoom, outputRoom, wantedRoom, wrongRoom};
+use crate::hearing;
 use deck::Head;
 use deck::Opened;
 use printing::INPUT;
@@ -16,7 +18,7 @@ use text::lines;
 // Room for all lines, and for the line of a wrong word.
 pub const OUTPUT: usize = 2048;
 
-pub const LINE: usize = 128;
+pub const LINE: usize = 256;
 
 // ` fails`, and where if there is a place; the line's end.
 fn put_place(place: u64, out: &mut [u8], at: usize) -> usize
@@ -100,18 +102,54 @@ pub fn state_front(
     put_file(printing::front_of(input, filled), opened, state, out)
 }
 
-// The line of a wrong word.
-pub fn put_wrong(wrong: u64, most: u64, out: &mut [u8]) -> usize
-    requires { ⌜ wrongRoom ≤ length (now out) ⌝ }
-    ensures { λ r. ⌜ Added (wrongText wrong most) (now (out .entry)) 0 (now (out .exit)) r ⌝ }
+// A number between two texts.
+fn put_most(before: &[u8], most: u64, behind: &[u8], out: &mut [u8], at: usize) -> usize
+    requires { ⌜ at + (namedRoom (now before) + length (now behind)) ≤ length (now out) ⌝ }
+    ensures { λ r.
+        let text = mostText (now (before .entry)) most (now (behind .entry)) in
+        ⌜ Added text (now (out .entry)) at (now (out .exit)) r ⌝ }
 {
-    let end = lines::put_pair(
-        b"deckstate: word ",
-        wrong,
-        b" is no number from 1 to ",
-        most,
-        out,
-        0,
-    );
-    text::put(out, end, b"\n")
+    let end = text::put_named(before, most, out, at);
+    text::put(out, end, behind)
+}
+
+// What was wanted in the place of a wrong word.
+fn put_wanted(wanted: u64, most: u64, out: &mut [u8], at: usize) -> usize
+    requires { ⌜ at + wantedRoom ≤ length (now out) ⌝ }
+    ensures { λ r. ⌜ Added (wantedText wanted most) (now (out .entry)) at (now (out .exit)) r ⌝ }
+{
+    match wanted {
+        hearing::BOARD => put_most(b"wanted a board from 1 to ", most, b"\n", out, at),
+        hearing::NO_BOARD => text::put(out, at, b"this deck has no boards\n"),
+        hearing::NUMBER => {
+            put_most(
+                b"wanted the number of a board from 1 to ",
+                most,
+                b" behind it\n",
+                out,
+                at,
+            )
+        }
+        _ => put_most(
+            b"wanted a fan from 1 to ",
+            most,
+            b", a range as 3-7 or a list as 3,4,9\n",
+            out,
+            at,
+        ),
+    }
+}
+
+// The line of a wrong word.
+pub fn put_wrong(wrong: u64, word: &[u8], wanted: u64, most: u64, out: &mut [u8]) -> usize
+    requires { ⌜ wrongRoom ≤ length (now out) ⌝ }
+    ensures { λ r.
+        let text = wrongText wrong (now (word .entry)) wanted most in
+        ⌜ Added text (now (out .entry)) 0 (now (out .exit)) r ⌝ }
+{
+    let mut front = [0u8; saying::SHOWN];
+    let length = saying::put_shown(word, &mut front);
+    let start = text::put_named(b"deckstate: word ", wrong, out, 0);
+    let quoted = saying::put_three(b", \"", &front[..length], b"\": ", out, start);
+    put_wanted(wanted, most, out, quoted)
 }

@@ -11,10 +11,10 @@ ghost use Rattle.saying.specs.Said.{plain, shown, remedyText, helpText, 
 pub const SAID: usize = 256;
 
 // So much of a wrong word is shown.
-const SHOWN: usize = 60;
+pub const SHOWN: usize = 60;
 
 // Three texts, one behind the other.
-fn put_three(a: &[u8], b: &[u8], c: &[u8], out: &mut [u8], at: usize) -> usize
+pub fn put_three(a: &[u8], b: &[u8], c: &[u8], out: &mut [u8], at: usize) -> usize
     requires { ⌜ at + (length (now a) + length (now b) + length (now c)) ≤ length (now out) ⌝ }
     ensures { λ r.
         let text = now (a .entry) ++ now (b .entry) ++ now (c .entry) in
@@ -65,7 +65,7 @@ fn put_plain(word: &[u8], out: &mut [u8]) -> usize
 }
 
 // Puts the front of a word so.
-fn put_shown(word: &[u8], out: &mut [u8]) -> usize
+pub fn put_shown(word: &[u8], out: &mut [u8]) -> usize
     requires { ⌜ mostShown ≤ length (now out) ⌝ }
     ensures { λ r. ⌜ Added (shown (now (word .entry))) (now (out .entry)) 0 (now (out .exit)) r ⌝ }
 {
