@@ -10,12 +10,15 @@ ghost use Rattle.shell.specs.Status.{Status};
 ghost use Rattle.text_stream.specs.Feeding.{lineRoom, Sane};
 ghost use Rattle.deckmake.specs.Made.{MadeFrom, EndsBy};
 use making::Made;
-use options::Asked;
-use shell::names;
-use shell::names::LABEL;
-use shell::reading;
 use shell::starting;
+use text::Text;
 use text_stream::Feeding;
+
+const PROGRAM: [u8; 8] = *b"deckmake";
+
+const SYNOPSIS: [u8; 15] = *b"[-o OUT] [TEXT]";
+
+const OPTIONS: [u8; 12] = *b"-o         =";
 
 const OUT: usize = 0;
 
@@ -40,49 +43,34 @@ fn hand_fed(feeding: Feeding, line: &[u8], out: &mut [u8], place: usize) -> i32
     let made = make_fed(feeding, line, &mut file, out);
     let size = made.size;
     let end = made.end;
-    starting::hand_over(b"deckmake", place, &file[..size], &out[..end])
+    starting::hand_over(&PROGRAM, place, &file[..size], &out[..end])
 }
 
-// Makes the deck of an open text.
-fn make_of(fd: i32, label: &[u8], place: usize) -> i32
+// The same of what was read of a text; nothing is made of one that could not be read.
+fn hand_text(text: Text, line: &[u8], out: &mut [u8], place: usize) -> i32
+    requires { ⌜ Sane (text .feeding) (now out) × (text .feeding .listing .lines + 1 < mostLines) ⌝ }
+    requires { ⌜ (lineRoom ≤ length (now line)) × (warningsRoom ≤ length (now out)) ⌝ }
+    ensures { λ r. ⌜ EndsBy (text .feeding) (now (line .entry)) (now (out .entry)) r ⌝ }
     ensures { λ r. ⌜ Status r ⌝ }
 {
-    let mut line = [0u8; text_stream::LINE];
-    let mut out = [0u8; making::SAID];
-    let text = text::read_text(fd, label, &mut line, &mut out);
     if text.failed {
         return shell::FAILED;
     }
     let feeding = text.feeding;
-    hand_fed(feeding, &line, &mut out, place)
-}
-
-// Makes the deck of the text that is asked for; nothing is written of one that cannot be read or has faults.
-fn make(asked: Asked) -> i32
-    ensures { λ r. ⌜ Status r ⌝ }
-{
-    let mut label = [0u8; LABEL];
-    let end = names::put_label(b"deckmake", asked.first, b"standard input", &mut label);
-    let fd = reading::open(asked.first);
-    if fd < 0 {
-        os::fail(&label[..end]);
-        return shell::FAILED;
-    }
-    reading::tell_waiting(b"deckmake", fd);
-    make_of(fd, &label[..end], asked.given[OUT])
+    hand_fed(feeding, line, out, place)
 }
 
 // What the program does, by its words: its status.
 pub fn run() -> i32
     ensures { λ r. ⌜ Status r ⌝ }
 {
-    let asked = starting::hear_all(b"-o         =", 1);
-    if asked.task == options::WORK {
-        return make(asked);
+    let heard = starting::hear(&PROGRAM, &SYNOPSIS, &OPTIONS, 1);
+    if heard.ended {
+        return heard.status;
     }
-    starting::answer(
-        b"deckmake",
-        b"usage: deckmake [-o OUT] [TEXT]\n       deckmake --help\n       deckmake --version\n",
-        asked,
-    )
+    let asked = heard.asked;
+    let mut line = [0u8; text_stream::LINE];
+    let mut out = [0u8; making::SAID];
+    let text = text::read_asked(asked, &mut line, &mut out);
+    hand_text(text, &line, &mut out, asked.given[OUT])
 }

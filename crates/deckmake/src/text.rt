@@ -4,8 +4,11 @@ ghost use lib.ListN.{length};
 ghost use Rattle.typed_lists.specs.Told.{toldRoom};
 ghost use Rattle.listing.specs.Holds.{mostLines};
 ghost use Rattle.text_stream.specs.Feeding.{lineRoom, Sane};
+use options::Asked;
+use shell::names::LABEL;
 use shell::reading;
 use shell::reading::Input;
+use shell::sources;
 use text_stream::Feeding;
 
 // So many bytes are read at a time.
@@ -21,7 +24,7 @@ pub struct Text {
 }
 
 // The text of an open input; a read that fails is told by its label.
-pub fn read_text(fd: i32, label: &[u8], line: &mut [u8], out: &mut [u8]) -> Text
+fn read_text(fd: i32, label: &[u8], line: &mut [u8], out: &mut [u8]) -> Text
     requires { ⌜ (lineRoom ≤ length (now line)) × (toldRoom ≤ length (now out)) ⌝ }
     ensures { λ r. ⌜ Sane (r .feeding) (now (out .exit)) ×
         (r .feeding .listing .lines + 1 < mostLines) ⌝ }
@@ -47,4 +50,23 @@ pub fn read_text(fd: i32, label: &[u8], line: &mut [u8], out: &mut [u8]) -> Text
         feeding,
         failed: true,
     }
+}
+
+// The text that is asked for; one that cannot be opened is told.
+pub fn read_asked(asked: Asked, line: &mut [u8], out: &mut [u8]) -> Text
+    requires { ⌜ (lineRoom ≤ length (now line)) × (toldRoom ≤ length (now out)) ⌝ }
+    ensures { λ r. ⌜ Sane (r .feeding) (now (out .exit)) ×
+        (r .feeding .listing .lines + 1 < mostLines) ⌝ }
+{
+    let mut label = [0u8; LABEL];
+    let source = sources::begin(b"deckmake", asked, &mut label);
+    if source.fd < 0 {
+        let feeding = text_stream::start();
+        return Text {
+            feeding,
+            failed: true,
+        };
+    }
+    let end = source.end;
+    read_text(source.fd, &label[..end], line, out)
 }

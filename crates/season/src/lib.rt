@@ -4,6 +4,7 @@ mod reading; // reading.rt: the loop over the stream
 ghost use Rattle.shell.specs.Status.{Status};
 ghost use Rattle.season_stream.specs.Reading.{Sane};
 ghost use Rattle.season.specs.Status.{EndsBy};
+use reading::Got;
 use season_stream::Reading;
 use shell::starting;
 
@@ -28,6 +29,19 @@ fn print_report(reading: Reading) -> i32
     starting::print(&PROGRAM, 0, &out[..end], report.refused)
 }
 
+// The same, unless a read failed.
+fn print_got(got: Got) -> i32
+    requires { ⌜ Sane (got .reading) ⌝ }
+    ensures { λ r. ⌜ EndsBy (got .reading) r ⌝ }
+    ensures { λ r. ⌜ Status r ⌝ }
+{
+    if got.failed {
+        return shell::FAILED;
+    }
+    let reading = got.reading;
+    print_report(reading)
+}
+
 // What the program does, by its words: its status.
 pub fn run() -> i32
     ensures { λ r. ⌜ Status r ⌝ }
@@ -38,9 +52,5 @@ pub fn run() -> i32
     }
     let asked = heard.asked;
     let got = reading::read_all(asked);
-    if got.failed {
-        return shell::FAILED;
-    }
-    let reading = got.reading;
-    print_report(reading)
+    print_got(got)
 }
