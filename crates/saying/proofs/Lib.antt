@@ -1,2 +1,2 @@
 -- The laws of what is said.
-mod Texts
+pub mod Texts

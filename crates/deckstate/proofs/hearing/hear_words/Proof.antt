@@ -11,10 +11,10 @@ use Rattle.deckstate.proofs.hearing.hear_words.Statement.{statement}
 use Rattle.deckstate.proofs.hearing.hear_words.Tie as tie
 
 abbrev Inv-loop : tie.InvT-loop
-Inv-loop n g boards count word₀ hearing₀ i₀ word hearing i = (1 ≤ i) × (hearing .heard < i) × Sound (hearing .asked) × (length word ≡ longestWord)
+Inv-loop n g boards count word₀ hearing₀ at₀ i₀ word hearing at i = (1 ≤ i) × (hearing .heard < i) × Sound (hearing .asked) × (length word ≡ longestWord)
 
 abbrev μ-loop : tie.MeasureT-loop
-μ-loop n g boards count word₀ hearing₀ i₀ word hearing i = count - i
+μ-loop n g boards count word₀ hearing₀ at₀ i₀ word hearing at i = count - i
 
 arg-count-requires : tie.Need-arg-count-requires Inv-loop μ-loop
 arg-count-requires c κs = search needs
@@ -44,6 +44,9 @@ hear-requires c κs =
     let start = at-loop .before .before .before .before in
     (start .pre, (at-loop .loop .inv .2, at-loop .loop .inv .1))
 
+listened-requires : tie.Need-listened-requires Inv-loop μ-loop
+listened-requires c κs = search needs
+
 add-i : tie.Need-add-i Inv-loop μ-loop
 add-i c = omega arith
 
@@ -52,9 +55,10 @@ loop-less c = omega arith
 
 loop-again : tie.Need-loop-again Inv-loop μ-loop
 loop-again c =
-    let read = c .before .before .before in
+    let heard = c .before in
+    let read = heard .before .before .before in
     let inv = read .before .before .before .loop .inv in
-    (omega arith, omega (arith, inv .1, c .hear .ensures .1 .1), c .hear .ensures .1 .0, omega (arith, read .arg .kept, inv .3))
+    (omega arith, omega (arith, inv .1, heard .hear .ensures .1 .1), heard .hear .ensures .1 .0, omega (arith, read .arg .kept, inv .3))
 
 returns : tie.Need-returns Inv-loop μ-loop
 returns c = search needs
@@ -73,6 +77,7 @@ hear-words-spec =
     array-share-prefix-word
     slice-aggregate-hear
     hear-requires
+    listened-requires
     add-i
     loop-less
     loop-again
