@@ -1,5 +1,5 @@
-// Prints what a spare gains in each fan's place of each system of a deck file, or the best places, a line each, or the
-// file's refusal.
+// Prints what a spare gains in each fan's place of each system of a deck file, or the best places, or the best two for
+// two spares, a line each; or the file's refusal.
 mod lines; // lines.rt: the lines
 
 ghost use Prim.Native.Nat.{_≤_};
@@ -7,6 +7,7 @@ ghost use lib.ListN.{length};
 ghost use Rattle.io.specs.Counts.{Counts};
 ghost use Rattle.shell.specs.Status.{Status};
 ghost use Rattle.grammar.specs.Numbers.{offGrid};
+use lines::Wanted;
 use options::Asked;
 use shell::reading;
 use shell::starting;
@@ -17,8 +18,17 @@ const NONE: u64 = 4294967296;
 
 const OFF_GRID: u64 = 4294967297;
 
-// Its options: how many of the best places are named.
+// Its options: how many of the best places are named, and how many spares there are.
 const BEST: usize = 0;
+
+const SPARES: usize = 1;
+
+// What is wrong with their words: no number of places, no number of spares, or both asked for at once.
+const NO_PLACES: u64 = 1;
+
+const NO_SPARES: u64 = 2;
+
+const BOTH: u64 = 3;
 
 // Room for two numbers in a message.
 const NUMBERS: usize = 96;
@@ -61,16 +71,41 @@ fn tell_number(p: u64) -> i32
     shell::FAILED
 }
 
-// Says that the word of an option is no number that it takes.
-fn tell_best() -> i32
+// Says what is wrong with the words of its options.
+fn tell_options(wrong: u64) -> i32
     ensures { λ r. ⌜ Status r ⌝ }
 {
-    writing::say(b"deckspare: --best: wanted a number from 1 to 4294967295\n");
+    match wrong {
+        NO_PLACES => writing::say(b"deckspare: --best: wanted a number from 1 to 4294967295\n"),
+        NO_SPARES => writing::say(b"deckspare: --spares: wanted 1 or 2\n"),
+        _ => writing::say(b"deckspare: --best and --spares 2: wanted one of them\n"),
+    }
     shell::FAILED
 }
 
-// The number of the word at a place, from 1 on; 0 where it is none.
+// What is wrong with the words of its options, whose numbers are 0 where they are none; 0 for nothing.
+fn wrong_options(asked: Asked, best: u64, spares: u64) -> u64 {
+    let best_given = asked.given[BEST] != 0;
+    if best_given {
+        if best == 0 {
+            return NO_PLACES;
+        }
+    }
+    if asked.given[SPARES] == 0 {
+        return 0;
+    }
+    match spares {
+        1 => 0,
+        2 => if best_given { BOTH } else { 0 },
+        _ => NO_SPARES,
+    }
+}
+
+// The number of the word at a place, from 1 on; 0 where it is none, and for place 0.
 fn number_at(place: usize) -> u64 {
+    if place == 0 {
+        return 0;
+    }
     let mut word = io::buffer();
     let length = os::arg(place, &mut word);
     let number = grammar::numbers::whole(&word[..length]);
@@ -82,7 +117,7 @@ fn number_at(place: usize) -> u64 {
 
 // Lists an input of which the buffer holds the front, for the spare that a word names; nothing is printed where the
 // word is no survival number.
-fn list_front(word: &[u8], best: u64, input: &[u8; printing::INPUT], filled: usize) -> i32
+fn list_front(word: &[u8], wanted: Wanted, input: &[u8; printing::INPUT], filled: usize) -> i32
     requires { ⌜ filled ≤ length (now input) ⌝ }
     ensures { λ r. ⌜ Status r ⌝ }
 {
@@ -95,7 +130,7 @@ fn list_front(word: &[u8], best: u64, input: &[u8; printing::INPUT], filled: usi
         }
     }
     let mut out = [0u8; lines::OUTPUT];
-    let end = lines::list_front(word, best, input, filled, &mut out);
+    let end = lines::list_front(word, wanted, input, filled, &mut out);
     starting::print(b"deckspare", &out[..end], refused)
 }
 
@@ -104,7 +139,7 @@ fn file_place(asked: Asked) -> usize {
     if asked.operands < 2 {
         return 0;
     }
-    let until = starting::hear_all(b"--best     =", 1);
+    let until = starting::hear_all(b"--best     =--spares   =", 1);
     until.at
 }
 
@@ -115,12 +150,11 @@ fn list(asked: Asked) -> i32
     if asked.operands == 0 {
         return tell_use();
     }
-    let place = asked.given[BEST];
-    let best = if place == 0 { 0 } else { number_at(place) };
-    if place != 0 {
-        if best == 0 {
-            return tell_best();
-        }
+    let best = number_at(asked.given[BEST]);
+    let spares = number_at(asked.given[SPARES]);
+    let wrong = wrong_options(asked, best, spares);
+    if wrong != 0 {
+        return tell_options(wrong);
     }
     let mut word = io::buffer();
     let length = os::arg(asked.first, &mut word);
@@ -129,20 +163,24 @@ fn list(asked: Asked) -> i32
     if front.failed {
         return shell::FAILED;
     }
-    list_front(&word[..length], best, &input, front.filled)
+    let wanted = Wanted {
+        best,
+        two: spares == 2,
+    };
+    list_front(&word[..length], wanted, &input, front.filled)
 }
 
 // What the program does, by its words: its status.
 pub fn run() -> i32
     ensures { λ r. ⌜ Status r ⌝ }
 {
-    let asked = starting::hear_all(b"--best     =", 2);
+    let asked = starting::hear_all(b"--best     =--spares   =", 2);
     if asked.task == options::WORK {
         return list(asked);
     }
     starting::answer(
         b"deckspare",
-        b"usage: deckspare [--best K] P [FILE]\n       deckspare --help\n       deckspare --version\n",
+        b"usage: deckspare [--best K] P [FILE]\n       deckspare --spares 2 P [FILE]\n       deckspare --help\n       deckspare --version\n",
         asked,
     )
 }

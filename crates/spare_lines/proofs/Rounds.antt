@@ -29,7 +29,8 @@ use Rattle.spare_lines.specs.Lines.{endsOf, placeIn}
 use Rattle.spare_lines.specs.Ranks.{Ranked, upperAt, reaches, alike, leftAfter, groupAt, goneAfter, leftIn}
 use Rattle.spare_lines.specs.Best.{rankedIn, Grouped, rangeEnd, ratedText, ratedRoom, fanText, placeText, placeIf, placeRoom, groupText, groupIn, groupRoom, roundText, bestText, bestRoom}
 use Rattle.spare_lines.proofs.Same.{lines-same}
-use Rattle.spare_lines.proofs.Ranks.{highest-same, gone-left}
+use Rattle.spares.proofs.Highest.{highest-same}
+use Rattle.spare_lines.proofs.Ranks.{gone-left}
 
 pair-short : (first : List ℕ) (a : ℕ) (second : List ℕ) (b : ℕ) → length (pairText first a second b) ≤ pairRoom first second
 pair-short first a second b =
