@@ -1,8 +1,8 @@
 -- What the best pair is: no pair's low is higher, and the pair named has it. The pair that leads when all are tried is the one that the definitions name, and one leads
 -- wherever there are two places. Assumes nothing.
-use mathlib.Core.Path.{_≡_, refl, sym, ap, _∙_}
+use mathlib.Core.Path.{_≡_, refl, sym, subst, _∙_}
 use mathlib.Core.Bool.{Bool, true, false, _&&_, true≢false}
-use Prim.Native.Nat.{ℕ, zero, suc, _+_, _-_, _≤_, _<_}
+use Prim.Native.Nat.{ℕ, zero, suc, _+_, _*_, _-_, _≤_, _<_}
 use native.Mathlib.Nat.{le-trans, le-antisymm}
 use native.Mathlib.Numerals.{add-one}
 use native.Mathlib.Omega.{arith}
@@ -13,6 +13,7 @@ use Rattle.rules.proofs.Tests.{both}
 use Rattle.rules.proofs.Windows.{some-none, some-found}
 use Rattle.rules.proofs.Lowest.{found}
 use Rattle.spares.proofs.Highest.{high-most, highest-within}
+use Rattle.places.specs.declared.Ends.{Ends}
 use Rattle.pairs.specs.declared.Best.{Best}
 use Rattle.pairs.specs.Pairs.{highestFrom, highestPair, hasHighest, firstPlace, secondPlace, pairsBelow}
 use Rattle.pairs.specs.Tried.{Leads, Tried, bestOf, withPair}
@@ -63,32 +64,35 @@ module _ {low high : ℕ → ℕ → ℕ} {n : ℕ} {b : Best} (h : Leads low hi
 -- ---- one leads wherever there are two places
 
 pub all-tried : {low high : ℕ → ℕ → ℕ} {n : ℕ} {b : Best} → 2 ≤ n → Tried low high n n 0 b → Leads low high n n 0 b
-all-tried {n = n} two t = t .leads (go n two (pairs-in-all n) (t .count))
+all-tried {n = n} two t = t .leads (go n (pairsBelow n n) two (pairs-in-all n) (t .count))
   where
-    go : (n : ℕ) → 2 ≤ n → {pairs rated : ℕ} → 2 * pairs + n ≡ n * n → rated ≡ pairs + (0 - suc n) → 1 ≤ rated
-    go (suc (suc n)) l e f = omega arith
-    go (suc zero) l e f = absurd (omega arith)
-    go zero l e f = absurd (omega arith)
+    go : (n pairs : ℕ) {rated : ℕ} → 2 ≤ n → 2 * pairs + n ≡ n * n → rated ≡ pairs + (0 - suc n) → 1 ≤ rated
+    go (suc (suc n)) pairs l e f = omega arith
+    go (suc zero) pairs l e f = absurd (omega arith)
+    go zero pairs l e f = absurd (omega arith)
 
 module _ (low : ℕ → ℕ → ℕ) (n : ℕ) where
   record Best-of (i j : ℕ) : Type 0 where
     pub best : Best
     pub tried : Tried low low n i j best
 
-  row : {i : ℕ} → i < n → Best-of i 0 → (d : ℕ) → i + 1 + d ≤ n → Best-of i (i + 1 + d)
+  row : {i : ℕ} → i < n → Best-of i 0 → (d : ℕ) → i + suc d ≤ n → Best-of i (i + suc d)
   row l r zero h = record { best = r .best; tried = row-begins (r .tried) }
   row {i} l r (suc d) h =
       let before = row l r d (omega arith) in
-      let j = i + 1 + d in
-      let ends = record { low = low i j; high = low i j } in
-      record { best = withPair (before .best) i j ends; tried = rw (← (add-one j)) (one-pair (omega arith) (omega arith) (before .tried) refl refl) }
+      let j = i + suc d in
+      let next : j + 1 ≡ i + suc (suc d) = omega arith in
+      let ends : Ends = record { low = low i j; high = low i j } in
+      record { best = withPair (before .best) i j ends; tried = rw (← next) (one-pair (omega arith) (omega arith) (before .tried) refl refl) }
+
+  next : {i : ℕ} → i < n → Best-of i n → Best-of (suc i) 0
+  next {i} l r = record { best = r .best; tried = rw (← (add-one i)) (row-ends l (r .tried)) }
 
   below : (i : ℕ) → i ≤ n → Best-of i 0
   below zero l = record { best = bestOf 0 0 0 0 0; tried = none-tried refl }
   below (suc i) l =
-      let r = row (omega arith) (below i (omega arith)) (n - suc i) (omega arith) in
-      let all : i + 1 + (n - suc i) ≡ n = omega arith in
-      record { best = r .best; tried = rw (← (add-one i)) (row-ends (omega arith) (rw all at (r .tried))) }
+      let all : i + suc (n - suc i) ≡ n = omega arith in
+      next (omega arith) (subst (Best-of i) all (row (omega arith) (below i (omega arith)) (n - suc i) (omega arith)))
 
   -- "the pair named is one that has it"
   pub record Named : Type 0 where
@@ -98,4 +102,4 @@ module _ (low : ℕ → ℕ → ℕ) (n : ℕ) where
   pub pair-named : 2 ≤ n → Named
   pair-named two =
       let h = all-tried two (below n (omega arith) .tried) in
-      rw (← (leads-first h), ← (leads-second h)) at (record { pair = h .pair; has-it = sym (h .figures .0) ∙ leads-highest h })
+      record { pair = rw (leads-first h, leads-second h) (h .pair); has-it = rw (leads-first h, leads-second h) (sym (h .figures .0) ∙ leads-highest h) }
