@@ -32,27 +32,6 @@ use Rattle.spare_lines.proofs.Same.{lines-same}
 use Rattle.spares.proofs.Highest.{highest-same}
 use Rattle.spare_lines.proofs.Ranks.{gone-left}
 
-pair-short : (first : List ℕ) (a : ℕ) (second : List ℕ) (b : ℕ) → length (pairText first a second b) ≤ pairRoom first second
-pair-short first a second b =
-    omega (
-      arith,
-      length-append (named first a) (named second b),
-      length-append first (decimal a),
-      length-append second (decimal b),
-      decimal-short a,
-      decimal-short b,
-    )
-
-rated-short : (u low high : ℕ) → length (ratedText u low high) ≤ ratedRoom
-rated-short u low high =
-    omega (
-      arith,
-      length-append (pairText (text " low ") low (text " high ") high) (rangeEnd u low high),
-      length-append (rangeText u low high) (text "\n"),
-      pair-short (text " low ") low (text " high ") high,
-      range-short u low high,
-    )
-
 place-short : (shown : Shown) (rank count fan : ℕ) (after : Ends) → length (placeText shown rank count fan after) ≤ placeRoom
 place-short shown rank count fan after =
     let u = whole (shown .decimal) in
