@@ -20,8 +20,11 @@ abbrev pub placesText : Job → Asked → List ℕ
 placesText job q =
     cond (eqb (job .best) 0) (gainsText (job .s + 1) (job .p) q) (bestText (shownOf (job .s + 1) q) (job .best) (rankedOf q (job .p)))
 
+abbrev pub answeredText : Job → Asked → List ℕ
+answeredText job q = cond (job .two) (twoText (job .s + 1) (job .p) q) (placesText job q)
+
 abbrev pub systemText : Job → Asked → List ℕ
-systemText job q = unless (spareRefusal q (job .p)) (refusedLine (job .s + 1)) (cond (job .two) (twoText (job .s + 1) (job .p) q) (placesText job q))
+systemText job q = unless (spareRefusal q (job .p)) (refusedLine (job .s + 1)) (answeredText job q)
 
 abbrev pub systemRoom : ℕ
 systemRoom = bestRoom
