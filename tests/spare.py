@@ -43,15 +43,15 @@ def numbers_alike():
 
 
 def best_alike():
-    files = [deck.read_bytes() for deck in decks()] + [data for data in random_files(46, FILES) if len(data) < LONGEST] + list(rings())
+    files = [deck.read_bytes() for deck in decks()] + [data for data in random_files(46, FILES) if len(data) < LONGEST] + list(rings(2, 7, 24))
     asked = [(data, word, "--best", str(count)) for data in files for word, count in (("1.0", 1), ("1.0", 3), ("0.5", 2), ("1.0", 64), ("0", 4294967295))]
     return compare("files through deckspare --best", mapped(lambda one: outcome(*one), asked), [wanted(*one) for one in asked])
 
 
-def rings(most=24):
+def rings(*sizes):
     """Like fans, which gain the same, on rings and lines, behind a board and without."""
     for version, unit in UNITS.items():
-        for n in (2, 7, 24)[:2 + (most == 24)]:
+        for n in sizes:
             systems = [System(Rule(kind, *numbers), 1, n) for kind, numbers in ((5, (2, 0)), (7, (2, 2)), (4, (2, 0)), (8, (1, 2)), (1, (2, 0)), (3, (1, 1)))]
             boards = Boards([1] * n, [unit - unit // 50])
             yield deck_bytes(Deck([unit - unit // 97] * n, [0] * n, systems, version, boards))
@@ -59,7 +59,7 @@ def rings(most=24):
 
 def two_alike():
     """Random decks of every version and kind, with boards; like fans, of which the first pair is named; one fan; two spares are asked for by 2, and 1 is the same as nothing."""
-    files = [deck.read_bytes() for deck in decks()] + [data for data in random_files(47, FILES) if len(data) < LONGEST] + list(rings(7)) + list(random_decks(48))
+    files = [data for data in (*(deck.read_bytes() for deck in decks()), *random_files(47, FILES), *rings(2, 7), *random_decks(48)) if len(data) < LONGEST]
     asked = [(data, word, "--spares", count) for data in files for word, count in (("1.0", "2"), ("0.5", "2"), ("0", "2"), ("1.0", "1"))]
     met = {(deck.version, system.rule.kind) for deck in map(read_deck, files) if isinstance(deck, Deck) for system in deck.systems}
     good = met >= {(version, kind) for version in UNITS for kind in KINDS}

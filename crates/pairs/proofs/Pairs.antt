@@ -50,7 +50,7 @@ module _ {low high : ℕ → ℕ → ℕ} {n : ℕ} {b : Best} (h : Leads low hi
   leads-first =
       found (λ i. some (has i) n) n (b .first) few
       (some-none (λ i. some (has i) n) (b .first) .1 (λ i l e. true≢false (sym e ∙ some-none (has i) n .1 (λ j m f.
-          lower i j (h .before i j l (ltb-true i j (both (ltb i j) _ f .0)) m) f))))
+      lower i j (h .before i j l (ltb-true i j (both (ltb i j) _ f .0)) m) f))))
       (some-found (has (b .first)) n (b .second) (h .pair .1) named)
 
   pub leads-second : secondPlace low n ≡ b .second
