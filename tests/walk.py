@@ -23,9 +23,10 @@ def command(first):
     return line
 
 
-def through(program):
-    """What the program's command prints; the program that rt built stands in for the installed one."""
-    line = command(program).removeprefix(program)
+def through(begun):
+    """What the command that is so begun prints; the program that rt built stands in for the installed one."""
+    program, *_ = begun.split()
+    line = command(begun).removeprefix(program)
     return run(["sh", "-c", f'"$0" "$@" {line}', *started(program)[:2]], cwd=root)  # the line has its own words
 
 
@@ -112,11 +113,12 @@ def worth_as_said():
 
 
 def spared_as_said():
-    return through("deckspare").decode() == blocks("text")[3]
+    """One spare, and two."""
+    return [through(f"deckspare {option}").decode() for option in ("--best", "--spares")] == blocks("text")[3:5]
 
 
 def shown_as_said():
-    return through("deckshow").decode() == blocks("text")[4]
+    return through("deckshow").decode() == blocks("text")[5]
 
 
 def main():
