@@ -1,13 +1,12 @@
 """The cases that are rated: the worst rule of each kind and size, kind 8's longest windows, and every rule of small sizes for the peers to agree on."""
 
-import os
 import random
-import sys
 from typing import NamedTuple
 
-sys.path.insert(0, os.path.join(os.path.dirname(os.path.abspath(__file__)), "..", "second"))
-from foambeetle import BOARDS_VERSION, DEAD, LONGEST_WINDOW, MOST_PAIRS, PAIRS_KIND, SEVEN_KINDS, UNIT, Boards, Rule, figures, row_of  # noqa: E402
-from samples import random_pairs, rules_in_range, two_windows  # noqa: E402
+from second.model.calls import figures
+from second.model.memory import row_of
+from second.model.terms import BOARDS_VERSION, DEAD, LONGEST_WINDOW, MOST_PAIRS, PAIRS_KIND, SEVEN_KINDS, UNIT, Boards, Rule
+from second.samples.lists import random_pairs, rules_in_range, two_windows
 
 SIZES = (8, 16, 32, 64)
 KINDS = SEVEN_KINDS  # kind 8 has peers of its own

@@ -1,4 +1,4 @@
-"""Runs the programs that bench/run has built on the same cases, sees that they agree, and writes down what each costs."""
+"""Runs the programs that bench/run has built on the same cases, sees that they agree, and writes what each costs to a page, which it draws too."""
 
 import os
 import platform
@@ -7,8 +7,10 @@ import sys
 from datetime import date
 from typing import NamedTuple
 
-from cases import (
-    BOARDS, DECIMAL, KINDS, PAIRS_KIND, SIZES, UNIT, agreed_cases, agreed_windows, count_cases, living, longest_cases, steps, weights, window_cases, worst_cases,
+from bench import plots
+from bench.cases import (
+    BOARDS, DECIMAL, KINDS, PAIRS_KIND, SIZES, UNIT, agreed_cases, agreed_windows, count_cases, living, longest_cases, steps, weights, window_cases,
+    worst_cases,
 )
 
 # A double that has gone through n rounded steps is this near, in units of 2^-30.
@@ -22,7 +24,14 @@ SETS = 2 ** len(BOARDS.survivals)
 KNOWN = 2001
 # The instructions of clearing a working table, which a count table's peers do not do.
 CLEARING = 6829
-START, END = "<!-- results -->\n", "<!-- end of results -->\n"
+HEAD = """# What a rating costs: results
+
+`make bench` makes this page and its two drawings; nobody edits them. docs/BENCH.md says what is measured, and against what.
+
+![Instructions of a rating over n, for each kind beside its peers](bench-costs.svg)
+
+![What version 2 costs, in times version 1](bench-units.svg)
+"""
 WAYS = ("library", "plain", "directed", "fractions", "integers", "whole")
 NAMES = {"plain": "(a)", "directed": "(b)", "fractions": "(c)", "integers": "(c')"}
 WINDOW_NAMES = {"listed": "(e)", "tested": "(f)"}
@@ -251,12 +260,12 @@ class Results:
         return table(["at least", "living", "steps", "library", *WINDOW_NAMES.values(), "library / (e)", "library a step"], rows)
 
     def units_table(self):
-        rows = [[str(case.rule.kind), asked(case.rule) + laid(case), comma(one), comma(two), f"{two / one:.3f}"] for case, one, two in self.units]
-        return table(["kind", "rule", "version 1", "version 2", "version 2 / version 1"], rows)
+        rows = [[str(case.rule.kind), asked(case.rule) + laid(case), comma(two), f"{two / one:.3f}"] for case, one, two in self.units]
+        return table(["kind", "rule", "version 2", "times version 1"], rows)
 
     def boards_table(self):
-        rows = [[str(case.rule.kind), asked(case.rule), comma(alone), comma(behind), ratio(behind, alone)] for case, alone, behind in self.boarded]
-        return table(["kind", "rule", "without boards", "behind four", "times"], rows)
+        rows = [[str(case.rule.kind), asked(case.rule), comma(behind), ratio(behind, alone)] for case, alone, behind in self.boarded]
+        return table(["kind", "rule", "behind four boards", "times version 2"], rows)
 
     def wholes(self):
         """Of each kind, the whole call and the rating in it."""
@@ -267,12 +276,12 @@ class Results:
     def whole_table(self):
         if "whole" not in self.ways:
             return "Skipped: the crate `loading` is not here.\n"
-        rows = [[str(kind), comma(whole), comma(library), comma(whole - library)] for kind, whole, library in self.wholes()]
-        return table(["kind", "whole call", "library", "over it"], rows)
+        rows = [[str(kind), comma(whole), comma(whole - library)] for kind, whole, library in self.wholes()]
+        return table(["kind", "whole call", "over the rating"], rows)
 
     def worths_table(self):
-        rows = [[str(rule.kind), asked(rule), *map(comma, costs), comma(costs[0] - costs[1] - costs[2])] for rule, costs in self.worths.items()]
-        return table(["kind", "rule", "worth", "rating, fan works", "rating, fan fails", "over both"], rows)
+        rows = [[str(rule.kind), asked(rule), comma(costs[0]), comma(costs[0] - costs[1] - costs[2])] for rule, costs in self.worths.items()]
+        return table(["kind", "rule", "worth", "over its two ratings"], rows)
 
     def counts_table(self):
         rows = []
@@ -286,40 +295,31 @@ class Results:
         return self.cost("library", 1) / self.steps(1)
 
     def goals(self):
-        """Each goal: what is asked, what is reached, what it may be at most."""
+        """Each goal: what is asked of which cases, the case, what it reaches, what it may be at most."""
         for kind in LINES:
-            yield f"kind {kind}: no more than (a)", self.cost("library", kind), self.cost("plain", kind)
+            yield "kinds 1 to 4 and 6: no more than (a)", f"kind {kind}", self.cost("library", kind), self.cost("plain", kind)
         for kind in KINDS:
-            yield f"kind {kind}: fewer than (b)", self.cost("library", kind), self.cost("directed", kind) - 1
+            yield "kinds 1 to 7: fewer than (b)", f"kind {kind}", self.cost("library", kind), self.cost("directed", kind) - 1
         for kind in KINDS:
-            yield f"kind {kind}: 50 times fewer than {NAMES[self.exact]}", self.cost("library", kind), self.cost(self.exact, kind) // 50
+            yield f"kinds 1 to 7: 50 times fewer than {NAMES[self.exact]}", f"kind {kind}", self.cost("library", kind), self.cost(self.exact, kind) // 50
         for kind in RINGS:
-            yield f"kind {kind}: twice its steps at kind 1's cost a step", self.cost("library", kind), 2 * self.steps(kind) * self.a_step()
-        yield "kind 2 at its dearest weights: no more than (a)", self.dearest_costs["library"][1], self.dearest_costs["plain"][1]
+            yield "kinds 5 and 7: twice their steps at kind 1's cost a step", f"kind {kind}", self.cost("library", kind), 2 * self.steps(kind) * self.a_step()
+        yield "kind 2 at its dearest weights: no more than (a)", "kind 2", self.dearest_costs["library"][1], self.dearest_costs["plain"][1]
         for kind in RINGS:
             case, ours = self.dearest[kind - 1], self.dearest_costs["library"][kind - 1]
-            yield f"the same at its dearest rule, {asked(case.rule)}", ours, 2 * steps(case.rule, case.weights) * self.a_step()
+            yield "kinds 5 and 7 at their dearest rule: the same", f"kind {kind}, {asked(case.rule)}", ours, 2 * steps(case.rule, case.weights) * self.a_step()
         for case, ours, listed in zip(self.windows, self.window_costs["library"], self.window_costs["listed"]):
-            yield f"kind 8, at least {asked(case.rule)}: no more than (e)", ours, listed
+            yield "kind 8: no more than (e)", f"at least {asked(case.rule)}", ours, listed
         for case, one, two in self.units:
-            yield f"kind {case.rule.kind}, {asked(case.rule)}{laid(case)}: version 2 at most {DEARER} times version 1", two, DEARER * one
+            yield f"version 2: at most {DEARER} times version 1", f"kind {case.rule.kind}, {asked(case.rule)}{laid(case)}", two, DEARER * one
         for case, alone, behind in self.boarded:
-            yield f"kind {case.rule.kind}, {asked(case.rule)}: behind four boards {SETS} ratings", behind, SETS * alone
+            yield f"behind four boards: at most {SETS} ratings", f"kind {case.rule.kind}, {asked(case.rule)}", behind, SETS * alone
         for kind, whole, library in self.wholes() if "whole" in self.ways else ():
-            yield f"kind {kind}: whole call 20,000 over the rating", whole - library, 20000
+            yield "the whole call: at most 20,000 over the rating", f"kind {kind}", whole - library, 20000
         for rule, (worth, works, fails) in self.worths.items():
-            yield f"kind {rule.kind}: a worth 1,000 over its two ratings", worth, works + fails + 1000
+            yield "a worth: at most 1,000 over its two ratings", f"kind {rule.kind}", worth, works + fails + 1000
         for kind, (ours, plain, case) in self.nearest.items():
-            yield f"kind {kind}: a count table twice (d) and clearing, nearest at {asked(case.rule)}{laid(case)}", ours, 2 * plain + CLEARING
-
-    def goals_table(self):
-        rows = []
-        for name, reached, most in self.goals():
-            verdict = "met" if reached <= most else f"missed by {comma(reached - most)} ({ratio(reached, most)} times)"
-            rows.append([name, comma(reached), comma(most), verdict])
-        if "whole" not in self.ways:
-            rows.append(["whole call 20,000 over the rating", "-", "20,000", "skipped: the crate `loading` is not here"])
-        return table(["goal at n = 64", "reached", "at most", ""], rows)
+            yield "a count table: at most twice (d) and clearing", f"kind {kind}, {asked(case.rule)}{laid(case)}", ours, 2 * plain + CLEARING
 
     def times_table(self):
         if platform.machine() != "x86_64":
@@ -330,16 +330,16 @@ class Results:
 
     def text(self):
         return "\n".join((
-            f"Measured on {date.today().isoformat()}; the programs agree on {self.agreed:,} cases.\n",
+            f"Measured on {date.today().isoformat()} ({machine()}); the programs agree on {self.agreed:,} cases. Instructions, unless said otherwise.\n",
             self.costs_table(),
             "Kind 6 by figure 1 of document 000 (a'), at n = 8, 16, 32, 64: " + ", ".join(map(comma, self.figure1)) + ".\n",
             "The rules that cost the library most at n = 64, of every k or r:\n",
             self.dearest_table(),
             "Kind 8 at n = 64, by how many of how many in a row must work:\n",
             self.windows_table(),
-            "Either unit, at n = 64: the rules of the first table, the dearest, and kind 8:\n",
+            "Version 2 at n = 64: the rules of the first table, the dearest, and kind 8:\n",
             self.units_table(),
-            "Behind four boards with the fans on them by turns, at n = 64, in version 3 and without boards in version 2:\n",
+            "Version 3 at n = 64, the fans on four boards by turns:\n",
             self.boards_table(),
             "The whole call from a file's bytes, at n = 64:\n",
             self.whole_table(),
@@ -348,18 +348,35 @@ class Results:
             f"Count tables, of each kind and n the dearest rule of all; both ways agree on {self.counted:,}:\n",
             self.counts_table(),
             "Goals:\n",
-            self.goals_table(),
+            goals_table(self.goals()),
             self.times_table(),
         ))
 
 
-def write(path, text):
-    """The results between their two lines, the rest of the page as it stands."""
-    page = open(path).read() if os.path.exists(path) else START + END
-    before, rest = page.split(START)
-    after = rest.split(END)[1]
-    with open(path, "w") as out:
-        out.write(before + START + "\n" + text + "\n" + END + after)
+def goals_table(goals):
+    """A row a goal: how many cases it is asked of, the one that comes nearest to its limit, and how near; each that misses it has a row of its own."""
+    by_goal = {}
+    for goal, *case in goals:
+        by_goal.setdefault(goal, []).append(case)
+    rows = []
+    for goal, cases in by_goal.items():
+        name, reached, most = max(cases, key=lambda case: case[1] / case[2])
+        rows.append([goal, str(len(cases)), name, f"{100 * reached / most:.1f}%", "met" if reached <= most else "missed"])
+        rows += [[goal, "", f"{name}: missed", f"{100 * reached / most:.1f}%", ""] for name, reached, most in cases if reached > most]
+    return table(["goal at n = 64", "cases", "nearest", "of its limit", ""], rows)
+
+
+def machine():
+    """The processor's name, as Linux tells it, or its family."""
+    names = [line.partition(":")[2].strip() for line in open("/proc/cpuinfo") if line.startswith("model name")] if os.path.exists("/proc/cpuinfo") else []
+    return f"{platform.machine()}, {names[0]}" if names else platform.machine()
+
+
+def write(page, text):
+    """The page, and its drawings beside it."""
+    with open(page, "w") as out:
+        out.write(HEAD + "\n" + text)
+    plots.draw(page)
 
 
 def main():
@@ -369,4 +386,5 @@ def main():
     write(page, text)
 
 
-main()
+if __name__ == "__main__":
+    main()

@@ -1,17 +1,16 @@
 /* foambeetle.h: the loading computer's call, the worth of one fan, the gain of a spare in its place, and the unit of all.
  *
  * Link with libfoambeetle.a or libfoambeetle.so (x86-64), which need nothing but memcpy and memset. Each call reads a
- * deck file's bytes: foambeetle_rate rates one of its systems and answers one 64-bit number, foambeetle_worth tells what
- * one of its fans is worth to a system, foambeetle_gain what a spare in that fan's place adds, foambeetle_unit what the
- * figures of the file are parts of. A call writes nothing of the caller's but the two ends of a worth or a gain, keeps
- * nothing between calls, and may run in several threads at once. It uses up to 66,000 bytes of stack,
- * 62,400 of them its working table. A thread's stack must hold what the C library keeps of the thread too, some 6,000
- * bytes: give a thread 72,000.
+ * deck file's bytes. foambeetle_rate rates one of its systems and answers one 64-bit number. foambeetle_worth reports
+ * what one of its fans is worth to a system, foambeetle_gain what a spare in that fan's place adds, and foambeetle_unit
+ * what the file's figures are parts of. A call writes only the two ends of a worth or a gain, keeps nothing between
+ * calls, and may run in several threads at once. It uses up to 66,000 bytes of stack, 62,400 of them its working table.
+ * A thread's stack also holds some 6,000 bytes of the C library's: give a thread 72,000.
  *
- * Figures are parts of the file's unit, which its survival numbers are parts of too: FOAMBEETLE_UNIT (2^30) in a file of
- * version 1, FOAMBEETLE_DECIMAL_UNIT (10^9) in one of version 2 or 3. With u for what foambeetle_unit answers of the file,
- * the exact chance that the system works lies between low / u and high / u. So do the ends of a worth or a gain read,
- * which may be negative: ends[0] / u and ends[1] / u.
+ * Figures and survival numbers are parts of the file's unit u, which foambeetle_unit answers: FOAMBEETLE_UNIT (2^30) in a
+ * file of version 1, FOAMBEETLE_DECIMAL_UNIT (10^9) in one of version 2 or 3. The exact chance that the system works lies
+ * between low / u and high / u. The ends of a worth or a gain may be negative; the exact difference lies between
+ * ends[0] / u and ends[1] / u.
  *
  * A file of version 3 has one to four switchboards, each with a survival number, and for each fan the number of its board,
  * 0 for none. A board that fails takes its fans with it, and the exact chance counts that.
@@ -35,7 +34,7 @@
  *   20  version 3: number of boards not 1..4
  *   21  version 3: a fan's board number above the number of boards
  *
- * Of a file 10 is told first, then 11, then 10 for a short header of version 3, 2, 12, 20, 13 and 21.
+ * A file is checked in this order: 10, 11, then 10 for a short header of version 3, 2, 12, 20, 13 and 21.
  */
 #ifndef FOAMBEETLE_H
 #define FOAMBEETLE_H
@@ -43,7 +42,7 @@
 #include <stddef.h>
 #include <stdint.h>
 
-/* A function that is defined here: C89 has no word for an inline one, and most of its compilers know this one. */
+/* How an inline function is declared: C89 has no word for it, but most of its compilers know __inline__. */
 #if defined(__cplusplus) || (defined(__STDC_VERSION__) && __STDC_VERSION__ >= 199901L)
 #define FOAMBEETLE_INLINE static inline
 #elif defined(__GNUC__)
@@ -57,18 +56,18 @@ extern "C" {
 #endif
 
 /* The file VERSION. */
-#define FOAMBEETLE_VERSION "1.0.0"
+#define FOAMBEETLE_VERSION "1.1.0"
 
 /* What a chance of 1 is in a file of version 1, and in one of version 2 or 3. */
 #define FOAMBEETLE_UNIT 1073741824u
 #define FOAMBEETLE_DECIMAL_UNIT 1000000000u
 
-/* The unit of the deck file in `length` bytes from `file` on, one of these two; 0 for a file that is refused. `file` may
- * be null where `length` is 0. */
+/* The unit of the deck file in `length` bytes from `file` on: one of these two, or 0 for a file that is refused. `file`
+ * may be null if `length` is 0. */
 uint64_t foambeetle_unit(const uint8_t *file, size_t length);
 
 /* The figures of a system, counted from 1, of the same file. The answer is low times 2^32 plus high, or, for a refusal,
- * (2^32 - 1) times 2^32 plus its number: take it apart by the functions below. */
+ * (2^32 - 1) times 2^32 plus its number. The functions below take it apart. */
 uint64_t foambeetle_rate(const uint8_t *file, size_t length, uint64_t system);
 
 /* Is the answer a refusal? 1 or 0. */
@@ -98,18 +97,18 @@ FOAMBEETLE_INLINE uint32_t foambeetle_high(uint64_t answer)
 /* The worth of a fan to a system, both counted from 1, of the same file: the system's chance with that fan sure to work,
  * less its chance with it sure to fail. With u for the file's unit, the exact difference lies between ends[0] / u, the
  * lower, and ends[1] / u, the upper; both run from -u to u, and they are at most 2n - 2 apart for a stretch of n fans,
- * 2(n + g) - 2 behind g boards. A fan that is sure to work may still lose its board. The answer is 0 where they are written,
- * and the refusal's number where nothing is. `ends` has room for two numbers. */
+ * 2(n + g) - 2 behind g boards. A fan that is sure to work may still lose its board. The answer is 0 if they are written;
+ * otherwise it is the refusal's number, and nothing is written. `ends` has room for two numbers. */
 uint64_t foambeetle_worth(const uint8_t *file, size_t length, uint64_t system, uint64_t fan, int64_t *ends);
 
 /* The gain of a spare in the place of a fan of a system of the same file: the system's chance with that fan's survival
  * number replaced by `p`, in parts of the file's unit, less its chance as it is. The ends and the answer are as those of
- * foambeetle_worth. A fan's worth does not look at how good the fan is now; the gain does, and says where a spare goes: the
- * exact gain of a spare that cannot fail is the exact worth times the fan's own chance to fail. */
+ * foambeetle_worth. A fan's worth does not depend on how good the fan is now; the gain does, so it says where a spare
+ * goes. The exact gain of a spare that cannot fail is the exact worth times the fan's own chance to fail. */
 uint64_t foambeetle_gain(const uint8_t *file, size_t length, uint64_t system, uint64_t fan, uint64_t p, int64_t *ends);
 
-/* The libraries themselves take no null pointer. A program that includes this header calls them by the functions below,
- * which lend an address of their own where the length is 0. */
+/* The libraries themselves take no null pointer. A program that includes this header calls them through the functions
+ * below, which pass an address of their own if the length is 0. */
 FOAMBEETLE_INLINE uint64_t foambeetle_unit_lent(const uint8_t *file, size_t length)
 {
     const uint8_t none = 0;

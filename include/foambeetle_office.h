@@ -1,10 +1,10 @@
 /* foambeetle_office.h: for the office ashore: the deck file's writer, a deck's chances as doubles, ratings asked in doubles.
  *
- * Link with libfoambeetle_office.a or libfoambeetle_office.so (x86-64), which need nothing but memcpy and memset; the
- * ship's libfoambeetle is not wanted for it. The calls keep nothing between calls and may run in several threads at once.
- * Those over doubles use up to 65,000 bytes of stack, 62,400 of them a working table.
+ * Link with libfoambeetle_office.a or libfoambeetle_office.so (x86-64), which need nothing but memcpy and memset, and not
+ * the ship's libfoambeetle. The calls keep nothing between calls and may run in several threads at once. Those over
+ * doubles use up to 65,000 bytes of stack, 62,400 of them a working table.
  *
- * A refusal is a number of the table above its call, the first of its lines that applies.
+ * The table above each call lists its refusals. The first line that applies is given.
  */
 #ifndef FOAMBEETLE_OFFICE_H
 #define FOAMBEETLE_OFFICE_H
@@ -34,8 +34,8 @@ extern "C" {
  * versions 2 and 3. `w` and `s` are how many numbers `weights` and `systems` have: n, and five for each system, its kind,
  * first, second, and the first and last fan of its stretch. In version 3 `boards` has `b` numbers, n of them, each fan's
  * board, 0 for none, and `switchboards` the survival numbers of the `g` boards; versions 1 and 2 read neither list nor
- * its length. A pointer may be null where its length is 0, and the room overlaps no list. The answer is the file's
- * length, or, for a refusal, (2^32 - 1) times 2^32 plus its number; then nothing is written. */
+ * its length. A pointer may be null if its length is 0. The room must not overlap a list. The answer is the file's length,
+ * or, for a refusal, (2^32 - 1) times 2^32 plus its number; then nothing is written. */
 uint64_t foambeetle_write(uint64_t version, const uint32_t *survival, size_t n, const uint16_t *weights, size_t w,
                           const uint8_t *boards, size_t b, const uint32_t *switchboards, size_t g,
                           const uint16_t *systems, size_t s, uint8_t *room, size_t length);
@@ -46,8 +46,8 @@ uint64_t foambeetle_write(uint64_t version, const uint32_t *survival, size_t n, 
  *
  * The chance that a system of a version 1 deck file, counted from 1, works: it lies between ends[0] and ends[1], which
  * are low and high of foambeetle_rate, each divided by 2^30. That is exact: ends[0] * 1073741824.0 is low again. `file`
- * may be null where `length` is 0, and `ends` has room for two doubles. The answer is 0 where they are written, and the
- * refusal's number where nothing is. */
+ * may be null if `length` is 0, and `ends` has room for two doubles. The answer is 0 if they are written; otherwise it is
+ * the refusal's number, and nothing is written. */
 uint64_t foambeetle_chance(const uint8_t *file, size_t length, uint64_t system, double *ends);
 
 /* As foambeetle_rate (foambeetle.h): 10, 11 for a version not 1, 2 or 3, 2, 12, 20, 13, 21, then 14, then 1 and 3 to 6.
@@ -55,8 +55,8 @@ uint64_t foambeetle_chance(const uint8_t *file, size_t length, uint64_t system, 
  * The chance that a system of a deck file of any version, counted from 1, works, between two doubles: with u for the
  * file's unit and low and high as foambeetle_rate has them, ends[0] is the largest double that is at most low / u, and
  * ends[1] the smallest that is at least high / u. For version 1 they are those of foambeetle_chance. `file` may be null
- * where `length` is 0, and `ends` has room for two doubles. The answer is 0 where they are written, and the refusal's
- * number where nothing is. */
+ * if `length` is 0, and `ends` has room for two doubles. The answer is 0 if they are written; otherwise it is the refusal's
+ * number, and nothing is written. */
 uint64_t foambeetle_chance_between(const uint8_t *file, size_t length, uint64_t system, double *ends);
 
 /*  1  kind not 1..8
@@ -75,12 +75,12 @@ uint64_t foambeetle_chance_between(const uint8_t *file, size_t length, uint64_t 
  * Each chance times 2^30 becomes the whole number just below and the one just above; low comes from the lower ones and
  * high from the upper. The exact chance over the doubles' own values lies between low / 2^30 and high / 2^30, which are
  * at most 2(b - a) + 1 parts of 2^30 apart. The answer is low times 2^32 plus high, or, for a refusal, (2^32 - 1) times
- * 2^32 plus its number: take it apart by the functions of foambeetle.h. */
+ * 2^32 plus its number; the functions of foambeetle.h take it apart. */
 uint64_t foambeetle_rate_doubles(uint64_t kind, uint64_t first, uint64_t second, const uint64_t *more, size_t pairs,
                                  uint64_t a, uint64_t b, const double *survival, size_t n, const uint16_t *weights,
                                  size_t weighed);
 
-/* As in foambeetle.h: where a length is 0, an address of the program's own is lent. */
+/* As in foambeetle.h: if a length is 0, these functions pass an address of their own. */
 FOAMBEETLE_INLINE uint64_t foambeetle_write_lent(uint64_t version, const uint32_t *survival, size_t n,
                                                  const uint16_t *weights, size_t w, const uint8_t *boards, size_t b,
                                                  const uint32_t *switchboards, size_t g, const uint16_t *systems,

@@ -8,7 +8,7 @@ log=target/ci.log
 export PYTHONDONTWRITEBYTECODE=1 PYTHONUNBUFFERED=1
 
 command -v rt >/dev/null || {
-    echo "rt is not on the path (README.md says what is wanted)"
+    echo "rt is not on the path (README.md says what is needed)"
     echo "0 passed, 1 failed"
     exit 1
 }
@@ -20,7 +20,7 @@ passed=${count%% passed*} failed=${count##*, } failed=${failed%% failed*}
 [ -n "$count" ] || passed=0 failed=1
 [ "$rt_status" -eq 0 ] || [ "$failed" -gt 0 ] || failed=1
 
-tests/others.py "$log"
+python3 -m tests.others "$log"
 failed=$((failed + $?))
 echo "$passed passed, $failed failed" | tee -a "$log"
 [ "$failed" -eq 0 ]

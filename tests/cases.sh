@@ -6,7 +6,7 @@ room=$(mktemp -d)
 trap 'rm -rf "$room"' EXIT
 for program in crates/*_cases; do
     name=$(basename "$program" _cases)
-    python3 second/cases.py "$name" "$room/stdin" "$room/stdout"
+    python3 -m second.cases "$name" "$room/stdin" "$room/stdout"
     cmp "$room/stdin" "$program/stdin"
     cmp "$room/stdout" "$program/stdout"
     echo "$name: $(wc -l <"$program/stdout") cases, as the second program makes them"

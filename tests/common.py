@@ -5,22 +5,19 @@ import os
 import pty
 import re
 import subprocess
-import sys
 from concurrent.futures import ThreadPoolExecutor
 from functools import lru_cache
 from pathlib import Path
 
+from second.model.loading import decklist_output, deckworth_output
+from second.model.mending import deckmend_output
+from second.model.season import season_output
+from second.model.spares import deckspare_output
+from second.model.states import deckstate_output
+from second.model.typed import deckmake_output, deckshow_output
+
 root = Path(__file__).resolve().parent.parent
 room = root / "target/tests"
-sys.path.insert(0, str(root / "second"))
-
-from foambeetle import decklist_output, deckworth_output  # noqa: E402
-from mending import deckmend_output  # noqa: E402
-from season import season_output  # noqa: E402
-from spares import deckspare_output  # noqa: E402
-from states import deckstate_output  # noqa: E402
-from typed import deckmake_output, deckshow_output  # noqa: E402
-
 STRICT = ("-Wall", "-Wextra", "-Werror", "-O1")
 BUILT = "FOAMBEETLE_BUILT"  # in the environment where tests/others.py has built all that the tests start
 

@@ -1,10 +1,10 @@
 """The office's calls over doubles against the second program, bit for bit.
 
-Out: 600 random deck files of every version, sound and damaged, and the samples, each asked for its systems and for some that it has not, by both calls;
-and by the one for every version 5,952 systems of one fan each, whose figure is the fan's own number, at the ends of both units, about the powers of two and at random. In: every
-edge of the doubles, the grid's points and their neighbours, one fan each; 2,000 random lists under every kind; and 1,280 with every choice of things wrong,
-so that the order of the refusals shows. All of it through a C program linked with libfoambeetle_office.a, with guard pages on either side of what it
-lends.
+Out: 600 random deck files of every version, sound and damaged, and the samples; each is asked for its systems and for some that it does not have, by both calls. The
+call for every version is also asked for 5,952 systems of one fan each, whose figure is the fan's own number, at the ends of both units, near the powers of two
+and at random. In: every edge of the doubles, the grid's points and their neighbours, one fan each; 2,000 random lists under every kind; and 1,280 with every
+choice of things wrong, so that the order of the refusals shows. A C program linked with libfoambeetle_office.a makes the calls, with guard pages on either side
+of what it lends.
 """
 
 import random
@@ -12,12 +12,13 @@ import struct
 import subprocess
 import sys
 
-from common import OFFICE, compare, decks, ready, root, run, sample, static
-
-from doubles import bits_of, chance, chance_between, planned
-from doubles_samples import CHANCES, NO_CHANCES, about_grid, grid_points, random_plan, wrong_plans
-from files import random_files
-from foambeetle import BOARDS_VERSION, MOST_SYSTEMS, NO_BOARDS, UNITS, Boards, Deck, Refusal, Rule, System, deck_bytes, packed, read_deck
+from second.model.deck_file import deck_bytes, read_deck
+from second.model.doubles import bits_of, chance, chance_between, planned
+from second.model.loading import packed
+from second.model.terms import BOARDS_VERSION, MOST_SYSTEMS, NO_BOARDS, UNITS, Boards, Deck, Refusal, Rule, System
+from second.samples.doubles import CHANCES, NO_CHANCES, about_grid, grid_points, random_plan, wrong_plans
+from second.samples.files import random_files
+from tests.common import OFFICE, compare, decks, ready, root, run, sample, static
 
 FILES, LISTS, WRONG, GRID, SINGLES = 600, 2000, 1280, 500, 60
 HUGE = (2 ** 32 + 1, 2 ** 63, 2 ** 64 - 1)

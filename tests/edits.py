@@ -1,11 +1,11 @@
-"""Each must-fail edit was refused because a fact no longer holds, and not because the proof files no longer fit the code's shape; and all of them
-together are no more, and took no longer, than docs/PROOFS.md allows.
+"""Each must-fail edit was refused because a fact no longer holds, not because the proofs no longer fit the code's shape. All of them together are no more, and
+took no longer, than docs/PROOFS.md allows.
 
-    edits.py [TARGET]
+    python3 -m tests.edits [TARGET]
 
 Reads the logs that rt ci leaves below TARGET (target/ otherwise), must-fail/NAME/LABEL/.log, and prints a line for each edit: fact or shape, and
-the first thing that was refused. An edit shows something where it keeps the code's operations and changes an operand. What rt said of the edit,
-must-fail/NAME/LABEL.out, ends in the seconds that it took, and they are printed by crate.
+the first thing that was refused. An edit shows something if it keeps the code's operations and changes an operand. What rt said of the edit,
+must-fail/NAME/LABEL.out, ends in the seconds that it took; they are printed by crate.
 """
 
 import re
@@ -13,7 +13,7 @@ import sys
 from pathlib import Path
 from typing import NamedTuple
 
-from common import root
+from tests.common import root
 
 SHOWN = 150  # characters of a refusal
 TOOK = re.compile(r"(\d+) s\)$", re.M)

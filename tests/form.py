@@ -4,7 +4,7 @@ refusal, version). And the form that the house keeps: no function of more than e
 import re
 import sys
 
-from common import reported, root
+from tests.common import reported, root
 
 WIDEST, PARAMETERS, LINES, LOOPS = 120, 8, 40, 1
 # Where a number that looks like one of these is none: tables of numbers, the characters and places of a text, and rooms in bytes.

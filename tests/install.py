@@ -3,13 +3,14 @@ them beside it and by pkg-config, man pages. make uninstall takes all of it away
 
 import os
 import platform
+import re
 import shutil
 import sys
 from pathlib import Path
 
-from common import (
-    EVERY_PROGRAM, LIBRARIES, MAKER, MENDER, NEEDED, OFFICE, PAGER, PROGRAMS, SAMPLES, SHIP, WRITER, build, compare_example, compare_samples, compare_written, decks, held,
-    make, rated_lines, room, root, run, sample, started, texts, tools,
+from tests.common import (
+    EVERY_PROGRAM, LIBRARIES, MAKER, MENDER, NEEDED, OFFICE, PAGER, PROGRAMS, SAMPLES, SHIP, WRITER, build, compare_example, compare_samples, compare_written,
+    decks, held, make, rated_lines, room, root, run, sample, started, texts, tools,
 )
 
 STAGE = room / "stage"
@@ -37,9 +38,20 @@ def pkg_config_version():
 
 
 def pages_there():
-    """Every program and every library has its man page."""
-    pages = [*(f"man1/{program}.1" for program in EVERY_PROGRAM), *(f"man3/{library}.3" for library in LIBRARIES)]
-    return all((PLACE / "share/man" / page).exists() for page in pages)
+    """Every program and every library has its man page, and so has every function of the headers, by a link to a page that names it."""
+    names = {name for library in LIBRARIES for name in re.findall(r"(foambeetle_\w+)\(", (root / f"include/{library}.h").read_text()) if not name.endswith("_lent")}
+    pages = [*(f"man1/{program}.1" for program in EVERY_PROGRAM), *(f"man3/{page}.3" for page in (*LIBRARIES, *names)), "man7/foambeetle.7"]
+    missing = [page for page in pages if not (PLACE / "share/man" / page).exists() or not about(page)]
+    print(f"man pages: {len(pages)}, missing or about something else: {missing}")
+    return not missing
+
+
+def about(page):
+    """Whether a page's NAME has what the page is called, also where the page is a link."""
+    text = (PLACE / "share/man" / page).read_text()
+    text = (PLACE / "share/man" / text.split()[1]).read_text() if text.startswith(".so ") else text
+    name = page.partition("/")[2].rpartition(".")[0]
+    return name in re.findall(r"\w+", text.partition(".SH NAME\n")[2].partition(".SH ")[0]) or f".TH {name.upper()} " in text
 
 
 def library_words(library):

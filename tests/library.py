@@ -1,8 +1,8 @@
-"""Each library as C programs meet it: it exports its header's calls and nothing else, needs memcpy and memset alone, and answers in a static
-program, a position-independent one, over the shared library, from C++ and through Python's ctypes. The headers compile by every standard of C and C++
-that the compiler knows, and a null pointer with length 0 is an empty list.
+"""Each library as C programs meet it. It exports its header's calls and nothing else, and needs memcpy and memset alone. It answers in a static program, in a
+position-independent one, as a shared library, from C++ and through Python's ctypes. The headers compile by every standard of C and C++ that the compiler knows,
+and a null pointer with length 0 is an empty list.
 
-Where the machine is not x86-64 the programs run under the emulator; what cannot is skipped with a line that says so.
+Off x86-64 the programs run under the emulator. What cannot run there is skipped, and a line says so.
 """
 
 import ctypes
@@ -13,16 +13,15 @@ import subprocess
 import sys
 from pathlib import Path
 
-from common import (
+from second.model.deck_file import read_deck, system_numbers, write_deck
+from second.model.doubles import bits_of, chance, chance_between, planned
+from second.model.loading import decklist_output, packed, rate, unit_of_file, worth_of_file
+from second.model.spares import gain_of_file
+from second.model.terms import NO_BOARDS, UNIT, UNITS, Boards, Refusal, Rule
+from tests.common import (
     LIBRARIES, OFFICE, SAMPLES, SHIP, WRITER, build, compare, compare_example, compare_samples, decks, plus, printed, prototypes, rated_lines, ready, room,
     root, run, sample, static, tools,
 )
-
-from doubles import bits_of, chance, chance_between, planned
-from foambeetle import (
-    NO_BOARDS, UNIT, UNITS, Boards, Refusal, Rule, decklist_output, packed, rate, read_deck, system_numbers, unit_of_file, worth_of_file, write_deck,
-)
-from spares import gain_of_file
 
 LIBRARY = root / "target/lib"
 NEEDED = {"memcpy", "memset"}

@@ -1,18 +1,18 @@
-"""deckmend against the second program, what it writes and what it says of it.
+"""deckmend against the second program: what it writes and what it says.
 
-Every byte of a header set to 0, to 255, to one more, to one less and with each bit changed, in each version; headers with several bytes damaged, the
-files whole, cut or run on; files cut at every length; from 1 to 100,000 bytes behind a file; sound and damaged files at random; input that comes in
-pieces; and a file with far more behind it. A process each, so there are not more; of the second program second/selfcheck.py tries every byte and value.
+Every byte of a header set to 0, to 255, to one more, to one less and with each bit changed, in each version; headers with several bytes damaged, the files whole,
+cut or too long; files cut at every length; 1 to 100,000 bytes behind a file; sound and damaged files at random; input in pieces; and a file with far more
+behind it. Each is a process of its own, so there are not more; second/checks tries every byte and value of the second program.
 """
 
 import random
 import sys
 
-from common import MENDER, compare, compare_written, fed, linked, written
-
-from files import random_deck, random_files, with_field
-from foambeetle import BOARDS_VERSION, UNITS, Boards, Deck, Rule, System, deck_bytes
-from mending import deckmend_output, mend
+from second.model.deck_file import deck_bytes
+from second.model.mending import deckmend_output, mend
+from second.model.terms import BOARDS_VERSION, UNITS, Boards, Deck, Rule, System
+from second.samples.files import random_deck, random_files, with_field
+from tests.common import MENDER, compare, compare_written, fed, linked, written
 
 HEADERS = {version: 28 if version == BOARDS_VERSION else 20 for version in UNITS}
 SEVERAL = 500

@@ -3,7 +3,7 @@
 import re
 import sys
 
-from common import reported, root
+from tests.common import reported, root
 
 PROOFS = root / "docs/PROOFS.md"
 # words in code that are no names of crates/: commands, paths outside, parts of a log

@@ -1,19 +1,21 @@
 """The office's writer against the second program, byte for byte.
 
-600 random decks of every version, each typed into a room that just suffices, one a byte longer and one a byte shorter, and with one thing wrong by
-turns, or two, so that the order of the refusals shows, go through a C program linked with libfoambeetle_office.a, with guard pages on either side of
-what it lends. Versions without boards have lists of any boards beside them. What is written reads back as the deck that was typed.
+600 random decks of every version are each written into a room that just suffices, one a byte longer and one a byte shorter, and with one or two things wrong by
+turns, so that the order of the refusals shows. A C program linked with libfoambeetle_office.a makes the calls, with guard pages on either side of what it
+lends. Versions without boards get lists of boards beside them. What is written reads back as the deck that was typed.
 """
 
 import random
 import struct
 import sys
 
-from common import OFFICE, compare, ready, root, run, static
-
-from files import random_deck
-from foambeetle import BOARDS_VERSION, Boards, Deck, Refusal, boards_read, layout, listed_systems, packed, read_deck, system_numbers, write_deck
-from samples import unread_boards
+from second.model.boards import boards_read
+from second.model.deck_file import layout, listed_systems, read_deck, system_numbers, write_deck
+from second.model.loading import packed
+from second.model.terms import BOARDS_VERSION, Boards, Deck, Refusal
+from second.samples.files import random_deck
+from second.samples.lists import unread_boards
+from tests.common import OFFICE, compare, ready, root, run, static
 
 DECKS = 600
 PAINT = b"\xa5"  # of tests/pages.h

@@ -1,11 +1,10 @@
-#!/usr/bin/env python3
-"""The gate's other tests, as many at a time as there are processors (RT_JOBS, if set), those that take longest first.
+"""The gate's other tests, as many at a time as there are processors (RT_JOBS, if set), the longest first.
 
-    others.py LOG [WORD..]    all of them, or those whose command has one of the words
+    python3 -m tests.others LOG [WORD..]    all of them, or those whose command has one of the words
 
-What they start is built before, so that no two of them build in one folder, beside those that start nothing. A test has one line when it has passed; when it has failed all that it
-said stands before that line. While none ends, a line every half minute says what is being worked on. LOG gets all that each said, one test after the
-other. The last line is how long each part of the gate took. The exit status is how many failed.
+What they start is built first, so that no two of them build in one folder; tests that start nothing run meanwhile. A test that passes has one line. A test that
+fails shows all that it said before that line. While none ends, a line every half minute says what is running. LOG gets all that each said, one test after
+the other. The last line is how long each part of the gate took. The exit status is how many failed.
 """
 
 import os
@@ -16,8 +15,8 @@ import time
 from concurrent.futures import FIRST_COMPLETED, ThreadPoolExecutor, wait
 from typing import NamedTuple
 
-from common import BUILT, EVERY_PROGRAM
-from progress import QUIET, ROOT, TOOK, keep, still
+from tests.common import BUILT, EVERY_PROGRAM
+from tests.progress import QUIET, ROOT, TOOK, keep, still
 
 JOBS = int(os.environ.get("RT_JOBS") or os.cpu_count() or 1)
 
@@ -40,30 +39,30 @@ class Ended(NamedTuple):
 LINKED = " ".join(f"target/programs/{program}" for program in EVERY_PROGRAM)
 BUILD = Test("what the other tests start is built", f"make --no-print-directory lib {LINKED}")
 TESTS = tuple(Test(*line) for line in (
-    ("the library's calls and the programs against the second program", "python3 tests/run.py"),
-    ("deckpage against the second program, and in a browser", "python3 tests/page.py"),
-    ("deckmend against the second program", "python3 tests/mend.py"),
-    ("deckmake and deckshow against the second program", "python3 tests/typed.py"),
-    ("the season report against the second program", "python3 tests/season.py"),
-    ("the second program checks itself", "python3 second/selfcheck.py", False),
-    ("deckstate against the second program", "python3 tests/states.py"),
-    ("refusals in words, and what they advise carried out", "python3 tests/words.py"),
-    ("deckspare against the second program", "python3 tests/spare.py"),
-    ("the office's calls over doubles against the second program", "python3 tests/doubles.py"),
-    ("the Python package against the second program", "python3 tests/python.py"),
-    ("what is installed runs, and goes again", "python3 tests/install.py"),
-    ("the libraries link every way, and export their calls alone", "python3 tests/library.py"),
+    ("the library's calls and the programs against the second program", "python3 -m tests.calls"),
+    ("deckpage against the second program, and in a browser", "python3 -m tests.page"),
+    ("deckmend against the second program", "python3 -m tests.mend"),
+    ("deckmake and deckshow against the second program", "python3 -m tests.typed"),
+    ("the season report against the second program", "python3 -m tests.season"),
+    ("the second program checks itself", "python3 -m second.checks", False),
+    ("deckstate against the second program", "python3 -m tests.states"),
+    ("refusals in words, and what they advise carried out", "python3 -m tests.words"),
+    ("deckspare against the second program", "python3 -m tests.spare"),
+    ("the office's calls over doubles against the second program", "python3 -m tests.doubles"),
+    ("the Python package against the second program", "python3 -m tests.python"),
+    ("what is installed runs, and goes again", "python3 -m tests.install"),
+    ("the libraries link every way, and export their calls alone", "python3 -m tests.library"),
     ("the stored cases are the second program's", "tests/cases.sh", False),
-    ("the programs' words, percents and failures", "python3 tests/program.py"),
-    ("the office's writer against the second program", "python3 tests/office.py"),
-    ("the walk through a deck is true as printed", "python3 tests/walk.py"),
-    ("each must-fail edit is refused for a fact, within their time", "python3 tests/edits.py", False),
-    ("one version everywhere", "python3 tests/version.py"),
-    ("the list of proofs names what there is", "python3 tests/names.py", False),
-    ("the library's calls hold within the stack that the ship grants", "python3 tests/stack.py"),
-    ("the published figures are what the proved programs print", "python3 tests/published.py", False),
-    ("the headers declare the C calls as they are defined", "python3 tests/signatures.py", False),
-    ("numbers by their names, and the form of the code", "python3 tests/form.py", False),
+    ("the programs' words, percents and failures", "python3 -m tests.program"),
+    ("the office's writer against the second program", "python3 -m tests.office"),
+    ("the guide and README.md are true as printed", "python3 -m tests.walk"),
+    ("each must-fail edit is refused for a fact, within their time", "python3 -m tests.edits", False),
+    ("one version everywhere", "python3 -m tests.version"),
+    ("the list of proofs names what there is", "python3 -m tests.names", False),
+    ("the library's calls hold within the stack that the ship grants", "python3 -m tests.stack"),
+    ("the published figures are what the proved programs print", "python3 -m tests.published", False),
+    ("the headers declare the C calls as they are defined", "python3 -m tests.signatures", False),
+    ("numbers by their names, and the form of the code", "python3 -m tests.form", False),
 ))
 
 
@@ -109,7 +108,7 @@ def failures(tests, log):
         failed += one.status != 0
         built &= one.test is not BUILD or one.status == 0
     if not built:
-        print(f"not run for want of what they start: {len(starting)} tests")
+        print(f"not run, since what they start could not be built: {len(starting)} tests")
         return failed + len(starting)
     for place, one in enumerate(each_ended(starting), 1 + len(first)):
         tell(one, f"{place} of {total}", log)

@@ -11,11 +11,11 @@ import subprocess
 import sys
 import xml.etree.ElementTree as tree
 
-from common import DONE, PAGER, REFUSED, compare, decks, linked, mapped, room, run
-
-from files import DAMAGES, VERSIONS, random_deck
-from foambeetle import BOARDS_VERSION, UNITS, Boards, Deck, Rule, System, deck_bytes
-from page import page_of
+from second.model.deck_file import deck_bytes
+from second.model.page import page_of
+from second.model.terms import BOARDS_VERSION, UNITS, Boards, Deck, Rule, System
+from second.samples.files import DAMAGES, VERSIONS, random_deck
+from tests.common import DONE, PAGER, REFUSED, compare, decks, linked, mapped, room, run
 
 RANDOM = 12  # of each version
 DAMAGED = 8

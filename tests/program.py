@@ -9,12 +9,13 @@ import sys
 import tempfile
 from pathlib import Path
 
-from common import (
+from second.model.deck_file import deck_bytes
+from second.model.loading import decklist_output
+from second.model.terms import UNITS, Boards, Deck, Rule, System
+from second.samples.files import random_files
+from tests.common import (
     DONE, EVERY_PROGRAM, FAILED, MAKER, NEEDED, REFUSED, compare, decks, held, linked, mapped, printed, prove, room, root, run, started, tools,
 )
-
-from files import random_files
-from foambeetle import UNITS, Boards, Deck, Rule, System, deck_bytes, decklist_output
 
 SAMPLE = root / "samples/hold1.deck"
 TEXT = root / "samples/hold1.txt"  # what deckmake reads

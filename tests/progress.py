@@ -177,7 +177,7 @@ def main(arguments):
     try:
         return follow(words, RtLines(words[1:]), log)
     except FileNotFoundError:
-        print(f"{words[0]} is not on the path (README.md says what is wanted)")
+        print(f"{words[0]} is not on the path (README.md says what is needed)")
         return 2
 
 

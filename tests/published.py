@@ -1,19 +1,16 @@
 """The proved programs print what the documents print.
 
-The case files begin with the published figures (second/published.py); the gate runs the proved programs on those files and compares what they
+The case files begin with the published figures (second/samples/published.py); the gate runs the proved programs on those files and compares what they
 write with the stored answers, and here the stored answers are held to the printed digits.
 """
 
 import sys
-from pathlib import Path
 
-root = Path(__file__).resolve().parent.parent
-sys.path.insert(0, str(root / "second"))
-
-import published  # noqa: E402
-from cases import MODULES  # noqa: E402
-from foambeetle import Fails, Refusal  # noqa: E402
-from words import pack  # noqa: E402
+from second.cases.modules import MODULES
+from second.cases.words import pack
+from second.model.terms import Fails, Refusal
+from second.samples import published
+from tests.common import root
 
 LISTS = {"verdict": published.VERDICTS, "figures": published.FIGURES, "counts": published.COUNTS}
 

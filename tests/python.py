@@ -1,6 +1,6 @@
 """The Python package against the second program: 300 random files of every version, sound and damaged, by every call for a file; 1,200 decks written;
-600 lists of doubles. Its refusals have words for every number, its calls have their headers' types, a number that C has no room for and a
-library that is not there are told; and pip installs it from its folder."""
+600 lists of doubles. Its refusals have words for every number, and its calls have their headers' types. It reports a number that C has no room for and a
+library that is missing. pip installs it from its folder."""
 
 import ctypes
 import importlib.util
@@ -13,15 +13,16 @@ import subprocess
 import sys
 from fractions import Fraction
 
-from common import LIBRARIES, SHIP, compare, decks, held, prototypes, ready, room, root, run
-
-from doubles import bits_of, chance, chance_between, double, planned
-from doubles_samples import random_plan
-from files import random_files
-from foambeetle import BOARDS_VERSION, UNIT, UNITS, Boards, Refusal, packed, rate, read_deck, system_numbers, unit_of_file, worth_of_file, write_deck
-from office import cases
-from program import percent
-from spares import gain_of_file
+from second.model.deck_file import read_deck, write_deck
+from second.model.doubles import chance, chance_between, double, planned
+from second.model.loading import rate, unit_of_file, worth_of_file
+from second.model.spares import gain_of_file
+from second.model.terms import BOARDS_VERSION, UNIT, UNITS, Boards, Refusal
+from second.samples.doubles import random_plan
+from second.samples.files import random_files
+from tests.common import LIBRARIES, SHIP, compare, decks, held, prototypes, ready, room, root, run
+from tests.office import cases
+from tests.program import percent
 
 FOLDER, PACKAGE = "FOAMBEETLE_LIBRARY", root / "python"
 FILES, PLANS = 300, 600
@@ -36,7 +37,7 @@ POINTERS = {"uint8_t": ctypes.c_uint8, "uint16_t": ctypes.c_uint16, "uint32_t": 
 
 
 def loaded():
-    """The package, under another name than the second program's."""
+    """The package of the sources, whatever is installed."""
     spec = importlib.util.spec_from_file_location("package", PACKAGE / "foambeetle/__init__.py", submodule_search_locations=[str(PACKAGE / "foambeetle")])
     package = sys.modules["package"] = importlib.util.module_from_spec(spec)
     spec.loader.exec_module(package)
@@ -151,12 +152,12 @@ def views_right():
 
 
 def refusals_named():
-    """Every number of rules/src/refusal.rt has its words, and README.md has them of the numbers that it names one by one."""
+    """Every number of rules/src/refusal.rt has its words, and man/foambeetle.7 has each number with the same words."""
     numbers = {int(number) for number in re.findall(r"^pub const \w+: u64 = (\d+);$", (root / "crates/rules/src/refusal.rt").read_text(), re.M)}
-    readme = " ".join((root / "README.md").read_text().split())
-    alone = {number for number in numbers if f"{number} {package.WORDS[number]}" in readme}
+    page = (root / "man/foambeetle.7").read_text()
+    listed = {number for number in numbers if f".IP {number} 4\n{package.WORDS[number]}" in page}
     refused = package.Refused(6)
-    return numbers == set(package.WORDS) and alone >= {1, 2, 3, 4, 5, 6, 14, 17, 20, 21, 22} and str(refused) == "refused 6: " + refused.words
+    return numbers == set(package.WORDS) == listed and str(refused) == "refused 6: " + refused.words
 
 
 def in_ctypes(parameter, name):
@@ -210,11 +211,11 @@ def started(path, library):
 
 
 def readme_true():
-    """README.md's two lines, and what they say that they come to."""
-    first, second = re.search(r"^    (import foambeetle)\n    (foambeetle\..*)$", (root / "README.md").read_text(), re.M).groups()
-    asked, _, said = second.partition("    # ")
+    """The program of python/README.md prints what its last line says, in a folder that has the deck."""
+    program = "".join(line.removeprefix("    ") for line in (PACKAGE / "README.md").read_text().splitlines(True) if line.startswith("    "))
+    said = program.rstrip().rpartition("# ")[2]
     own = {**os.environ, "PYTHONPATH": str(PACKAGE), "PYTHONDONTWRITEBYTECODE": "1"}
-    return run([sys.executable, "-c", f"{first}\nprint(repr({asked}))"], env=own, cwd=root).decode() == f"{said}\n"
+    return run([sys.executable, "-c", program], env=own, cwd=root / "samples").decode() == f"{said}\n"
 
 
 def missing_told():
@@ -226,7 +227,7 @@ def missing_told():
 def pip_installs():
     """From its folder, without a network, setuptools or a wheel of anybody's; nothing is left behind in the folder."""
     if importlib.util.find_spec("pip") is None:
-        print("skipped: the package by pip, for want of pip")
+        print("skipped: the package by pip, since there is no pip")
         return True
     place, before = room / "pip", sorted(PACKAGE.rglob("*"))
     shutil.rmtree(place, ignore_errors=True)

@@ -6,10 +6,9 @@ import random
 import subprocess
 import sys
 
-from common import compare, held, linked, mapped, on_terminal, printed
-
-from season import season_output
-from season_samples import many_files, named, random_streams, single_fan
+from second.model.season import season_output
+from second.samples.season import many_files, named, random_streams, single_fan
+from tests.common import compare, held, linked, mapped, on_terminal, printed
 
 STREAMS = 120
 IN_PIECES = 12

@@ -1,15 +1,15 @@
 """Each C call is declared as it is defined: the header's prototype has the parameters of the Rattle function, by name, type and order, and the type of
 its answer.
 
-A list that is lent stands in C as a pointer of the same name and, after it, a length of any name; a pair of ends as a pointer alone. The proofs say what
-a call answers of its parameters by their names, and nothing of the order in which C passes them. Crate ratings is the benchmark's and has no header; a program's crate exports
-its one call, which the Makefile's main declares: no parameter, and an int for the status.
+A borrowed list is a pointer of the same name in C and, after it, a length of any name; a pair of ends is a pointer alone. The proofs speak of parameters by their
+names, and say nothing of the order in which C passes them. Crate ratings is the benchmark's and has no header. A program's crate exports its one call, which the
+Makefile's main declares: no parameter, and an int for the status.
 """
 
 import re
 import sys
 
-from common import EVERY_PROGRAM, prototypes, reported, root
+from tests.common import EVERY_PROGRAM, prototypes, reported, root
 
 HEADERS = {"loading": "foambeetle.h", "office": "foambeetle_office.h"}
 WITHOUT_HEADER = {"ratings"}

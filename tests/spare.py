@@ -5,13 +5,13 @@ import random
 import subprocess
 import sys
 
-from common import DONE, FAILED, REFUSED, compare, decks, linked, mapped, on_terminal, ready
-
-from files import random_files
-from foambeetle import NO_BOARDS, UNITS, Boards, Deck, Rule, System, deck_bytes, read_deck
-from samples import KINDS, random_systems
-from spares import deckspare_output
-from typed import Wrong
+from second.model.deck_file import deck_bytes, read_deck
+from second.model.spares import deckspare_output
+from second.model.terms import KINDS, NO_BOARDS, UNITS, Boards, Deck, Rule, System
+from second.model.typed import Wrong
+from second.samples.files import random_files
+from second.samples.lists import random_systems
+from tests.common import DONE, FAILED, REFUSED, compare, decks, linked, mapped, on_terminal, ready
 
 PROGRAM = "deckspare"
 FILES = 90

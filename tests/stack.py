@@ -1,15 +1,14 @@
 """The stack that each of the libraries' calls can need: the frames of the compiled code, added up along the deepest chain of calls.
 
-tests/run.py runs the ship's calls on a stack of just the bytes that are granted; here the paths that no case takes are counted too, and the office's calls, which
-are held to what their header and man page say. What moves the stack in a way that is not known here, is called where the code does not say whom, or calls itself,
-is a failure.
+tests/calls.py runs the ship's calls on a stack of just the bytes that are granted. Here the paths that no case takes are counted too, and the office's calls are held
+to what their header and man page say. Code that moves the stack in an unknown way, calls a function that it does not name, or calls itself, is a failure.
 """
 
 import re
 import sys
 from functools import lru_cache
 
-from common import OFFICE, SHIP, ready, reported, root, run, tools
+from tests.common import OFFICE, SHIP, ready, reported, root, run, tools
 
 MOST_STACK = 70000  # document 02, request 07
 CALLS = {

@@ -6,12 +6,12 @@ import subprocess
 import sys
 from itertools import combinations_with_replacement
 
-from common import DONE, FAILED, REFUSED, compare, decks, linked, mapped
-
-from files import DAMAGES, VERSIONS, random_deck
-from foambeetle import BOARDS_VERSION, deck_bytes
-from states import BOARD, deckstate_output
-from states_samples import NO_NUMBERS, every_kind, every_kind_file, fan_words, right_words, wrong_words
+from second.model.deck_file import deck_bytes
+from second.model.states import BOARD, deckstate_output
+from second.model.terms import BOARDS_VERSION
+from second.samples.files import DAMAGES, VERSIONS, random_deck
+from second.samples.states import NO_NUMBERS, every_kind, every_kind_file, fan_words, right_words, wrong_words
+from tests.common import DONE, FAILED, REFUSED, compare, decks, linked, mapped
 
 DECKS = 80  # of each version
 WRONG = 40

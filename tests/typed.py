@@ -1,23 +1,18 @@
-"""deckmake and deckshow against the second program, what they write and what they say, byte for byte.
+"""deckmake and deckshow against the second program: what they write and what they say, byte for byte.
 
 Texts with a slip at every place of the grammar and a number at every edge, in each version; other blanks and line ends; bytes that are no text; long words
-and long lines, lines across the end of the buffer, a million lines, a hundred thousand faulty ones; input that comes in pieces; lines at random. Decks
-at random, in deckshow's words and in others, there and back: what deckmake makes of what deckshow shows is the file. The texts of samples/ make its deck
-files.
+and long lines, lines across the end of the buffer, a million lines, a hundred thousand faulty ones; input in pieces; lines at random. Random decks go there and
+back, in deckshow's words and in others: deckmake makes the same file of what deckshow shows. The texts of samples/ make its deck files.
 """
 
 import random
 import sys
 
-from common import (
-    MAKER, PROGRAMS, SHOWER, WRITING, compare, compare_written, decks, fed, linked, mapped, printed, run, texts, written,
-)
-
-from files import random_deck, random_files
-from foambeetle import UNITS, Boards, Deck, Rule, System, deck_bytes, file_refusal
-from typed_samples import (
-    SOUND, across, layouts, long_lines, long_words, many_lines, named, no_text, numbers, other_words, random_lines, several, slips,
-)
+from second.model.deck_file import deck_bytes, file_refusal
+from second.model.terms import UNITS, Boards, Deck, Rule, System
+from second.samples.files import random_deck, random_files
+from second.samples.typed import SOUND, across, layouts, long_lines, long_words, many_lines, named, no_text, numbers, other_words, random_lines, several, slips
+from tests.common import MAKER, PROGRAMS, SHOWER, WRITING, compare, compare_written, decks, fed, linked, mapped, printed, run, texts, written
 
 DECKS = 25  # of each version
 FILES = 60

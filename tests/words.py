@@ -1,16 +1,18 @@
-"""Refusals in words: decklist --words against the second program, and each remedy carried out: the refusal goes.
+"""Refusals in words: decklist --words against the second program, and each remedy tried: the refusal goes.
 
-Every cause of every refusal of a system stands in a deck of its own; what the program says of it is read, done, and the deck is rated again.
+Every cause of every refusal of a system stands in a deck of its own. The test reads what the program says of it, does that, and rates the deck again.
 """
 
 import re
 import subprocess
 import sys
 
-from common import compare, held, linked, mapped, prove
-from causes import worded_output
-from files import random_files
-from foambeetle import UNITS, Boards, Deck, Refusal, Rule, System, deck_bytes, decklist_output, read_deck
+from second.model.causes import worded_output
+from second.model.deck_file import deck_bytes, read_deck
+from second.model.loading import decklist_output
+from second.model.terms import UNITS, Boards, Deck, Refusal, Rule, System
+from second.samples.files import random_files
+from tests.common import compare, held, linked, mapped, prove
 
 SEED, FILES = 17, 600
 N = 12

@@ -20,6 +20,6 @@ from .figures import Chance, Difference, Range
 from .libraries import NotFound
 from .refusals import WORDS, Refused
 
-__version__ = "1.0.0"
+__version__ = "1.1.0"
 __all__ = ["Chance", "Deck", "Difference", "NotFound", "Range", "Refused", "System", "WORDS", "chance", "chance_between", "gain", "rate", "rate_doubles",
            "unit", "worth", "write"]

@@ -2,7 +2,7 @@
 
 from __future__ import annotations
 
-# What each number says; README.md has the list.
+# What each number says; man/foambeetle.7 says more of each.
 WORDS: dict[int, str] = {
     1: "no such kind",
     2: "no fans, or more than 64",

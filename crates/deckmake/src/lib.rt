@@ -7,7 +7,7 @@ ghost use Rattle.listing.specs.Holds.{mostLines};
 ghost use Rattle.making.specs.Lines.{warningsRoom};
 ghost use Rattle.making.specs.Made.{fileRoom};
 ghost use Rattle.shell.specs.Status.{Status};
-ghost use Rattle.text_stream.specs.Feeding.{lineRoom, Held};
+ghost use Rattle.text_stream.specs.Feeding.{lineRoom, Sane};
 ghost use Rattle.deckmake.specs.Made.{MadeFrom, EndsBy};
 use making::Made;
 use options::Asked;
@@ -21,7 +21,7 @@ const OUT: usize = 0;
 
 // Makes the deck of all bytes that were fed, and says what is to be said of it.
 fn make_fed(feeding: Feeding, line: &[u8], file: &mut [u8], out: &mut [u8]) -> Made
-    requires { ⌜ Held feeding (now line) (now out) × (feeding .listing .lines + 1 < mostLines) ⌝ }
+    requires { ⌜ Sane feeding (now out) × (feeding .listing .lines + 1 < mostLines) ⌝ }
     requires { ⌜ (lineRoom ≤ length (now line)) × (fileRoom ≤ length (now file)) × (warningsRoom ≤ length (now out)) ⌝ }
     ensures { λ r. ⌜ MadeFrom feeding (now (line .entry)) (now (out .entry)) (now (file .exit)) (now (out .exit)) r ⌝ }
 {
@@ -31,7 +31,7 @@ fn make_fed(feeding: Feeding, line: &[u8], file: &mut [u8], out: &mut [u8]) -> M
 
 // Hands that over.
 fn hand_fed(feeding: Feeding, line: &[u8], out: &mut [u8], place: usize) -> i32
-    requires { ⌜ Held feeding (now line) (now out) × (feeding .listing .lines + 1 < mostLines) ⌝ }
+    requires { ⌜ Sane feeding (now out) × (feeding .listing .lines + 1 < mostLines) ⌝ }
     requires { ⌜ (lineRoom ≤ length (now line)) × (warningsRoom ≤ length (now out)) ⌝ }
     ensures { λ r. ⌜ EndsBy feeding (now (line .entry)) (now (out .entry)) r ⌝ }
     ensures { λ r. ⌜ Status r ⌝ }

@@ -3,7 +3,7 @@ ghost use Prim.Native.Nat.{_+_, _≤_, _<_};
 ghost use lib.ListN.{length};
 ghost use Rattle.typed_lists.specs.Told.{toldRoom};
 ghost use Rattle.listing.specs.Holds.{mostLines};
-ghost use Rattle.text_stream.specs.Feeding.{lineRoom, Held};
+ghost use Rattle.text_stream.specs.Feeding.{lineRoom, Sane};
 use shell::reading;
 use shell::reading::Input;
 use text_stream::Feeding;
@@ -23,7 +23,7 @@ pub struct Text {
 // The text of an open input; a read that fails is told by its label.
 pub fn read_text(fd: i32, label: &[u8], line: &mut [u8], out: &mut [u8]) -> Text
     requires { ⌜ (lineRoom ≤ length (now line)) × (toldRoom ≤ length (now out)) ⌝ }
-    ensures { λ r. ⌜ Held (r .feeding) (now (line .exit)) (now (out .exit)) ×
+    ensures { λ r. ⌜ Sane (r .feeding) (now (out .exit)) ×
         (r .feeding .listing .lines + 1 < mostLines) ⌝ }
 {
     let mut piece = [0u8; PIECE];

@@ -12,7 +12,7 @@ use Rattle.listing.specs.declared.Listing.{Listing}
 use Rattle.typed_lists.specs.declared.told.Told.{Told}
 use Rattle.typed_lists.specs.Lists.{TypedNumbers}
 use Rattle.typed_lists.specs.Told.{Telling}
-use Rattle.listing.specs.Holds.{Holds, HoldsText}
+use Rattle.listing.specs.Holds.{Holds, Sane, HoldsText}
 
 -- the lists that the writer is lent
 abbrev pub handed : Listing → (numbers : List ℕ) → Typed
@@ -24,6 +24,18 @@ pub held-typed : {l : Listing} {s : Listed} {out : List ℕ} → Holds l s out �
 held-typed {l} {s} h numbers n =
     let five = n (s .systems) (h .systems) .stands in
     rw (h .fans .parts .stands, h .fans .weighed .stands, h .fans .placed .stands, h .boards .stands, five, h .version, ← h .fans .parts .counted)
+
+-- what holds something is sane
+pub sane-held : {l : Listing} {s : Listed} {out : List ℕ} → Holds l s out → Sane l out
+sane-held h = record {
+  counted = record {
+    fans = record { few = h .fans .parts .few; survival = h .fans .parts .long; weights = h .fans .weighed .long; boards = h .fans .placed .long; lines = h .fans .lined .long };
+    boards = h .boards .few;
+    switchboards = h .boards .long;
+    systems = omega (arith, h .systems .numbers .few);
+  };
+  room = h .told .room;
+}
 
 -- of a whole text
 module _ {l : Listing} (text : List ℕ) {out : List ℕ} (h : HoldsText l text out) where

@@ -16,9 +16,14 @@ use Rattle.grammar.proofs.Bounds.{within-line}
 use Rattle.listing.specs.declared.Listing.{Listing}
 use Rattle.listing.specs.Holds.{Holds, Steps}
 
+-- a step under another name
+pub step-as : {n : ℕ} {before after : Listing} {out then : List ℕ} {step same : Listed → Listed} → Steps n before out after then step → ((s : Listed) → same s ≡ step s)
+    → Steps n before out after then same
+step-as steps is = record { sane = steps .sane; few = steps .few; holds = λ s h. rw (is s) (steps .holds s h) }
+
 module _ {l r : Listing} {out then : List ℕ} (s : Listed) (h : Holds l s out) (more most wanted : ℕ) (first : List ℕ) (next : Listed) where
-  pub none-left : most < more → Steps l out r then (λ x. told x (faultAt (l .lines) first wanted 0)) → Holds r (orTold more most wanted first s next) then
-  none-left q e = rw (lt-ltb most more q) (rw (h .lines) at (e s h))
+  pub none-left : most < more → Steps 0 l out r then (λ x. told x (faultAt (l .lines) first wanted 0)) → Holds r (orTold more most wanted first s next) then
+  none-left q e = rw (lt-ltb most more q) (rw (h .lines) at (e .holds s h))
 
   pub some-left : more ≤ most → Holds r next then → Holds r (orTold more most wanted first s next) then
   some-left q e = rw (le-ltb most more q) e

@@ -11,7 +11,7 @@ use Rattle.text.specs.Decimal.{decimal}
 use Rattle.grammar.specs.Text.{Fault, faultAt, noSuchBoard, unplaced}
 use Rattle.typed_lists.specs.declared.told.Told.{Told}
 use Rattle.listing.specs.declared.ending.ToldLast.{ToldLast}
-use Rattle.typed_lists.specs.Told.{MoreTold}
+use Rattle.typed_lists.specs.Told.{Roomy, MoreTold}
 use Rattle.listing.specs.Ending.{isUnplaced, PassedFan}
 use Rattle.typed_lists.proofs.Telling.{told-none, told-then}
 use Rattle.listing.proofs.Ends.{beyond}
@@ -21,8 +21,8 @@ pub record Passing (g : ℕ) (boards lines : List ℕ) (before : Told) (out : Li
   pub rest : unplaced g 0 boards lines ≡ done ++ unplaced g (after .line) (drop i boards) (drop i lines)
   pub told : MoreTold before out (after .told) then done
 
-pub passing-none : (g : ℕ) (boards lines : List ℕ) (t : Told) (out : List ℕ) → Passing g boards lines t out (record { told = t; line = 0 }) out 0
-passing-none g boards lines t out = record { done = []; rest = refl; told = told-none t out }
+pub passing-none : (g : ℕ) (boards lines : List ℕ) (t : Told) (out : List ℕ) → Roomy t out → Passing g boards lines t out (record { told = t; line = 0 }) out 0
+passing-none g boards lines t out room = record { done = []; rest = refl; told = told-none room }
 
 one-passed : (test : Bool) (f : Fault) (g line last : ℕ) (boards lines : List ℕ)
     → cond test (f ∷ unplaced g line boards lines) (unplaced g last boards lines) ≡ cond test (f ∷ []) [] ++ unplaced g (cond test line last) boards lines

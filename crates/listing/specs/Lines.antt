@@ -29,4 +29,4 @@ pub record LinesEnd (text : List ℕ) (at : ℕ) : Type 0 where
 -- they were read
 pub record ReadLines (text : List ℕ) (before : Listing) (out : List ℕ) (r : Reached) (then : List ℕ) : Type 0 where
   pub end : LinesEnd text (r .at)
-  pub holds : Steps before out (r .listing) then (λ s. withLines s (linesOf (take (r .at) text)))
+  pub steps : Steps (length text) before out (r .listing) then (λ s. withLines s (linesOf (take (r .at) text)))

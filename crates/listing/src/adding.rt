@@ -1,7 +1,7 @@
 // What a line that has been read adds; its first word is told where there is no room for that.
 ghost use Rattle.grammar.specs.Reads.{Within};
 ghost use Rattle.grammar.specs.Text.{faultAt, told, addedFans, addedBoard, addedSystem, added};
-ghost use Rattle.listing.specs.Holds.{Held, Steps};
+ghost use Rattle.listing.specs.Holds.{Sane, Steps};
 use crate::Listing;
 use grammar::line::SETS;
 use rules::limit;
@@ -43,8 +43,8 @@ pub fn tell(
     named: u64,
     out: &mut [u8],
 ) -> Listing
-    requires { ⌜ Held listing (now out) ⌝ }
-    ensures { λ r. ⌜ Steps listing (now (out .entry)) r (now (out .exit))
+    requires { ⌜ Sane listing (now out) ⌝ }
+    ensures { λ r. ⌜ Steps 0 listing (now (out .entry)) r (now (out .exit))
         (λ s. told s (faultAt line (now (word .entry)) wanted named)) ⌝ }
 {
     let before = listing.told;
@@ -56,9 +56,9 @@ pub fn tell(
 
 // Some fans.
 fn added_fans(listing: Listing, first: &[u8], set: [u64; SETS], out: &mut [u8]) -> Listing
-    requires { ⌜ Held listing (now out) × Within set ⌝ }
+    requires { ⌜ Sane listing (now out) × Within set ⌝ }
     ensures { λ r.
-        ⌜ Steps listing (now (out .entry)) r (now (out .exit)) (λ s. addedFans s (now (first .entry)) set) ⌝ }
+        ⌜ Steps 0 listing (now (out .entry)) r (now (out .exit)) (λ s. addedFans s (now (first .entry)) set) ⌝ }
 {
     let before = listing.fans;
     let more = set[OF_NUMBER];
@@ -76,9 +76,9 @@ fn added_fans(listing: Listing, first: &[u8], set: [u64; SETS], out: &mut [u8]) 
 
 // A board.
 fn added_board(listing: Listing, first: &[u8], set: [u64; SETS], out: &mut [u8]) -> Listing
-    requires { ⌜ Held listing (now out) × Within set ⌝ }
+    requires { ⌜ Sane listing (now out) × Within set ⌝ }
     ensures { λ r.
-        ⌜ Steps listing (now (out .entry)) r (now (out .exit)) (λ s. addedBoard s (now (first .entry)) set) ⌝ }
+        ⌜ Steps 0 listing (now (out .entry)) r (now (out .exit)) (λ s. addedBoard s (now (first .entry)) set) ⌝ }
 {
     let g = listing.boards;
     if g + 1 > limit::BOARDS {
@@ -94,9 +94,9 @@ fn added_board(listing: Listing, first: &[u8], set: [u64; SETS], out: &mut [u8])
 
 // A system.
 fn added_system(listing: Listing, first: &[u8], set: [u64; SETS], out: &mut [u8]) -> Listing
-    requires { ⌜ Held listing (now out) × Within set ⌝ }
-    ensures { λ r. ⌜ Steps listing (now (out .entry)) r (now (out .exit)) (λ s. addedSystem s (now (first .entry)) set)
-        ⌝ }
+    requires { ⌜ Sane listing (now out) × Within set ⌝ }
+    ensures { λ r.
+        ⌜ Steps 0 listing (now (out .entry)) r (now (out .exit)) (λ s. addedSystem s (now (first .entry)) set) ⌝ }
 {
     let before = listing.systems;
     if before.count + 1 > limit::SYSTEMS {
@@ -110,8 +110,8 @@ fn added_system(listing: Listing, first: &[u8], set: [u64; SETS], out: &mut [u8]
 
 // What the line is, by what it has set.
 pub fn added(listing: Listing, first: &[u8], set: [u64; SETS], out: &mut [u8]) -> Listing
-    requires { ⌜ Held listing (now out) × Within set ⌝ }
-    ensures { λ r. ⌜ Steps listing (now (out .entry)) r (now (out .exit)) (λ s. added s (now (first .entry)) set) ⌝ }
+    requires { ⌜ Sane listing (now out) × Within set ⌝ }
+    ensures { λ r. ⌜ Steps 0 listing (now (out .entry)) r (now (out .exit)) (λ s. added s (now (first .entry)) set) ⌝ }
 {
     let thing = set[OF_THING];
     if thing == A_VERSION {

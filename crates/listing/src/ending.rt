@@ -6,7 +6,7 @@ ghost use Rattle.text.specs.Decimal.{decimal};
 ghost use Rattle.grammar.specs.Text.{faultAt, noSuchBoard, missing, unplaced};
 ghost use Rattle.typed_lists.specs.Lists.{Lined};
 ghost use Rattle.listing.specs.Holds.{mostLines};
-ghost use Rattle.typed_lists.specs.Told.{Roomy, MoreTold, Tells};
+ghost use Rattle.typed_lists.specs.Told.{Roomy, MoreTold};
 ghost use Rattle.listing.specs.Ending.{PassedFan};
 use typed_lists::fans::Fans;
 use typed_lists::told;
@@ -63,7 +63,7 @@ fn pass(before: ToldLast, line: u64, board: u8, g: usize, out: &mut [u8]) -> Tol
 
 // All fans on boards that are not there.
 pub fn unplaced(before: Told, fans: Fans, g: usize, out: &mut [u8]) -> Told
-    requires { ⌜ Tells before (now out) × Lined fans ⌝ }
+    requires { ⌜ Roomy before (now out) × Lined fans ⌝ }
     ensures { λ r. ⌜ MoreTold before (now (out .entry)) r (now (out .exit))
         (unplaced g 0 (take (fans .count) (fans .boards)) (take (fans .count) (fans .lines))) ⌝ }
 {

@@ -12,7 +12,7 @@ ghost use Rattle.grammar.specs.Grammar.{grammar};
 ghost use Rattle.grammar.specs.Stands.{part};
 ghost use Rattle.grammar.specs.Text.{counted, thing, withLine};
 ghost use Rattle.grammar.specs.Line.{readLine};
-ghost use Rattle.listing.specs.Holds.{Starts, Held, Steps, Counts, mostLines, ended};
+ghost use Rattle.listing.specs.Holds.{Starts, Sane, Steps, Counts, mostLines, ended};
 ghost use Rattle.listing.specs.Lines.{ReadLines};
 use grammar::line;
 use grammar::table;
@@ -97,9 +97,9 @@ fn with_words(
     upto: usize,
     out: &mut [u8],
 ) -> Listing
-    requires { ⌜ (now table ≡ grammar) × Held listing (now out) × (listing .lines < mostLines) × (from ≤ upto) ×
+    requires { ⌜ (now table ≡ grammar) × Sane listing (now out) × (listing .lines < mostLines) × (from ≤ upto) ×
         (upto ≤ length (now line)) ⌝ }
-    ensures { λ r. ⌜ Steps listing (now (out .entry)) r (now (out .exit))
+    ensures { λ r. ⌜ Steps 1 listing (now (out .entry)) r (now (out .exit))
         (λ s. thing (counted s true) (part (now (line .entry)) from upto)
         (readLine (s .version) (s .begun) (now (line .entry)))) ⌝ }
 {
@@ -123,8 +123,8 @@ fn with_words(
 
 // One line more.
 fn with_line(table: &[u64; ENTRIES], listing: Listing, line: &[u8], out: &mut [u8]) -> Listing
-    requires { ⌜ (now table ≡ grammar) × Held listing (now out) × (listing .lines < mostLines) ⌝ }
-    ensures { λ r. ⌜ Steps listing (now (out .entry)) r (now (out .exit)) (λ s. withLine s (now (line .entry))) ⌝ }
+    requires { ⌜ (now table ≡ grammar) × Sane listing (now out) × (listing .lines < mostLines) ⌝ }
+    ensures { λ r. ⌜ Steps 1 listing (now (out .entry)) r (now (out .exit)) (λ s. withLine s (now (line .entry))) ⌝ }
 {
     if line.len() > LONGEST_LINE {
         let next = count_line(listing, listing.begun);
@@ -141,8 +141,8 @@ fn with_line(table: &[u64; ENTRIES], listing: Listing, line: &[u8], out: &mut [u
 
 // One line more, by itself.
 pub fn read_line(listing: Listing, line: &[u8], out: &mut [u8]) -> Listing
-    requires { ⌜ Held listing (now out) × (listing .lines < mostLines) ⌝ }
-    ensures { λ r. ⌜ Steps listing (now (out .entry)) r (now (out .exit)) (λ s. withLine s (now (line .entry))) ⌝ }
+    requires { ⌜ Sane listing (now out) × (listing .lines < mostLines) ⌝ }
+    ensures { λ r. ⌜ Steps 1 listing (now (out .entry)) r (now (out .exit)) (λ s. withLine s (now (line .entry))) ⌝ }
 {
     let table = table::table();
     with_line(&table, listing, line, out)
@@ -156,7 +156,7 @@ pub struct Reached {
 
 // All lines that end in a text; its last one may go on.
 pub fn read_lines(listing: Listing, text: &[u8], out: &mut [u8]) -> Reached
-    requires { ⌜ Held listing (now out) × (listing .lines + length (now text) ≤ mostLines) ⌝ }
+    requires { ⌜ Sane listing (now out) × (listing .lines + length (now text) ≤ mostLines) ⌝ }
     ensures { λ r. ⌜ ReadLines (now (text .entry)) listing (now (out .entry)) r (now (out .exit)) ⌝ }
 {
     let table = table::table();
@@ -185,8 +185,8 @@ fn boardless(version: u64, boards: usize) -> bool
 
 // The text's end: the listing with what the text lacks told, and the fans on boards that are not there.
 pub fn last(listing: Listing, out: &mut [u8]) -> Listing
-    requires { ⌜ Held listing (now out) × (listing .lines < mostLines) ⌝ }
-    ensures { λ r. ⌜ Steps listing (now (out .entry)) r (now (out .exit)) ended ⌝ }
+    requires { ⌜ Sane listing (now out) × (listing .lines < mostLines) ⌝ }
+    ensures { λ r. ⌜ Steps 0 listing (now (out .entry)) r (now (out .exit)) ended ⌝ }
 {
     let fans = listing.fans;
     let systems = listing.systems;

@@ -19,20 +19,24 @@ use Rattle.grammar.proofs.Accepted.{lines-written}
 use Rattle.making.specs.Made.{fileRoom}
 use Rattle.making.proofs.Lengths.{listed-short}
 
-module _ (t : Typed) (room after : List ℕ) (none : writeRefusal t room ≡ 0) where
-  whole : after ≡ roomWritten t room → after ≡ bytesFor t ++ drop (length (bytesFor t)) room
+module _ (t : Typed) (room after : List ℕ) (size : ℕ) (is : Wrote t room after (Written size)) where
+  whole : after ≡ bytesFor t ++ drop (length (bytesFor t)) room
   unfolding roomWritten
-  whole is = is ∙ unless-none _ _ _ none
+  whole = is .written ∙ unless-none _ _ _ (is .answered .0)
 
-  pub file-written : (size : ℕ) → Wrote t room after (Written size) → Counts size after × (take size after ≡ bytesFor t)
-  file-written size is =
-      let e : size ≡ length (bytesFor t) = is .answered .1 in
-      let w = whole (is .written) in
-      let long : size ≤ length after = omega (arith, ap length w, length-append (bytesFor t) (drop (length (bytesFor t)) room)) in
-      ((long, sym (length-take-le size after long)), ap (λ n. take n after) e ∙ ap (take (length (bytesFor t))) w ∙ take-append-seam (bytesFor t) _)
+  all : size ≡ length (bytesFor t)
+  all = is .answered .1
 
-  pub never-other : (number : ℕ) → Wrote t room after (Refused number) → ⊥
-  never-other number is = omega (arith, is .answered .1, none)
+  pub written-counts : Counts size after
+  written-counts =
+      let long : size ≤ length after = omega (arith, all, ap length whole, length-append (bytesFor t) (drop (length (bytesFor t)) room)) in
+      (long, sym (length-take-le size after long))
+
+  pub file-written : take size after ≡ bytesFor t
+  file-written = ap (λ n. take n after) all ∙ ap (take (length (bytesFor t))) whole ∙ take-append-seam (bytesFor t) _
+
+pub never-other : (t : Typed) (room after : List ℕ) → writeRefusal t room ≡ 0 → (number : ℕ) → Wrote t room after (Refused number) → ⊥
+never-other t room after none number is = omega (arith, is .answered .1, none)
 
 -- lines without a fault are written
 pub written-lines : (lines : List (List ℕ)) (room : List ℕ) → withLines nothing lines .faults ++ lastFaults (withLines nothing lines) ≡ [] → fileRoom ≤ length room

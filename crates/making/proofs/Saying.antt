@@ -6,17 +6,16 @@ use native.Mathlib.Omega.{arith}
 use lib.ListN.{length, take}
 use lib.Seq.{length-take-le}
 use borrow.Author.Tests.{eq-eqb, ne-eqb}
-use Rattle.io.specs.Counts.{Counts}
 use Rattle.rules.specs.Writing.{bytesFor}
 use Rattle.text.specs.Added.{Added}
 use Rattle.text.proofs.Adding.{added-counts}
 use Rattle.grammar.specs.Words.{linesOf}
 use Rattle.grammar.specs.Text.{Fault, typedBy}
 use Rattle.listing.specs.declared.Listing.{Listing}
-use Rattle.listing.specs.Holds.{HoldsText}
+use Rattle.listing.specs.Holds.{Sane, HoldsText}
 use Rattle.listing.proofs.Handed.{none-told, some-told}
 use Rattle.making.specs.Lines.{warningsText}
-use Rattle.making.specs.Made.{fileOut, saidOut, listedBy, HeldText, FileOf, fileRoom, MadeOf}
+use Rattle.making.specs.Made.{fileOut, saidOut, listedBy, FileOf, fileRoom, MadeOf}
 use Rattle.making.proofs.Filing.{written-lines}
 
 no-faults : (x : List Fault) → length x ≡ 0 → x ≡ []
@@ -25,10 +24,10 @@ no-faults (f ∷ x) e = absurd (omega arith)
 
 module _ {l : Listing} {out : List ℕ} where
   -- something is told
-  pub told-made : HeldText l out → (l .told .count ≡ 0 → ⊥) → (file : List ℕ) → MadeOf l out file out (record { size = 0; end = l .told .end })
+  pub told-made : Sane l out → (l .told .count ≡ 0 → ⊥) → (file : List ℕ) → MadeOf l out file out (record { size = 0; end = l .told .end })
   unfolding fileOut saidOut
-  told-made held some file =
-      let long : l .told .end ≤ length out = omega (arith, held .holds .told .room) in
+  told-made sane some file =
+      let long : l .told .end ≤ length out = omega (arith, sane .room) in
       record {
         file-counts = (omega arith, refl);
         out-counts = (long, sym (length-take-le (l .told .end) out long));
@@ -40,18 +39,18 @@ module _ {l : Listing} {out : List ℕ} where
 
   -- nothing is told
   module _ (none : l .told .count ≡ 0) (room : List ℕ) (long : fileRoom ≤ length room) {file : List ℕ} {size : ℕ} (is : FileOf l room file size) where
-    pub file-made : (text : List ℕ) → HoldsText l text out → Counts size file × (take size file ≡ bytesFor (typedBy (listedBy (linesOf text))))
+    file-made : (text : List ℕ) → HoldsText l text out → take size file ≡ bytesFor (typedBy (listedBy (linesOf text)))
     file-made text h = is .stands (listedBy (linesOf text)) out h (written-lines (linesOf text) room (none-told (h .told) none) long)
 
-    pub none-made : {said : List ℕ} {end : ℕ} → HeldText l out → Added (warningsText (take size file) (l .systems .count)) out 0 said end
+    pub none-made : {said : List ℕ} {end : ℕ} → Added (warningsText (take size file) (l .systems .count)) out 0 said end
         → MadeOf l out file said (record { size = size; end = end })
     unfolding fileOut saidOut
-    none-made held added =
+    none-made added =
         record {
-          file-counts = file-made (held .text) (held .holds) .0;
+          file-counts = is .counts;
           out-counts = added-counts added;
           stands = λ text h.
-              let same = file-made text h .1 in
+              let same = file-made text h in
               let sound = eq-eqb (length (listedBy (linesOf text) .faults)) 0 (ap length (none-told (h .told) none)) in
               (rw sound same, rw (sound, ← same, ← (h .systems .count)) (added .stands));
         }

@@ -32,20 +32,10 @@ saidOut s = cond (faultless s) (warningsText (bytesFor (typedBy s)) (length (s .
 abbrev pub listedBy : (lines : List (List ℕ)) → Listed
 listedBy lines = ended (withLines nothing lines)
 
--- a listing holds some text to its end, as making asks
-pub record HeldText (l : Listing) (out : List ℕ) : Type 0 where
-  pub text : List ℕ
-  pub holds : HoldsText l text out
-
--- a listing holds something
-pub record HoldsSome (l : Listing) : Type 0 where
-  pub state : Listed
-  pub told : List ℕ
-  pub holds : Holds l state told
-
 -- the first bytes of a buffer are the file of what is listed, where the writer does not refuse it
 pub record FileOf (l : Listing) (before after : List ℕ) (size : ℕ) : Type 0 where
-  pub stands : (s : Listed) (told : List ℕ) → Holds l s told → writeRefusal (typedBy s) before ≡ 0 → Counts size after × (take size after ≡ bytesFor (typedBy s))
+  pub counts : Counts size after
+  pub stands : (s : Listed) (told : List ℕ) → Holds l s told → writeRefusal (typedBy s) before ≡ 0 → take size after ≡ bytesFor (typedBy s)
 
 -- the longest file
 abbrev pub fileRoom : ℕ

@@ -4,8 +4,9 @@ ghost use Prim.Native.Nat.{_+_, _≤_};
 ghost use lib.ListN.{length};
 ghost use Rattle.rules.specs.File.{mostSystems};
 ghost use Rattle.text.specs.Added.{Added};
+ghost use Rattle.listing.specs.Holds.{Counted, Sane};
 ghost use Rattle.making.specs.Lines.{warningText, warningRoom, warningsText, warningsRoom};
-ghost use Rattle.making.specs.Made.{fileRoom, HoldsSome, FileOf, HeldText, MadeOf};
+ghost use Rattle.making.specs.Made.{fileRoom, FileOf, MadeOf};
 use listing::Listing;
 use rules::Rating;
 use rules::Writing;
@@ -61,7 +62,7 @@ fn put_warnings(file: &[u8], count: usize, out: &mut [u8]) -> usize
 
 // The file of what is listed, where the writer does not refuse it.
 fn put_file(listing: Listing, file: &mut [u8]) -> usize
-    requires { ⌜ HoldsSome listing ⌝ }
+    requires { ⌜ Counted listing ⌝ }
     ensures { λ r. ⌜ FileOf listing (now (file .entry)) (now (file .exit)) r ⌝ }
 {
     let fans = listing.fans;
@@ -89,9 +90,9 @@ fn put_file(listing: Listing, file: &mut [u8]) -> usize
     }
 }
 
-// Both.
+// The file and what is said of its systems; or the faults alone.
 pub fn make(listing: Listing, file: &mut [u8], out: &mut [u8]) -> Made
-    requires held { ⌜ HeldText listing (now out) ⌝ }
+    requires sane { ⌜ Sane listing (now out) ⌝ }
     requires room { ⌜ (fileRoom ≤ length (now file)) × (warningsRoom ≤ length (now out)) ⌝ }
     ensures { λ r. ⌜ MadeOf listing (now (out .entry)) (now (file .exit)) (now (out .exit)) r ⌝ }
 {

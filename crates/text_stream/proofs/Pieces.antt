@@ -13,20 +13,12 @@ use Rattle.grammar.specs.Stands.{part}
 use Rattle.grammar.specs.Text.{Listed, withLine, withLines, listed}
 use Rattle.listing.specs.declared.Listing.{Listing}
 use Rattle.listing.specs.declared.Reached.{Reached}
-use Rattle.listing.specs.Holds as listing
 use Rattle.listing.specs.Holds.{Steps, ended, HoldsText}
 use Rattle.listing.specs.Lines.{OneLine, LineEnds, ReadLines}
 use Rattle.listing.proofs.Pieces.{cut-long}
 use Rattle.listing.proofs.Reading.{lines-more}
 use Rattle.text_stream.specs.declared.Feeding.{Feeding}
-use Rattle.text_stream.specs.Feeding.{lineRoom, partOf, HoldsBytes, Held, Fed}
-
--- what a listing asks for
-pub held-listing : {f : Feeding} {line out : List ℕ} → Held f line out → listing.Held (f .listing) out
-held-listing h = record { state = h .holds .state; holds = h .holds .holds }
-
-pub held-fed : {before after : Feeding} {line out piece then said : List ℕ} → Held before line out → Fed before line out piece after then said → Held after then said
-held-fed {piece} h fed = record { bytes = h .bytes ++ piece; holds = fed .holds (h .bytes) (h .holds) }
+use Rattle.text_stream.specs.Feeding.{lineRoom, partOf, HoldsBytes}
 
 -- bytes that are kept, all of them or as many as there is room for
 module _ (line more : List ℕ) (kept : ℕ) (low : kept ≤ length line) (within : kept ≤ lineRoom) where
@@ -92,7 +84,7 @@ module _ {f : Feeding} {line out bytes : List ℕ} (h : HoldsBytes f line out by
         ∙ cut s (partOf f line ++ take first piece) (newline ∷ after)
         ∙ ap (λ x. withLines s (linesOn x (newline ∷ after))) (sym joined)
 
-    module _ {across : Listing} {said : List ℕ} (step : Steps (f .listing) out across said (λ s. withLine s full))
+    module _ {across : Listing} {said : List ℕ} (step : Steps 1 (f .listing) out across said (λ s. withLine s full))
         (tail : List ℕ) (tailed : tail ≡ drop (first + 1) piece) {reached : Reached} {told : List ℕ} (read : ReadLines tail across said reached told)
         (last : ℕ) (then left : List ℕ) (within : last ≤ lineRoom) (lasts : left ≡ drop (reached .at) tail) (is : take last then ≡ take lineRoom left) where
       pub fed-lines : HoldsBytes (record { listing = reached .listing; kept = last }) then told (bytes ++ piece)
@@ -101,7 +93,7 @@ module _ {f : Feeding} {line out bytes : List ℕ} (h : HoldsBytes f line out by
           let done = linesOf (take (reached .at) tail) in
           record {
             state = withLines next done;
-            holds = read .holds next (step (h .state) (h .holds));
+            holds = read .steps .holds next (step .holds (h .state) (h .holds));
             within = within;
             on = λ rest.
                 behind rest
@@ -127,13 +119,13 @@ module _ {f : Feeding} {line out bytes : List ℕ} (h : HoldsBytes f line out by
   all : listed bytes ≡ withLines (h .state) (linesOn (partOf f line) [])
   all = ap listed (sym (append-nil bytes)) ∙ h .on []
 
-  pub ends-none : f .kept ≡ 0 → {after : Listing} {then : List ℕ} → Steps (f .listing) out after then ended → HoldsText after bytes then
+  pub ends-none : f .kept ≡ 0 → {after : Listing} {then : List ℕ} → Steps 0 (f .listing) out after then ended → HoldsText after bytes then
   ends-none none step =
       let is : listed bytes ≡ h .state = all ∙ ap (λ n. withLines (h .state) (linesOn (take n line) [])) none ∙ nothing-left (h .state) in
-      rw is (step (h .state) (h .holds))
+      rw is (step .holds (h .state) (h .holds))
 
-  pub ends-line : 0 < length (partOf f line) → {read after : Listing} {said then : List ℕ} → Steps (f .listing) out read said (λ s. withLine s (partOf f line))
-      → Steps read said after then ended → HoldsText after bytes then
+  pub ends-line : 0 < length (partOf f line) → {read after : Listing} {said then : List ℕ} → Steps 1 (f .listing) out read said (λ s. withLine s (partOf f line))
+      → Steps 0 read said after then ended → HoldsText after bytes then
   ends-line some line-read step =
       let is : listed bytes ≡ withLine (h .state) (partOf f line) = all ∙ one-left (h .state) (partOf f line) some in
-      rw is (step (withLine (h .state) (partOf f line)) (line-read (h .state) (h .holds)))
+      rw is (step .holds (withLine (h .state) (partOf f line)) (line-read .holds (h .state) (h .holds)))

@@ -5,7 +5,7 @@ ghost use mathlib.Core.List.{_++_};
 ghost use Prim.Native.Nat.{_+_, _≤_, _<_};
 ghost use lib.ListN.{length, take};
 ghost use Rattle.listing.specs.Holds.{mostLines};
-ghost use Rattle.text_stream.specs.Feeding.{lineRoom, Starts, Held, Fed, Ends};
+ghost use Rattle.text_stream.specs.Feeding.{lineRoom, Starts, Sane, Fed, Ends};
 use listing::Listing;
 
 // Room for a line, a byte more than the longest that is read: a line that fills it is too long, whatever follows.
@@ -41,7 +41,7 @@ fn keep(line: &mut [u8], kept: usize, more: &[u8]) -> usize
 
 // One piece more, wherever it ends: its first line goes on with what is kept, and its last is kept.
 pub fn feed(before: Feeding, piece: &[u8], line: &mut [u8], out: &mut [u8]) -> Feeding
-    requires { ⌜ Held before (now line) (now out) × (lineRoom ≤ length (now line)) ⌝ }
+    requires { ⌜ Sane before (now out) × (lineRoom ≤ length (now line)) ⌝ }
     requires { ⌜ before .listing .lines + length (now piece) ≤ mostLines ⌝ }
     ensures { λ r. ⌜ Fed before (now (line .entry)) (now (out .entry)) (now (piece .entry)) r (now (line .exit))
         (now (out .exit)) ⌝ }
@@ -66,7 +66,7 @@ pub fn feed(before: Feeding, piece: &[u8], line: &mut [u8], out: &mut [u8]) -> F
 
 // The text's end: what is kept is its last line, unless that is empty.
 pub fn finish(before: Feeding, line: &[u8], out: &mut [u8]) -> Listing
-    requires { ⌜ Held before (now line) (now out) × (lineRoom ≤ length (now line)) ⌝ }
+    requires { ⌜ Sane before (now out) × (lineRoom ≤ length (now line)) ⌝ }
     requires { ⌜ before .listing .lines + 1 < mostLines ⌝ }
     ensures { λ r. ⌜ Ends before (now (line .entry)) (now (out .entry)) r (now (out .exit)) ⌝ }
 {

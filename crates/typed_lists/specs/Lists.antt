@@ -23,15 +23,18 @@ pub record Fanned (f : Fans) (survival weights boards lines : List ℕ) : Type 0
   pub placed : Stored mostFans (f .count) (f .boards) boards
   pub lined : Stored mostFans (f .count) (f .lines) lines
 
--- where they stand can be looked up
+-- they have room, and can be looked up
 pub record Lined (f : Fans) : Type 0 where
   pub few : f .count ≤ mostFans
+  pub survival : length (f .survival) ≡ mostFans
+  pub weights : length (f .weights) ≡ mostFans
   pub boards : length (f .boards) ≡ mostFans
   pub lines : length (f .lines) ≡ mostFans
 
 -- so many more, all alike, whatever fans there were
 pub record MoreFans (before after : Fans) (more parts weight board line : ℕ) : Type 0 where
   pub count : after .count ≡ before .count + more
+  pub lined : Lined before → Lined after
   pub lists : (survival weights boards lines : List ℕ) → Fanned before survival weights boards lines
       → Fanned after (survival ++ replicate more parts) (weights ++ replicate more weight) (boards ++ replicate more board) (lines ++ replicate more line)
 
@@ -51,8 +54,9 @@ pub record Ruled (r : Systems) (systems : List (List ℕ)) : Type 0 where
   pub numbers : Stored (mostSystems * perListed) (r .count * perListed) (r .numbers) (sixes systems)
 
 -- one more, whatever systems there were
-abbrev pub MoreSystems : (before after : Systems) (set : List ℕ) → Type 0
-MoreSystems before after set = (systems : List (List ℕ)) → Ruled before systems → Ruled after (systems ++ (set ∷ []))
+pub record MoreSystems (before after : Systems) (set : List ℕ) : Type 0 where
+  pub count : after .count ≡ before .count + 1
+  pub ruled : (systems : List (List ℕ)) → Ruled before systems → Ruled after (systems ++ (set ∷ []))
 
 -- the number at place j of the typed ones, from the listed ones
 abbrev pub typedAt : (fans : ℕ) (listed : List ℕ) (j : ℕ) → ℕ

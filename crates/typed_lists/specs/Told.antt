@@ -20,11 +20,7 @@ pub record Telling (t : Told) (faults : List Fault) (out : List ℕ) : Type 0 wh
   pub text : take (t .end) out ≡ faultsText (take mostTold faults)
   pub room : Roomy t out
 
--- these told more, whatever was told
-abbrev pub MoreTold : (before : Told) (out : List ℕ) (after : Told) (then : List ℕ) (faults : List Fault) → Type 0
-MoreTold before out after then faults = (soFar : List Fault) → Telling before soFar out → Telling after (soFar ++ faults) then
-
--- something is told
-pub record Tells (t : Told) (out : List ℕ) : Type 0 where
-  pub faults : List Fault
-  pub telling : Telling t faults out
+-- these told more, whatever was told; what may still be told has room
+pub record MoreTold (before : Told) (out : List ℕ) (after : Told) (then : List ℕ) (faults : List Fault) : Type 0 where
+  pub room : Roomy after then
+  pub telling : (soFar : List Fault) → Telling before soFar out → Telling after (soFar ++ faults) then

@@ -12,8 +12,7 @@ make-requires c κs =
     let ended = c .before .before .before .before in
     let known = ended .before .before in
     let start = known .before .before .before in
-    let held = start .pre .0 .0 in
-    (record { text = held .bytes; holds = ended .finish .ensures (held .bytes) (held .holds) }, (omega (arith, start .pre .1), omega (arith, start .pre .1, ended .finish .kept)))
+    (ended .finish .ensures .sane, (omega (arith, start .pre .1), omega (arith, start .pre .1, ended .finish .kept)))
 
 same-length : tie.Need-same-length
 same-length c = search needs
@@ -27,7 +26,7 @@ returns c =
     let passed = made .before .before in
     let ended = passed .before .before .before in
     let is = made .make .ensures in
-    record { file-counts = is .file-counts; out-counts = is .out-counts; stands = λ bytes h. is .stands bytes (ended .finish .ensures bytes h) }
+    record { file-counts = is .file-counts; out-counts = is .out-counts; stands = λ bytes h. is .stands bytes (ended .finish .ensures .holds bytes h) }
 
 pub make-fed-spec : {M : Type 1} → statement M
 make-fed-spec =

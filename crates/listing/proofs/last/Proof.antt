@@ -1,6 +1,6 @@
 -- `last` meets its contract: three things that may be lacking are told, and then the fans on boards that are not there. Assumes nothing.
 use Rattle.typed_lists.proofs.Telling.{told-then}
-use Rattle.listing.proofs.TextEnd.{lined, ended-boardless, ended-boarded}
+use Rattle.listing.proofs.TextEnd.{ended-steps, ended-boardless, ended-boarded}
 use borrow.Author.Needs.{needs}
 use Rattle.listing.proofs.last.Statement.{statement}
 use Rattle.listing.proofs.last.Tie as tie
@@ -10,18 +10,19 @@ missing-requires c κs = search needs
 
 missing-requires-2 : tie.Need-missing-requires-2
 missing-requires-2 c κs =
-    let held = c .before .before .before .before .before .before .before .before .before .before .before .pre in
-    (c .before .before .before .before .missing .ensures (held .0 .state .faults) (held .0 .holds .told) .room, held .1)
+    let first = c .before .before .before .before in
+    let start = first .before .before .before .before .before .before .before in
+    (first .missing .ensures .room, start .pre .1)
 
 boardless-requires : tie.Need-boardless-requires
 boardless-requires c κs = search needs
 
 missing-requires-3 : tie.Need-missing-requires-3
 missing-requires-3 c κs =
-    let missing = c .before .before .before .before .before .before .before .before .before .missing in
-    let missing2 = c .before .before .before .before .missing2 in
-    let held = c .before .before .before .before .before .before .before .before .before .before .before .before .before .before .before .before .pre in
-    (told-then (missing .ensures) (missing2 .ensures) (held .0 .state .faults) (held .0 .holds .told) .room, held .1)
+    let second = c .before .before .before .before in
+    let first = second .before .before .before .before .before in
+    let start = first .before .before .before .before .before .before .before in
+    (second .missing2 .ensures .room, start .pre .1)
 
 same-length : tie.Need-same-length
 same-length c = search needs
@@ -31,8 +32,10 @@ returns c =
     let third = c .before .before .before in
     let board = third .before .before in
     let second = board .before .before .before in
-    let first = second .before .before .before .before .before in λ s h.
-    ended-boardless h (c .if1 .taken) (told-then (told-then (first .missing .ensures) (second .missing2 .ensures)) (rw (board .boardless .ensures) at (third .missing3 .ensures)) (s .faults) (h .told))
+    let first = second .before .before .before .before .before in
+    let sane = first .before .before .before .before .before .before .before .pre .0 in
+    let told = told-then (told-then (first .missing .ensures) (second .missing2 .ensures)) (rw (board .boardless .ensures) at (third .missing3 .ensures)) in
+    ended-steps sane (third .missing3 .ensures .room) (λ s h. ended-boardless h (c .if1 .taken) (told .telling (s .faults) (h .told)))
 
 unplaced-requires : tie.Need-unplaced-requires
 unplaced-requires c κs =
@@ -40,8 +43,8 @@ unplaced-requires c κs =
     let board = third .before .before in
     let second = board .before .before .before in
     let first = second .before .before .before .before .before in
-    let held = first .before .before .before .before .before .before .before .pre .0 in
-    (record { faults = _; telling = told-then (told-then (first .missing .ensures) (second .missing2 .ensures)) (rw (board .boardless .ensures) at (third .missing3 .ensures)) (held .state .faults) (held .holds .told) }, lined (held .holds))
+    let sane = first .before .before .before .before .before .before .before .pre .0 in
+    (third .missing3 .ensures .room, sane .counted .fans)
 
 same-length-2 : tie.Need-same-length-2
 same-length-2 c = search needs
@@ -53,8 +56,10 @@ returns-2 c =
     let third = c .before .before .before .before .before .before .before in
     let board = third .before .before in
     let second = board .before .before .before in
-    let first = second .before .before .before .before .before in λ s h.
-    ended-boarded h (test .left) (told-then (told-then (told-then (first .missing .ensures) (second .missing2 .ensures)) (rw (board .boardless .ensures) at (third .missing3 .ensures))) (unplaced .ensures) (s .faults) (h .told))
+    let first = second .before .before .before .before .before in
+    let sane = first .before .before .before .before .before .before .before .pre .0 in
+    let told = told-then (told-then (told-then (first .missing .ensures) (second .missing2 .ensures)) (rw (board .boardless .ensures) at (third .missing3 .ensures))) (unplaced .ensures) in
+    ended-steps sane (unplaced .ensures .room) (λ s h. ended-boarded h (test .left) (told .telling (s .faults) (h .told)))
 
 pub last-spec : {M : Type 1} → statement M
 last-spec =

@@ -3,19 +3,18 @@ use mathlib.Core.Path.{_≡_, refl}
 use Prim.Native.Nat.{_+_, _-_, _≤_, _<_}
 use native.Mathlib.Omega.{arith}
 use lib.ListN.{length, take}
-use lib.Seq.{length-take-le}
 use Rattle.grammar.specs.Words.{linesOf}
 use Rattle.grammar.specs.Grammar.{grammar}
 use Rattle.grammar.specs.Text.{withLines}
 use Rattle.listing.specs.Holds.{Steps}
 use Rattle.listing.proofs.Ends.{Whole, whole-none, whole-on, lines-on, lines-end, last-goes-on, one-none, beyond}
-use Rattle.listing.proofs.Reading.{lines-within, held-on, steps-none, steps-on}
+use Rattle.listing.proofs.Reading.{steps-none, steps-on, steps-up}
 use borrow.Author.Needs.{needs}
 use Rattle.listing.proofs.read_lines.Statement.{statement}
 use Rattle.listing.proofs.read_lines.Tie as tie
 
 abbrev Inv-loop : tie.InvT-loop
-Inv-loop text out₀ table next₀ at₀ out next at = (at ≤ length text) × (table ≡ grammar) × Whole (take at text) × Steps next₀ out₀ next out (λ s. withLines s (linesOf (take at text))) × (length out ≡ length out₀)
+Inv-loop text out₀ table next₀ at₀ out next at = (at ≤ length text) × (table ≡ grammar) × Whole (take at text) × Steps at next₀ out₀ next out (λ s. withLines s (linesOf (take at text))) × (length out ≡ length out₀)
 
 abbrev μ-loop : tie.MeasureT-loop
 μ-loop text out₀ table next₀ at₀ out next at = length text - at
@@ -24,7 +23,7 @@ table-requires : tie.Need-table-requires Inv-loop μ-loop
 table-requires c κs = search needs
 
 loop-holds : tie.Need-loop-holds Inv-loop μ-loop
-loop-holds c = (omega arith, c .table .ensures, whole-none, steps-none _ _, refl)
+loop-holds c = (omega arith, c .table .ensures, whole-none, steps-none (c .before .before .before .pre .0), refl)
 
 line-end-requires : tie.Need-line-end-requires Inv-loop μ-loop
 line-end-requires c κs = omega arith
@@ -51,15 +50,14 @@ with-line-requires c κs =
     let l = going .before .loop in
     let known = going .before .before .before in
     let start = known .before .before in
-    let so-far = length-take-le (l .at) (start .args .text .now) (l .inv .0) in
-    let few = lines-within (take (l .at) (start .args .text .now)) (start .pre .0) (l .inv .3) in
-    (l .inv .1, held-on (start .pre .0) (l .inv .3), omega (arith, few, so-far, start .pre .1, going .loop-test .taken))
+    (l .inv .1, l .inv .3 .sane, omega (arith, l .inv .3 .few, start .pre .1, going .loop-test .taken))
 
 add-at : tie.Need-add-at Inv-loop μ-loop
 add-at c =
     let read = c .before .before in
     let tested = read .before .before .before .before in
-    omega (arith, tested .before .line-end .ensures .high, tested .if1 .left)
+    let start = tested .before .before .before .before .before .before .before in
+    omega (arith, tested .before .line-end .ensures .high, tested .if1 .left, start .pre .1)
 
 loop-less : tie.Need-loop-less Inv-loop μ-loop
 loop-less c =
@@ -83,7 +81,7 @@ loop-again c =
       omega arith,
       l .inv .1,
       whole-on text (l .at) (l .inv .2) end e more,
-      steps-on (take (l .at) text) (take (end + 1) text) _ (lines-on text (l .at) (l .inv .2) end e more) (l .inv .3) (read .with-line .ensures),
+      steps-on (take (l .at) text) (take (end + 1) text) _ (omega (arith, e .low)) (lines-on text (l .at) (l .inv .2) end e more) (l .inv .3) (read .with-line .ensures),
       omega (arith, l .inv .4, read .with-line .kept),
     )
 
@@ -95,7 +93,7 @@ returns c =
     let l = c .before .loop in
     let known = c .before .before .before in
     let text = known .before .before .args .text .now in
-    record { end = lines-end text (l .at) (l .inv .2) (l .inv .0) (one-none (beyond (l .at) text (c .loop-test .left))); holds = l .inv .3 }
+    record { end = lines-end text (l .at) (l .inv .2) (l .inv .0) (one-none (beyond (l .at) text (c .loop-test .left))); steps = steps-up (l .inv .0) (l .inv .3) }
 
 same-length-2 : tie.Need-same-length-2 Inv-loop μ-loop
 same-length-2 c = omega (arith, c .before .before .before .loop .inv .4)
@@ -106,7 +104,7 @@ returns-2 c =
     let l = at-loop .loop in
     let known = at-loop .before .before in
     let text = known .before .before .args .text .now in
-    record { end = last-goes-on text (l .at) (l .inv .2) (rw (c .if1 .taken) at (c .before .line-end .ensures)); holds = l .inv .3 }
+    record { end = last-goes-on text (l .at) (l .inv .2) (rw (c .if1 .taken) at (c .before .line-end .ensures)); steps = steps-up (l .inv .0) (l .inv .3) }
 
 pub read-lines-spec : {M : Type 1} → statement M
 read-lines-spec =

@@ -16,18 +16,25 @@ tell-requires : tie.Need-tell-requires
 tell-requires c κs =
     let start = c .before .before .before .before .before .before in
     let count-line = c .before .before .count-line in
-    let held = start .pre .1 in
-    record { state = counted (held .state) (start .args .listing .begun); holds = count-line .ensures _ (held .state) (held .holds) }
+    count-line .ensures .sane _ (start .pre .1)
 
 same-length : tie.Need-same-length
 same-length c = search needs
 
 returns : tie.Need-returns
-returns c = λ s h.
-    let x = c .before .before .before .before .before .before .before .before .before .args in
-    let next = c .before .before .before .before .before .count-line .ensures _ s h in
-    let e = c .before .before .tell .ensures (counted s (x .listing .begun)) next in
-    long-line s (x .line .now) (c .before .before .before .before .before .before .if1 .taken) (rw (next .lines, h .begun) at e)
+returns c =
+    let told = c .before .before in
+    let counts = told .before .before .before in
+    let tested = counts .before in
+    let x = tested .before .before .before .args in
+    record {
+      sane = told .tell .ensures .sane;
+      few = omega (arith, told .tell .ensures .few, counts .count-line .ensures .one);
+      holds = λ s h.
+          let next = counts .count-line .ensures .holds _ s h in
+          let e = told .tell .ensures .holds (counted s (x .listing .begun)) next in
+          long-line s (x .line .now) (tested .if1 .taken) (rw (next .lines, h .begun) at e);
+    }
 
 next-requires : tie.Need-next-requires
 next-requires c κs = search needs
@@ -40,9 +47,13 @@ returns-2 c =
     let test = c .before .before .before .if1 in
     let next = c .before .before .next in
     let test2 = c .before .if2 in
-    λ s h.
-    let x = c .before .before .before .before .before .before .args in
-    blank-line s (x .line .now) (test .left) (next .ensures .none (test2 .taken)) (rw (h .begun) at (c .count-line2 .ensures _ s h))
+    let start = c .before .before .before .before .before .before in
+    let counts = c .count-line2 .ensures in
+    record {
+      sane = counts .sane _ (start .pre .1);
+      few = omega (arith, counts .one);
+      holds = λ s h. blank-line s (start .args .line .now) (test .left) (next .ensures .none (test2 .taken)) (rw (h .begun) at (counts .holds _ s h));
+    }
 
 with-words-requires : tie.Need-with-words-requires
 with-words-requires c κs = search needs
@@ -56,10 +67,13 @@ returns-3 c =
     let test = c .before .before .before .before .before .before .if1 in
     let test2 = c .before .before .before .before .if2 in
     let with-words = c .before .before .with-words in
-    λ s h.
     let x = c .before .before .before .before .before .before .before .before .before .args in
     let n = next .ensures in
-    wordy-line s (x .line .now) (test .left) _ _ (n .some (omega (arith, n .mid, test2 .left))) (with-words .ensures s h)
+    record {
+      sane = with-words .ensures .sane;
+      few = with-words .ensures .few;
+      holds = λ s h. wordy-line s (x .line .now) (test .left) _ _ (n .some (omega (arith, n .mid, test2 .left))) (with-words .ensures .holds s h);
+    }
 
 pub with-line-spec : {M : Type 1} → statement M
 with-line-spec =

@@ -2,6 +2,7 @@
 use mathlib.Core.Bool.{true}
 use Rattle.grammar.specs.Text.{counted}
 use Rattle.listing.proofs.Holding.{within-read, with-fault, with-thing}
+use native.Mathlib.Omega.{arith}
 use borrow.Author.Needs.{needs}
 use Rattle.listing.proofs.with_words.Statement.{statement}
 use Rattle.listing.proofs.with_words.Tie as tie
@@ -26,8 +27,9 @@ array-read-tell c = search needs
 
 tell-requires : tie.Need-tell-requires
 tell-requires c κs =
-    let held = c .before .before .before .before .before .before .before .before .before .pre .1 in
-    record { state = counted (held .state) true; holds = c .before .before .before .before .count-line .ensures _ (held .state) (held .holds) }
+    let next = c .before .before .before .before in
+    let start = next .before .before .before .before .before in
+    next .count-line .ensures .sane _ (start .pre .1)
 
 same-length : tie.Need-same-length
 same-length c = search needs
@@ -38,9 +40,13 @@ returns c =
     let read-line = c .before .before .before .before .before .before .before .before .before .read-line in
     let test = c .before .before .before .before .before .if1 in
     let tell = c .before .before .tell in
-    λ s h.
-    let next = count-line .ensures _ s h in
-    with-fault _ _ _ (read-line .ensures) s h _ _ (next .lines) (test .taken) (tell .ensures (counted s true) next)
+    record {
+      sane = tell .ensures .sane;
+      few = omega (arith, tell .ensures .few, count-line .ensures .one);
+      holds = λ s h.
+          let next = count-line .ensures .holds _ s h in
+          with-fault _ _ _ (read-line .ensures) s h _ _ (next .lines) (test .taken) (tell .ensures .holds (counted s true) next);
+    }
 
 sub-added : tie.Need-sub-added
 sub-added c = search needs
@@ -56,10 +62,7 @@ added-requires c κs =
     let start = c .before .before .before .before .before .before .before .before .before in
     let count-line = c .before .before .before .before .count-line in
     let read-line = c .before .before .before .before .before .before .read-line in
-    let held = start .pre .1 in (
-      record { state = counted (held .state) true; holds = count-line .ensures _ (held .state) (held .holds) },
-      within-read (start .args .listing) _ _ (read-line .ensures),
-    )
+    (count-line .ensures .sane _ (start .pre .1), within-read (start .args .listing) _ _ (read-line .ensures))
 
 same-length-2 : tie.Need-same-length-2
 same-length-2 c = search needs
@@ -70,9 +73,13 @@ returns-2 c =
     let read-line = c .before .before .before .before .before .before .before .before .before .read-line in
     let test = c .before .before .before .before .before .if1 in
     let added = c .before .before .added in
-    λ s h.
-    let next = count-line .ensures _ s h in
-    with-thing _ _ _ (read-line .ensures) s h _ (test .left) (added .ensures (counted s true) next)
+    record {
+      sane = added .ensures .sane;
+      few = omega (arith, added .ensures .few, count-line .ensures .one);
+      holds = λ s h.
+          let next = count-line .ensures .holds _ s h in
+          with-thing _ _ _ (read-line .ensures) s h _ (test .left) (added .ensures .holds (counted s true) next);
+    }
 
 pub with-words-spec : {M : Type 1} → statement M
 with-words-spec =

@@ -1,49 +1,57 @@
 -- `making::put_file` meets its contract: the lists that are lent are the typed deck, and what the writer does not refuse stands at the room's front. Assumes nothing.
-use mathlib.Core.Path.{sym}
+use mathlib.Core.Path.{refl, sym}
 use native.Mathlib.Omega.{arith}
 use lib.Seq.{length-take-le}
 use Rattle.grammar.specs.Text.{typedBy}
 use Rattle.listing.proofs.Handed.{held-typed}
-use Rattle.making.proofs.Filing.{file-written, never-other}
+use Rattle.making.proofs.Filing.{written-counts, file-written, never-other}
 use borrow.Author.Needs.{needs}
 use Rattle.making.proofs.put_file.Statement.{statement}
 use Rattle.making.proofs.put_file.Tie as tie
 
 cast-numbers : tie.Need-cast-numbers
-cast-numbers c = omega (arith, c .before .before .before .before .before .before .before .pre .holds .fans .parts .few)
+cast-numbers c = omega (arith, c .before .before .before .before .before .before .before .pre .fans .few)
 
 numbers-requires : tie.Need-numbers-requires
-numbers-requires c κs = omega (arith, c .before .before .before .before .before .before .before .pre .holds .systems .numbers .few)
+numbers-requires c κs = omega (arith, c .before .before .before .before .before .before .before .pre .systems)
 
 mul-end : tie.Need-mul-end
-mul-end c = omega (arith, c .before .before .before .before .before .before .before .before .before .pre .holds .systems .numbers .few)
+mul-end c = omega (arith, c .before .before .before .before .before .before .before .before .before .pre .systems)
 
 array-share-prefix-survival : tie.Need-array-share-prefix-survival
-array-share-prefix-survival c = omega (arith, c .before .before .before .before .before .before .before .before .before .pre .holds .fans .parts .few)
+array-share-prefix-survival c =
+    let pre = c .before .before .before .before .before .before .before .before .before .pre in
+    omega (arith, pre .fans .few, pre .fans .survival)
 
 slice-aggregate-write-deck : tie.Need-slice-aggregate-write-deck
 slice-aggregate-write-deck c = sym (length-take-le _ _ (array-share-prefix-survival (c .before)))
 
 array-share-prefix-weights : tie.Need-array-share-prefix-weights
-array-share-prefix-weights c = omega (arith, c .before .before .before .before .before .before .before .before .before .before .pre .holds .fans .weighed .few)
+array-share-prefix-weights c =
+    let pre = c .before .before .before .before .before .before .before .before .before .before .pre in
+    omega (arith, pre .fans .few, pre .fans .weights)
 
 slice-aggregate-write-deck-2 : tie.Need-slice-aggregate-write-deck-2
 slice-aggregate-write-deck-2 c = sym (length-take-le _ _ (array-share-prefix-weights (c .before)))
 
 array-share-prefix-boards : tie.Need-array-share-prefix-boards
-array-share-prefix-boards c = omega (arith, c .before .before .before .before .before .before .before .before .before .before .before .pre .holds .fans .placed .few)
+array-share-prefix-boards c =
+    let pre = c .before .before .before .before .before .before .before .before .before .before .before .pre in
+    omega (arith, pre .fans .few, pre .fans .boards)
 
 slice-aggregate-write-deck-3 : tie.Need-slice-aggregate-write-deck-3
 slice-aggregate-write-deck-3 c = sym (length-take-le _ _ (array-share-prefix-boards (c .before)))
 
 array-share-prefix-switchboards : tie.Need-array-share-prefix-switchboards
-array-share-prefix-switchboards c = omega (arith, c .before .before .before .before .before .before .before .before .before .before .before .before .pre .holds .boards .few)
+array-share-prefix-switchboards c =
+    let pre = c .before .before .before .before .before .before .before .before .before .before .before .before .pre in
+    omega (arith, pre .boards, pre .switchboards)
 
 slice-aggregate-write-deck-4 : tie.Need-slice-aggregate-write-deck-4
 slice-aggregate-write-deck-4 c = sym (length-take-le _ _ (array-share-prefix-switchboards (c .before)))
 
 array-share-prefix-numbers : tie.Need-array-share-prefix-numbers
-array-share-prefix-numbers c = omega (arith, c .before .before .before .before .before .before .before .before .before .before .before .before .before .pre .holds .systems .numbers .few)
+array-share-prefix-numbers c = omega (arith, c .before .before .before .before .before .before .before .before .before .before .before .before .before .pre .systems)
 
 slice-aggregate-write-deck-5 : tie.Need-slice-aggregate-write-deck-5
 slice-aggregate-write-deck-5 c = sym (length-take-le _ _ (array-share-prefix-numbers (c .before)))
@@ -64,10 +72,12 @@ returns : tie.Need-returns
 returns c =
     let wrote = c .before .before .before .before .before .write-deck in
     let typed = c .before .before .before .before .before .before .before .before .before .before .before .before .before .numbers in
+    let wrote-file = rw (c .before .written .given .1) at (wrote .ensures) in
     record {
+      counts = written-counts _ _ _ _ wrote-file;
       stands = λ s told h none.
           let e = held-typed h (typed .result) (typed .ensures) in
-          file-written (typedBy s) _ _ none _ (rw (e, c .before .written .given .1) at (wrote .ensures));
+          file-written (typedBy s) _ _ _ (rw e at wrote-file);
     }
 
 same-length-2 : tie.Need-same-length-2
@@ -78,6 +88,7 @@ returns-2 c =
     let wrote = c .before .before .before .before .before .write-deck in
     let typed = c .before .before .before .before .before .before .before .before .before .before .before .before .before .numbers in
     record {
+      counts = (omega arith, refl);
       stands = λ s told h none.
           let e = held-typed h (typed .result) (typed .ensures) in
           absurd (never-other (typedBy s) _ _ none _ (rw (e, c .before .written2 .given .1) at (wrote .ensures)));

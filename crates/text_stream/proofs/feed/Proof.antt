@@ -5,9 +5,8 @@ use Prim.Native.Nat.{_+_, _-_, _<_}
 use native.Mathlib.Omega.{arith}
 use lib.ListN.{length, take, drop, length-drop, length-take}
 use lib.Seq.{length-take-le, take-all}
-use Rattle.listing.proofs.Reading.{held-on, lines-within, line-within}
 use Rattle.text_stream.specs.Feeding.{lineRoom}
-use Rattle.text_stream.proofs.Pieces.{held-listing, fed-part, fed-lines}
+use Rattle.text_stream.proofs.Pieces.{fed-part, fed-lines}
 use borrow.Author.Needs.{needs}
 use Rattle.text_stream.proofs.feed.Statement.{statement}
 use Rattle.text_stream.proofs.feed.Tie as tie
@@ -25,7 +24,7 @@ keep-requires c κs =
     let ended = c .before .before in
     let known = ended .before .before in
     let start = known .before .before .before in
-    (start .pre .0 .1, start .pre .0 .0 .holds .within)
+    (start .pre .0 .1, start .pre .0 .0 .within)
 
 same-length : tie.Need-same-length
 same-length c = search needs
@@ -41,6 +40,7 @@ returns c =
     let first = c .if1 .taken in
     record {
       few = omega arith;
+      sane = record { listing = start .pre .0 .0 .listing; within = is .0 };
       holds = λ bytes h. fed-part h piece (rw first at (ended .line-end .ensures)) _ _ (is .0) (is .1 ∙ ap (λ n. take lineRoom (take (start .args .before .kept) (start .args .line .now) ++ take n piece)) first);
     }
 
@@ -62,7 +62,7 @@ read-line-requires c κs =
     let ended = kept .before .before .before in
     let known = ended .before .before in
     let start = known .before .before .before in
-    (held-listing (start .pre .0 .0), omega (arith, ended .line-end .ensures .high, tested .if1 .left, start .pre .1))
+    (start .pre .0 .0 .listing, omega (arith, ended .line-end .ensures .high, tested .if1 .left, start .pre .1))
 
 add-tail : tie.Need-add-tail
 add-tail c = search needs
@@ -90,10 +90,10 @@ read-lines-requires c κs =
     let known = ended .before .before in
     let start = known .before .before .before in
     let piece = start .args .piece .now in
-    let held = held-listing (start .pre .0 .0) in
     let first = ended .line-end .result in
     let short = length-take (length piece - (first + 1)) (drop (first + 1) piece) in
-    (held-on held (across .read-line .ensures), omega (arith, short, line-within _ held (across .read-line .ensures), ended .line-end .ensures .high, tested .if1 .left, start .pre .1))
+    let one = across .read-line .ensures in
+    (one .sane, omega (arith, short, one .few, ended .line-end .ensures .high, tested .if1 .left, start .pre .1))
 
 sub-keep : tie.Need-sub-keep
 sub-keep c =
@@ -147,14 +147,11 @@ returns-2 c =
     let at = read .read-lines .result .at in
     let left = take (length tail - at) (drop at tail) in
     let lasts : left ≡ drop at tail = take-all (length tail - at) (drop at tail) (omega (arith, length-drop at tail)) in
-    let held = held-listing (start .pre .0 .0) in
-    let next = held-on held (across .read-line .ensures) in
-    let lines = lines-within (take at tail) next (read .read-lines .ensures .holds) in
-    let one = line-within _ held (across .read-line .ensures) in
-    let few = length-take at tail in
+    let lines = read .read-lines .ensures .steps in
     let short = ap length tailed ∙ length-drop (first + 1) piece in
     record {
-      few = omega (arith, lines, one, few, short, more);
+      few = omega (arith, lines .few, across .read-line .ensures .few, short, more);
+      sane = record { listing = lines .sane; within = last .keep2 .ensures .0 };
       holds = λ bytes h.
           fed-lines h piece first (ended .line-end .ensures) more _ (kept .keep .ensures .1) (across .read-line .ensures) tail tailed (read .read-lines .ensures) _ _ left
           (last .keep2 .ensures .0) lasts (last .keep2 .ensures .1);

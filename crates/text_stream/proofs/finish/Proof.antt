@@ -2,8 +2,7 @@
 use mathlib.Core.Path.{sym}
 use native.Mathlib.Omega.{arith}
 use lib.Seq.{length-take-le}
-use Rattle.listing.proofs.Reading.{held-on, line-within}
-use Rattle.text_stream.proofs.Pieces.{held-listing, ends-none, ends-line}
+use Rattle.text_stream.proofs.Pieces.{ends-none, ends-line}
 use borrow.Author.Needs.{needs}
 use Rattle.text_stream.proofs.finish.Statement.{statement}
 use Rattle.text_stream.proofs.finish.Tie as tie
@@ -12,7 +11,7 @@ last-requires : tie.Need-last-requires
 last-requires c κs =
     let tested = c .before in
     let start = tested .before .before .before .before in
-    (held-listing (start .pre .0 .0), omega (arith, start .pre .1))
+    (start .pre .0 .0 .listing, omega (arith, start .pre .1))
 
 same-length : tie.Need-same-length
 same-length c = search needs
@@ -21,27 +20,27 @@ returns : tie.Need-returns
 returns c =
     let ended = c .before .before in
     let tested = ended .before .before in
-    λ bytes h. ends-none h (tested .if1 .taken) (ended .last .ensures)
+    record { sane = ended .last .ensures .sane; holds = λ bytes h. ends-none h (tested .if1 .taken) (ended .last .ensures) }
 
 slice-aggregate-read-line : tie.Need-slice-aggregate-read-line
 slice-aggregate-read-line c =
     let tested = c .before in
     let start = tested .before .before .before .before in
-    sym (length-take-le _ _ (omega (arith, start .pre .0 .0 .holds .within, start .pre .0 .1)))
+    sym (length-take-le _ _ (omega (arith, start .pre .0 .0 .within, start .pre .0 .1)))
 
 read-line-requires : tie.Need-read-line-requires
 read-line-requires c κs =
     let tested = c .before .before in
     let start = tested .before .before .before .before in
-    (held-listing (start .pre .0 .0), omega (arith, start .pre .1))
+    (start .pre .0 .0 .listing, omega (arith, start .pre .1))
 
 last-requires-2 : tie.Need-last-requires-2
 last-requires-2 c κs =
     let read = c .before .before .before in
     let tested = read .before .before .before in
     let start = tested .before .before .before .before in
-    let held = held-listing (start .pre .0 .0) in
-    (held-on held (read .read-line .ensures), omega (arith, start .pre .1, line-within _ held (read .read-line .ensures)))
+    let one = read .read-line .ensures in
+    (one .sane, omega (arith, start .pre .1, one .few))
 
 same-length-2 : tie.Need-same-length-2
 same-length-2 c = search needs
@@ -52,8 +51,8 @@ returns-2 c =
     let read = ended .before .before .before .before in
     let tested = read .before .before .before in
     let start = tested .before .before .before .before in
-    let long = length-take-le (start .args .before .kept) (start .args .line .now) (omega (arith, start .pre .0 .0 .holds .within, start .pre .0 .1)) in
-    λ bytes h. ends-line h (omega (arith, long, tested .if1 .left)) (read .read-line .ensures) (ended .last2 .ensures)
+    let long = length-take-le (start .args .before .kept) (start .args .line .now) (omega (arith, start .pre .0 .0 .within, start .pre .0 .1)) in
+    record { sane = ended .last2 .ensures .sane; holds = λ bytes h. ends-line h (omega (arith, long, tested .if1 .left)) (read .read-line .ensures) (ended .last2 .ensures) }
 
 pub finish-spec : {M : Type 1} → statement M
 finish-spec =

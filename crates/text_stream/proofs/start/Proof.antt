@@ -6,6 +6,7 @@ use native.Mathlib.Omega.{arith}
 use lib.ListN.{replicate, length-replicate}
 use Rattle.typed_lists.specs.Told.{toldRoom}
 use Rattle.grammar.specs.Text.{nothing}
+use Rattle.listing.proofs.Handed.{sane-held}
 use borrow.Author.Needs.{needs}
 use Rattle.text_stream.proofs.start.Statement.{statement}
 use Rattle.text_stream.proofs.start.Tie as tie
@@ -18,6 +19,7 @@ returns c =
     let room : List ℕ = replicate toldRoom 0 in
     record {
       none = c .none .ensures room (omega (arith, length-replicate {A = ℕ} toldRoom 0)) .lines;
+      sane = λ out long. record { listing = sane-held (c .none .ensures out long); within = omega arith };
       holds = λ line out long. record { state = nothing; holds = c .none .ensures out long; within = omega arith; on = λ rest. refl };
     }
 

@@ -1,18 +1,16 @@
 -- `text::read_text` meets its contract: what was fed is held, whatever each read brings. The measure is how many pieces may still come. Assumes nothing.
 use mathlib.Core.Path.{_≡_, refl, sym}
-use mathlib.Core.List.{[]}
 use Prim.Native.Nat.{ℕ, _*_, _-_, _≤_}
 use native.Mathlib.Omega.{arith}
 use lib.ListN.{length, length-replicate}
 use lib.Seq.{length-take-le}
-use Rattle.text_stream.specs.Feeding.{Held}
-use Rattle.text_stream.proofs.Pieces.{held-fed}
+use Rattle.text_stream.specs.Feeding.{Sane}
 use borrow.Author.Needs.{needs}
 use Rattle.deckmake.proofs.text.read_text.Statement.{statement}
 use Rattle.deckmake.proofs.text.read_text.Tie as tie
 
 abbrev Inv-loop : tie.InvT-loop
-Inv-loop fd label line₀ out₀ piece₀ feeding₀ pieces₀ line out piece feeding pieces = (pieces ≤ 1099511627776) × (feeding .listing .lines ≤ pieces * 65536) × Held feeding line out × (length piece ≡ 65536) × (length line ≡ length line₀) × (length out ≡ length out₀)
+Inv-loop fd label line₀ out₀ piece₀ feeding₀ pieces₀ line out piece feeding pieces = (pieces ≤ 1099511627776) × (feeding .listing .lines ≤ pieces * 65536) × Sane feeding out × (length piece ≡ 65536) × (length line ≡ length line₀) × (length out ≡ length out₀)
 
 abbrev μ-loop : tie.MeasureT-loop
 μ-loop fd label line₀ out₀ piece₀ feeding₀ pieces₀ line out piece feeding pieces = 1099511627776 - pieces
@@ -23,8 +21,7 @@ start-requires c κs = search needs
 loop-holds : tie.Need-loop-holds Inv-loop μ-loop
 loop-holds c =
     let start = c .before .before .before .before in
-    let none = c .start .ensures .holds (start .args .line .now) (start .args .out .now) (start .pre .1) in
-    (omega arith, omega (arith, c .start .ensures .none), record { bytes = []; holds = none }, length-replicate {A = ℕ} 65536 0, refl, refl)
+    (omega arith, omega (arith, c .start .ensures .none), c .start .ensures .sane (start .args .out .now) (start .pre .1), length-replicate {A = ℕ} 65536 0, refl, refl)
 
 slice-aggregate-read-some : tie.Need-slice-aggregate-read-some Inv-loop μ-loop
 slice-aggregate-read-some c = sym (c .before .before .loop .inv .3)
@@ -111,7 +108,7 @@ loop-again c =
     let is = fed .feed .ensures in (
       omega (arith, read .before .before .loop-test .taken),
       omega (arith, is .few, inv .1, inv .3, size, full, read .read-some .kept),
-      held-fed (inv .2) is,
+      is .sane,
       omega (arith, inv .3, read .read-some .kept),
       omega (arith, inv .4, fed .feed .kept),
       omega (arith, inv .5, fed .feed .kept),

@@ -3,6 +3,8 @@ use mathlib.Core.Path.{refl}
 use borrow.Author.Tests.{eq-eqb, ne-eqb}
 use Rattle.grammar.specs.Grammar.{aVersion, someFans, aBoard}
 use Rattle.grammar.specs.Text.{added}
+use native.Mathlib.Omega.{arith}
+use Rattle.listing.proofs.Holding.{step-as}
 use borrow.Author.Needs.{needs}
 use Rattle.listing.proofs.adding.added.Statement.{statement}
 use Rattle.listing.proofs.adding.added.Tie as tie
@@ -15,9 +17,15 @@ array-read-next c = search needs
 
 returns : tie.Need-returns
 unfolding added
-returns c = λ s h.
-    rw (eq-eqb _ aVersion (c .if1 .taken))
-    (record { lines = h .lines; version = refl; begun = h .begun; fans = h .fans; boards = h .boards; systems = h .systems; told = h .told })
+returns c =
+    let sane = c .before .before .before .pre .0 in
+    record {
+      sane = record { counted = record { fans = sane .counted .fans; boards = sane .counted .boards; switchboards = sane .counted .switchboards; systems = sane .counted .systems }; room = sane .room };
+      few = omega arith;
+      holds = λ s h.
+          rw (eq-eqb _ aVersion (c .if1 .taken))
+          (record { lines = h .lines; version = refl; begun = h .begun; fans = h .fans; boards = h .boards; systems = h .systems; told = h .told });
+    }
 
 added-fans-requires : tie.Need-added-fans-requires
 added-fans-requires c κs = search needs
@@ -31,7 +39,7 @@ returns-2 c =
     let test = c .before .before .before .before .before .if1 in
     let test2 = c .before .before .before .before .if2 in
     let added-fans = c .before .before .added-fans in
-    λ s h. rw (ne-eqb _ aVersion (test .left), eq-eqb _ someFans (test2 .taken)) (added-fans .ensures s h)
+    step-as (added-fans .ensures) (λ s. rw (ne-eqb _ aVersion (test .left), eq-eqb _ someFans (test2 .taken)))
 
 added-board-requires : tie.Need-added-board-requires
 added-board-requires c κs = search needs
@@ -46,7 +54,7 @@ returns-3 c =
     let test2 = c .before .before .before .before .before .if2 in
     let test3 = c .before .before .before .before .if3 in
     let added-board = c .before .before .added-board in
-    λ s h. rw (ne-eqb _ aVersion (test .left), ne-eqb _ someFans (test2 .left), eq-eqb _ aBoard (test3 .taken)) (added-board .ensures s h)
+    step-as (added-board .ensures) (λ s. rw (ne-eqb _ aVersion (test .left), ne-eqb _ someFans (test2 .left), eq-eqb _ aBoard (test3 .taken)))
 
 added-system-requires : tie.Need-added-system-requires
 added-system-requires c κs = search needs
@@ -61,7 +69,7 @@ returns-4 c =
     let test2 = c .before .before .before .before .before .if2 in
     let test3 = c .before .before .before .before .if3 in
     let added-system = c .before .before .added-system in
-    λ s h. rw (ne-eqb _ aVersion (test .left), ne-eqb _ someFans (test2 .left), ne-eqb _ aBoard (test3 .left)) (added-system .ensures s h)
+    step-as (added-system .ensures) (λ s. rw (ne-eqb _ aVersion (test .left), ne-eqb _ someFans (test2 .left), ne-eqb _ aBoard (test3 .left)))
 
 pub added-spec : {M : Type 1} → statement M
 added-spec =

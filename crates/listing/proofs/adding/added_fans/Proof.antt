@@ -15,7 +15,7 @@ array-read-more c = search needs
 
 add-if1 : tie.Need-add-if1
 add-if1 c =
-    let start = c .before .before .before in omega (arith, start .pre .0 .holds .fans .parts .few, start .pre .1 .small ofNumber)
+    let start = c .before .before .before in omega (arith, start .pre .0 .counted .fans .few, start .pre .1 .small ofNumber)
 
 tell-requires : tie.Need-tell-requires
 tell-requires c κs = search needs
@@ -27,10 +27,12 @@ returns : tie.Need-returns
 returns c =
     let test = c .before .before .before .before .if1 in
     let tell = c .before .before .tell in
-    λ s h.
     let x = c .before .before .before .before .before .before .before .before .args in
-    let n = h .fans .parts .counted in
-    none-left s h (length (s .survival) + getD (x .t3) ofNumber 0) mostFans manyFans _ _ (omega (arith, n, test .taken)) (tell .ensures)
+    record {
+      sane = tell .ensures .sane;
+      few = tell .ensures .few;
+      holds = λ s h. none-left s h (length (s .survival) + getD (x .t3) ofNumber 0) mostFans manyFans _ _ (omega (arith, h .fans .parts .counted, test .taken)) (tell .ensures);
+    }
 
 array-read-parts : tie.Need-array-read-parts
 array-read-parts c = search needs
@@ -54,19 +56,25 @@ plus-requires : tie.Need-plus-requires
 plus-requires c κs = search needs
 
 returns-2 : tie.Need-returns-2
-returns-2 c = λ s h.
-    let x = c .before .before .before .before .before .args in
-    let n = h .fans .parts .counted in
-    some-left s h (length (s .survival) + getD (x .t3) ofNumber 0) mostFans manyFans _ _ (omega (arith, n, c .before .if1 .left))
-    (record {
-      lines = h .lines;
-      version = h .version;
-      begun = h .begun;
-      fans = rw (h .lines) at (c .plus .ensures .lists _ _ _ _ (h .fans));
-      boards = h .boards;
-      systems = h .systems;
-      told = h .told;
-    })
+returns-2 c =
+    let start = c .before .before .before .before .before in
+    let sane = start .pre .0 in
+    let more = c .plus .ensures in
+    record {
+      sane = record { counted = record { fans = more .lined (sane .counted .fans); boards = sane .counted .boards; switchboards = sane .counted .switchboards; systems = sane .counted .systems }; room = sane .room };
+      few = omega arith;
+      holds = λ s h.
+          some-left s h (length (s .survival) + getD (start .args .t3) ofNumber 0) mostFans manyFans _ _ (omega (arith, h .fans .parts .counted, c .before .if1 .left))
+          (record {
+            lines = h .lines;
+            version = h .version;
+            begun = h .begun;
+            fans = rw (h .lines) at (more .lists _ _ _ _ (h .fans));
+            boards = h .boards;
+            systems = h .systems;
+            told = h .told;
+          });
+    }
 
 pub added-fans-spec : {M : Type 1} → statement M
 added-fans-spec =

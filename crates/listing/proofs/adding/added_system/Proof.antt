@@ -22,23 +22,34 @@ returns : tie.Need-returns
 returns c =
     let test = c .before .before .before .before .if1 in
     let tell = c .before .before .tell in
-    λ s h. none-left s h (length (s .systems) + 1) mostSystems manySystems _ _ (omega (arith, h .systems .count, test .taken)) (tell .ensures)
+    record {
+      sane = tell .ensures .sane;
+      few = tell .ensures .few;
+      holds = λ s h. none-left s h (length (s .systems) + 1) mostSystems manySystems _ _ (omega (arith, h .systems .count, test .taken)) (tell .ensures);
+    }
 
 plus-requires : tie.Need-plus-requires
 plus-requires c κs = search needs
 
 returns-2 : tie.Need-returns-2
-returns-2 c = λ s h.
-    some-left s h (length (s .systems) + 1) mostSystems manySystems _ _ (omega (arith, h .systems .count, c .before .if1 .left))
-    (record {
-      lines = h .lines;
-      version = h .version;
-      begun = h .begun;
-      fans = h .fans;
-      boards = h .boards;
-      systems = c .plus .ensures _ (h .systems);
-      told = h .told;
-    })
+returns-2 c =
+    let sane = c .before .before .before .before .before .before .pre .0 in
+    let more = c .plus .ensures in
+    record {
+      sane = record { counted = record { fans = sane .counted .fans; boards = sane .counted .boards; switchboards = sane .counted .switchboards; systems = omega (arith, more .count, c .before .if1 .left) }; room = sane .room };
+      few = omega arith;
+      holds = λ s h.
+          some-left s h (length (s .systems) + 1) mostSystems manySystems _ _ (omega (arith, h .systems .count, c .before .if1 .left))
+          (record {
+            lines = h .lines;
+            version = h .version;
+            begun = h .begun;
+            fans = h .fans;
+            boards = h .boards;
+            systems = more .ruled _ (h .systems);
+            told = h .told;
+          });
+    }
 
 pub added-system-spec : {M : Type 1} → statement M
 added-system-spec =

@@ -6,7 +6,7 @@ use Rattle.listing.proofs.ending.missing.Statement.{statement}
 use Rattle.listing.proofs.ending.missing.Tie as tie
 
 returns : tie.Need-returns
-returns c = rw (not-true (c .before .before .args .lacks) (c .if1 .taken)) (told-none _ _)
+returns c = rw (not-true (c .before .before .args .lacks) (c .if1 .taken)) (told-none (c .before .before .pre .0))
 
 add-plus : tie.Need-add-plus
 add-plus c = search needs

@@ -9,13 +9,13 @@ returns : tie.Need-returns
 returns c =
     let x = c .before .before .args in
     let e = placed (x .g) (x .before .line) (x .line) (x .board) (c .if1 .taken) in
-    record { told = rw e (told-none _ _); line = rw e }
+    record { told = rw e (told-none (c .before .before .pre)); line = rw e }
 
 returns-2 : tie.Need-returns-2
 returns-2 c =
     let x = c .before .before .before .before .args in
     let e = told-already (x .g) (x .before .line) (x .line) (x .board) (c .before .before .if1 .left) (c .if2 .taken) in
-    record { told = rw e (told-none _ _); line = rw e }
+    record { told = rw e (told-none (c .before .before .before .before .pre)); line = rw e }
 
 tell-board-requires : tie.Need-tell-board-requires
 tell-board-requires c κs = search needs

@@ -17,7 +17,7 @@ abbrev μ-loop : tie.MeasureT-loop
 μ-loop fans g out₀ boards lines passed₀ i₀ out passed i = fans .count - i
 
 loop-holds : tie.Need-loop-holds Inv-loop μ-loop
-loop-holds c = (omega arith, passing-none _ _ _ _ _, refl)
+loop-holds c = (omega arith, passing-none _ _ _ _ _ (c .before .before .before .pre .0), refl)
 
 mul-pass : tie.Need-mul-pass Inv-loop μ-loop
 mul-pass c = omega (arith, c .before .before .before .before .before .before .pre .1 .few)
@@ -30,9 +30,8 @@ array-read-pass-2 c = omega (arith, c .before .before .before .before .before .b
 
 pass-requires : tie.Need-pass-requires Inv-loop μ-loop
 pass-requires c κs =
-    let start = c .before .before .before .before .before .before .before in
     let turn = c .before .before .before .loop in
-    let told = start .pre .0 in turn .inv .1 .told (told .faults) (told .telling) .room
+    turn .inv .1 .told .room
 
 add-i : tie.Need-add-i Inv-loop μ-loop
 add-i c = search needs

@@ -1,5 +1,6 @@
 -- `fans::plus_one` meets its contract: each array's front is longer by what is stored behind it. Assumes nothing.
 use mathlib.Core.Path.{refl}
+use Rattle.typed_lists.proofs.MoreFans.{one-lined}
 use Rattle.typed_lists.proofs.Storing.{stored-more}
 use borrow.Author.Needs.{needs}
 use Rattle.typed_lists.proofs.fans.plus_one.Statement.{statement}
@@ -32,6 +33,7 @@ add-t11 c = search needs
 returns : tie.Need-returns
 returns c = record {
   count = refl;
+  lined = λ l. one-lined l (c .before .before .before .before .pre) _ _ _ _;
   lists = λ ps ws bs ls h. record {
     parts = stored-more (h .parts) _ (c .before .before .before .before .pre);
     weighed = stored-more (h .weighed) _ (c .before .before .before .before .pre);

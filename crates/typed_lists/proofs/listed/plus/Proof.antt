@@ -1,5 +1,5 @@
 -- `listed::plus` meets its contract: a turn stores one of the six numbers behind those before it. The measure is what is left. Assumes nothing.
-use mathlib.Core.Path.{_≡_}
+use mathlib.Core.Path.{_≡_, refl}
 use mathlib.Core.List.{List, _++_}
 use Prim.Native.Nat.{ℕ, _+_, _-_, _*_, _≤_}
 use native.Mathlib.Omega.{arith}
@@ -60,10 +60,10 @@ add-t17 : tie.Need-add-t17 Inv-loop μ-loop
 add-t17 c = omega (arith, c .before .before .before .before .before .pre .0)
 
 returns : tie.Need-returns Inv-loop μ-loop
-returns c = λ systems h.
+returns c =
     let l = c .before .before .loop in
     let e : l .k ≡ perListed = omega (arith, l .inv .0, c .before .loop-test .left) in
-    one-more _ h (rw e at (l .inv .1 (sixes systems) (h .numbers)))
+    record { count = refl; ruled = λ systems h. one-more _ h (rw e at (l .inv .1 (sixes systems) (h .numbers))) }
 
 pub plus-spec : {M : Type 1} → statement M
 plus-spec =

@@ -6,7 +6,9 @@ use Rattle.typed_lists.proofs.told.plus.Statement.{statement}
 use Rattle.typed_lists.proofs.told.plus.Tie as tie
 
 returns : tie.Need-returns
-returns c = told-full _ _ _ (c .if1 .taken)
+returns c =
+    let start = c .before .before .before .before in
+    told-full _ (start .pre) (c .if1 .taken)
 
 put-fault-requires : tie.Need-put-fault-requires
 put-fault-requires c κs = omega (arith, c .before .if1 .left, c .before .before .before .before .before .pre)
@@ -21,7 +23,8 @@ returns-2 : tie.Need-returns-2
 returns-2 c =
     let test = c .before .before .before .before .before .if1 in
     let put-fault = c .before .before .before .put-fault in
-    told-more _ _ (test .left) (put-fault .ensures) (omega (arith, put-fault .kept))
+    let start = c .before .before .before .before .before .before .before .before .before in
+    told-more _ _ (test .left) (put-fault .ensures) (omega (arith, put-fault .kept)) (start .pre)
 
 pub plus-spec : {M : Type 1} → statement M
 plus-spec = tie.close (tie.spec returns put-fault-requires add-t11 same-length returns-2)

@@ -1,0 +1,1 @@
+"""What a rating costs beside peers: bench/run."""

@@ -1,0 +1,1 @@
+"""Case files for the proved programs, and the answers that they must get."""

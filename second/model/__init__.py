@@ -1,0 +1,1 @@
+"""What documents 01 and 02 say, what each call answers and what each program prints."""

@@ -1,0 +1,1 @@
+"""The tests that are not proofs: python3 -m tests.NAME runs one of them, python3 -m tests.others LOG all."""
