@@ -1,19 +1,17 @@
 -- Pairs tried one after the other: before the first, one more, a row of them begun and ended, and how many there are. One more is by whether its low is higher than that of
 -- the pair that leads. Assumes nothing.
-use mathlib.Core.Path.{_≡_, refl, sym, _∙_}
-use mathlib.Core.Bool.{Bool, true, false, not, cond, _&&_}
+use mathlib.Core.Path.{_≡_, refl}
 use Prim.Native.Nat.{ℕ, zero, suc, _+_, _*_, _-_, _≤_, _<_}
-use native.Mathlib.Decide.{ℕ-discrete, decLt, decLe}
-use native.Mathlib.Nat.{le-trans, le-refl, mul-le-mul}
+use native.Mathlib.Decide.{ℕ-discrete, decLe}
+use native.Mathlib.Nat.{le-refl}
 use native.Mathlib.Numerals.{add-one}
 use native.Mathlib.Omega.{arith}
-use lib.Dec.{eqb, leb}
 use borrow.Author.Tests.{eq-eqb, ne-eqb, le-leb, lt-leb}
 use Rattle.rules.specs.Below.{sumBelow}
 use Rattle.places.specs.declared.Ends.{Ends}
 use Rattle.pairs.specs.declared.Best.{Best}
 use Rattle.pairs.specs.Pairs.{pairsBelow}
-use Rattle.pairs.specs.Tried.{Leads, Tried, bestOf, stays, withPair}
+use Rattle.pairs.specs.Tried.{Leads, Tried, bestOf, withPair}
 
 -- ---- how many pairs there are
 

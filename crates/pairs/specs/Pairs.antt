@@ -4,7 +4,7 @@ use Prim.Native.Nat.{ℕ, suc, _+_, _-_}
 use mathlib.Core.Bool.{Bool, true, _&&_}
 use lib.Dec.{eqb, ltb}
 use Rattle.rules.specs.Below.{sumBelow, some, first}
-use Rattle.rules.specs.Asked.{Asked, sizeOf, lowOf, highOf}
+use Rattle.rules.specs.Asked.{Asked, lowOf, highOf}
 use Rattle.rules.specs.Gain.{swappedBoth}
 use Rattle.spares.specs.Highest.{highest}
 

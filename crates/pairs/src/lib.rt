@@ -2,10 +2,9 @@
 // kept.
 ghost use mathlib.Core.List.{[]};
 ghost use mathlib.Core.Path.{_≡_};
-ghost use mathlib.Core.Bool.{not, _&&_};
-ghost use Prim.Native.Nat.{_+_, _<_};
-ghost use lib.Dec.{eqb, leb};
+ghost use Prim.Native.Nat.{_+_, _*_, _<_};
 ghost use Rattle.rules.specs.Asked.{askedOf, sizeOf};
+ghost use Rattle.rules.specs.Refusal.{most};
 ghost use Rattle.spares.specs.Places.{spareRefusal};
 ghost use Rattle.pairs.specs.Tried.{stays, withPair, TriedBelow};
 use places::Ends;
@@ -50,7 +49,7 @@ fn stays(best: Best, low: u64) -> bool
 
 // One pair more.
 fn with_pair(best: Best, first: usize, second: usize, ends: Ends) -> Best
-    requires { ⌜ best .rated < 4294967296 ⌝ }
+    requires { ⌜ best .rated < most * most ⌝ }
     ensures { λ r. ⌜ r ≡ withPair best first second ends ⌝ }
 {
     let rated = best.rated + 1;

@@ -1,6 +1,5 @@
 -- `put_one` meets its contract. Assumes nothing.
 use borrow.Author.Needs.{needs}
-use Prim.Native.Nat.{_+_}
 use native.Mathlib.Omega.{arith}
 use Rattle.text.specs.Decimal.{text}
 use Rattle.text.proofs.Adding.{put-added, added-more, named-added, named-reach}

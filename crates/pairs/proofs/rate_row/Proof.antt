@@ -81,7 +81,7 @@ with-pair-requires c κs =
     let l = at .before .loop in
     let s = start at in
     let h = stretch-in s in
-    let few : s .args .first ≤ 64 = omega arith in
+    let few : s .args .first ≤ 63 = omega arith in
     let size : sizeOf (asked s) ≤ 64 = omega arith in
     omega (arith, mul-le-mul few size, l .inv .3 .count, pairs-few (sizeOf (asked s)) (s .args .first), in-row at)
 
