@@ -2,6 +2,7 @@
 calls."""
 
 import os
+import pty
 import re
 import subprocess
 from concurrent.futures import ThreadPoolExecutor
@@ -86,6 +87,25 @@ def printed(words, data, **more):
     if done.returncode != (REFUSED if refused else DONE):
         raise subprocess.CalledProcessError(done.returncode, done.args, done.stdout)
     return done.stdout
+
+
+def on_terminal(words, data):
+    """What a program prints, and what it shows on a terminal."""
+    mine, theirs = pty.openpty()
+    with subprocess.Popen(words, stdin=subprocess.PIPE, stdout=subprocess.PIPE, stderr=theirs) as program:
+        printed, _ = program.communicate(data)
+    os.close(theirs)
+    shown = b""
+    while True:
+        try:
+            piece = os.read(mine, 4096)
+        except OSError:  # the terminal's end, as Linux tells it
+            piece = b""
+        if not piece:
+            break
+        shown += piece
+    os.close(mine)
+    return printed.decode(), shown.decode()
 
 
 @lru_cache(maxsize=None)

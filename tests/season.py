@@ -2,14 +2,13 @@
 random ones, and about 10,000 files; the same in pieces of any size; and the count of decks that a terminal is shown meanwhile."""
 
 import os
-import pty
 import random
 import subprocess
 import sys
 
 from second.model.season import season_output
 from second.samples.season import many_files, named, random_streams, single_fan
-from tests.common import compare, held, linked, mapped, printed
+from tests.common import compare, held, linked, mapped, on_terminal, printed
 
 STREAMS = 120
 IN_PIECES = 12
@@ -34,25 +33,6 @@ def in_pieces(words, rng, data):
             at = end
         program.stdin.close()
         return program.stdout.read().decode()
-
-
-def on_terminal(words, data):
-    """What season prints, and what it shows on a terminal."""
-    mine, theirs = pty.openpty()
-    with subprocess.Popen(words, stdin=subprocess.PIPE, stdout=subprocess.PIPE, stderr=theirs) as program:
-        printed, _ = program.communicate(data)
-    os.close(theirs)
-    shown = b""
-    while True:
-        try:
-            piece = os.read(mine, 4096)
-        except OSError:  # the terminal's end, as Linux tells it
-            piece = b""
-        if not piece:
-            break
-        shown += piece
-    os.close(mine)
-    return printed.decode(), shown.decode()
 
 
 def decks_shown():

@@ -10,7 +10,7 @@ from second.model.loading import decklist_output
 from second.model.spares import Place, Stretch, best_pair, best_places, deckspare_output, gain, gain_of_file, groups
 from second.model.terms import BOARDS_VERSION, NO_BOARDS, UNIT, UNITS, Boards, Deck, Refusal, Rule, System
 from second.samples.files import random_files
-from second.samples.lists import random_systems
+from second.samples.lists import random_boards, random_systems
 from second.samples.published import DECK_FILE
 
 RISING = {1, 2, 4, 5, 6, 7, 8}
@@ -126,18 +126,21 @@ def ties_told():
 
 
 def best_pairs():
-    """The pair named has the highest low of all."""
+    """The pair named is the first that has the highest low of all, behind any boards and for any spare; a system of one fan has none."""
+    rng = random.Random(51)
     for version, unit in UNITS.items():
         for rule, survivals, weights in random_systems(50, 28, 7, unit):
-            n = len(survivals)
-            if n < 2:
-                continue
-            listed = {"version": version, "boards": Boards([1] * n, [unit // 3]) if version == BOARDS_VERSION else NO_BOARDS}
-            rated = {pair: figures(rule, 1, n, replaced(replaced(survivals, pair[0], unit), pair[1], unit), weights, **listed)
+            n, p = len(survivals), rng.choice((0, unit, rng.randint(0, unit)))
+            boards = random_boards(rng, n, unit=unit) if version == BOARDS_VERSION else NO_BOARDS
+            rated = {pair: figures(rule, 1, n, replaced(replaced(survivals, pair[0], p), pair[1], p), weights, version=version, boards=boards)
                      for pair in combinations(range(1, n + 1), 2)}
-            *pair, told = best_pair(Stretch(rule, survivals, weights, listed["boards"], unit), 1, unit)
+            *pair, told = best_pair(Stretch(rule, survivals, weights, boards, unit), 1, p)
+            highest = max(low for low, _ in rated.values())
+            yield tuple(pair), next(pair for pair, (low, _) in rated.items() if low == highest)
             yield told, rated[tuple(pair)]
-            yield told[0], max(low for low, _ in rated.values())
+    one = Deck([UNIT // 2] * 3, [0] * 3, [System(Rule(1, 1, 0), 2, 2), System(Rule(1, 2, 0), 2, 2), System(Rule(1, 1, 0), 2, 3)], 1, NO_BOARDS)
+    yield deckspare_output(deck_bytes(one), b"1.0", pair=True).splitlines(), [
+        "system 1 has one fan", "system 2 refused 6", "system 3 fans 2 and 3 low 1073741824 high 1073741824 100.000000% to 100.000000%"]
 
 
 GROUPS = gains_by_words, plain_gains, refusals_of_gains, lines_of_gains, ties_told, best_pairs

@@ -122,15 +122,15 @@ def system_lines(deck, system, p, best, pair):
     """What is told of one system."""
     listed = system.rule, system.a, system.b
     number = spare_refusal(*listed, p, deck.survivals, deck.weights, TABLE_CELLS, deck.version, deck.boards)
-    if pair and not number and system.a == system.b:
-        number = FAN  # two spares, and a stretch with one place
     if number:
         yield f"refused {number}"
         return
     stretch = stretch_of(*listed, deck.survivals, deck.weights, deck.version, deck.boards)
-    if pair:
+    if pair and system.a == system.b:
+        yield "has one fan"
+    elif pair:
         first, second, figures = best_pair(stretch, system.a, p)
-        yield f"fans {first} {second} {rated_text(stretch.unit, figures)}"
+        yield f"fans {first} and {second} {rated_text(stretch.unit, figures)}"
     elif best:
         rank = 1
         for group in best_places(places(stretch, system.a, p), best):

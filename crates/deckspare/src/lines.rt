@@ -15,6 +15,12 @@ use spare_lines::Job;
 // Room for all lines: 218 bytes for each of 64 fans of 32 systems.
 pub const OUTPUT: usize = 446464;
 
+// What is asked for: so many of the best places, 0 for every place; or the best two places for two spares.
+pub struct Wanted {
+    pub best: u64,
+    pub two: bool,
+}
+
 // What is printed of a file's system. Only the lists are copied from the file's bytes.
 fn put_system(file: &[u8], head: Head, job: Job, out: &mut [u8], at: usize) -> usize
     requires placed { ⌜ Placed (now file) head (job .s) ⌝ }
@@ -47,16 +53,21 @@ fn put_system(file: &[u8], head: Head, job: Job, out: &mut [u8], at: usize) -> u
     )
 }
 
-// The lines of its systems, of a spare with survival number p: every place, or so many of the best.
-fn put_systems(file: &[u8], head: Head, p: u64, best: u64, out: &mut [u8]) -> usize
+// The lines of its systems, of a spare with survival number p.
+fn put_systems(file: &[u8], head: Head, p: u64, wanted: Wanted, out: &mut [u8]) -> usize
     requires headed { ⌜ Headed (now file) head ⌝ }
     requires room { ⌜ outputRoom ≤ length (now out) ⌝ }
-    ensures { λ r. ⌜ Added (systemsText p best (now (file .entry))) (now (out .entry)) 0 (now (out .exit)) r ⌝ }
+    ensures { λ r. ⌜ Added (systemsText p wanted (now (file .entry))) (now (out .entry)) 0 (now (out .exit)) r ⌝ }
 {
     let mut end = 0;
     let mut s: usize = 0;
     while s < head.systems {
-        let job = Job { s, p, best };
+        let job = Job {
+            s,
+            p,
+            best: wanted.best,
+            two: wanted.two,
+        };
         end = put_system(file, head, job, out, end);
         s += 1;
     }
@@ -64,10 +75,10 @@ fn put_systems(file: &[u8], head: Head, p: u64, best: u64, out: &mut [u8]) -> us
 }
 
 // All that is printed for a file, of the spare that a word names.
-fn put_file(word: &[u8], best: u64, file: &[u8], out: &mut [u8]) -> usize
+fn put_file(word: &[u8], wanted: Wanted, file: &[u8], out: &mut [u8]) -> usize
     requires { ⌜ outputRoom ≤ length (now out) ⌝ }
     ensures { λ r.
-        let text = printText (listText (now (word .entry)) best) (now (file .entry)) in
+        let text = printText (listText (now (word .entry)) wanted) (now (file .entry)) in
         ⌜ Added text (now (out .entry)) 0 (now (out .exit)) r ⌝ }
 {
     let opened = deck::open(file);
@@ -76,13 +87,13 @@ fn put_file(word: &[u8], best: u64, file: &[u8], out: &mut [u8]) -> usize
     }
     let head = opened.head;
     let p = grammar::numbers::parts(head.version, word);
-    put_systems(file, head, p, best, out)
+    put_systems(file, head, p, wanted, out)
 }
 
 // All that is printed for an input, of which the buffer holds the front: all of it, or as much as the buffer takes.
 pub fn list_front(
     word: &[u8],
-    best: u64,
+    wanted: Wanted,
     input: &[u8; INPUT],
     filled: usize,
     out: &mut [u8],
@@ -90,8 +101,8 @@ pub fn list_front(
     requires within { ⌜ filled ≤ length (now input) ⌝ }
     requires room { ⌜ outputRoom ≤ length (now out) ⌝ }
     ensures { λ r.
-        let body = listText (now (word .entry)) best in
+        let body = listText (now (word .entry)) wanted in
         ⌜ WholePrinted body (now (input .entry)) filled (now (out .exit)) r ⌝ }
 {
-    put_file(word, best, printing::front_of(input, filled), out)
+    put_file(word, wanted, printing::front_of(input, filled), out)
 }

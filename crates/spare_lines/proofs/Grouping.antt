@@ -14,7 +14,8 @@ use Rattle.rules.specs.Refusal.{most}
 use Rattle.rules.proofs.Sums.{held-same}
 use Rattle.places.specs.declared.Ends.{Ends}
 use Rattle.spares.specs.declared.Places.{Places}
-use Rattle.spare_lines.specs.Ranks.{highest, reaches, leftIn}
+use Rattle.spares.specs.Highest.{highest}
+use Rattle.spare_lines.specs.Ranks.{reaches, leftIn}
 use Rattle.spare_lines.specs.Best.{rankedIn, Grouped}
 use Rattle.spare_lines.proofs.Ranks.{less-leb, held-most}
 

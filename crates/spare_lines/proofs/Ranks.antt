@@ -1,10 +1,9 @@
 -- What the groups of places mean: every two of a group overlap, and each place that is left out gains surely less than one with the highest lower end. Groups have no place
 -- in common, so that no more places are named than there are. Assumes nothing.
-use mathlib.Core.Path.{_≡_, refl, sym, ap, ap₂, _∙_}
+use mathlib.Core.Path.{_≡_, refl, sym, _∙_}
 use mathlib.Core.Bool.{Bool, true, false, not, cond, _&&_, true≢false, false≢true}
-use Prim.Native.Nat.{ℕ, zero, suc, _+_, _-_, _≤_, _<_, max}
+use Prim.Native.Nat.{ℕ, zero, suc, _+_, _-_, _≤_, _<_}
 use native.Mathlib.Decide.{decLe}
-use native.Mathlib.Nat.{le-trans, le-max-left, le-max-right}
 use native.Mathlib.Omega.{arith}
 use lib.Dec.{T, leb, nleb→lt, leb→le}
 use lib.IntN.{ℤ, pos, negsuc, subℕ}
@@ -14,7 +13,9 @@ use Rattle.rules.specs.Below.{held}
 use Rattle.rules.proofs.Tests.{both}
 use Rattle.rules.proofs.Sums.{held-same}
 use Rattle.rules.proofs.Differences.{by-sign, less-le}
-use Rattle.spare_lines.specs.Ranks.{Ranked, lowerAt, upperAt, highest, leading, reaches, alike, rest, leftAfter, groupAt, goneAfter}
+use Rattle.spares.specs.Highest.{highest}
+use Rattle.spares.proofs.Highest.{high-most}
+use Rattle.spare_lines.specs.Ranks.{Ranked, lowerAt, upperAt, leading, reaches, alike, rest, leftAfter, groupAt, goneAfter}
 
 -- ---- signed differences compared as sums
 
@@ -38,35 +39,6 @@ less-leb a b c d =
     (λ l. by-sign (λ z. leZ (pos (a - b)) z ≡ leb (a + d) (c + b)) c d
     (λ m. sym (lt-leb (a + d) (c + b) (omega arith)))
     (λ m. leb-same (a - b) (c - d) (a + d) (c + b) (λ h. omega arith) (λ h. omega arith)))
-
--- ---- the highest low
-
-pub high-most : (low : ℕ → ℕ) (left : ℕ → Bool) (n i : ℕ) → i < n → left i ≡ true → low i ≤ highest low left n
-unfolding highest
-high-most low left zero i l e = absurd (omega arith)
-high-most low left (suc n) i l e = go (λ h. high-most low left n i h e) (decLe (suc i) n)
-  where
-    go : (suc i ≤ n → low i ≤ highest low left n) → Dec (suc i ≤ n) → low i ≤ max (highest low left n) (cond (left n) (low n) 0)
-    go before (yes h) = le-trans (before h) (le-max-left (highest low left n) (cond (left n) (low n) 0))
-    go before (no h) =
-        let at : i ≡ n = omega arith in
-        let counts : low i ≡ cond (left n) (low n) 0 = rw (← at, e) in
-        rw counts (le-max-right (highest low left n) (cond (left n) (low n) 0))
-
-pub highest-within : (most : ℕ) (low : ℕ → ℕ) (left : ℕ → Bool) (n : ℕ) → ((i : ℕ) → low i ≤ most) → highest low left n ≤ most
-unfolding highest
-highest-within most low left zero h = omega arith
-highest-within most low left (suc n) h = omega (arith, highest-within most low left n h, one (left n))
-  where
-    one : (b : Bool) → cond b (low n) 0 ≤ most
-    one true = h n
-    one false = omega arith
-
-pub highest-same : (low : ℕ → ℕ) (left left' : ℕ → Bool) (n : ℕ) → ((i : ℕ) → i < n → left i ≡ left' i) → highest low left n ≡ highest low left' n
-unfolding highest
-highest-same low left left' zero h = refl
-highest-same low left left' (suc n) h =
-    ap₂ max (highest-same low left left' n (λ i l. h i (omega arith))) (ap (λ b. cond b (low n) 0) (h n (omega arith)))
 
 -- ---- groups
 

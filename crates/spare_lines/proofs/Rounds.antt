@@ -15,42 +15,21 @@ use Rattle.rules.specs.Below.{held}
 use Rattle.rules.specs.Refusal.{most}
 use Rattle.rules.proofs.Sums.{held-same}
 use Rattle.units.specs.Step.{whole}
-use Rattle.text.specs.Decimal.{text, decimal}
-use Rattle.text.specs.Lines.{named, pairText, pairRoom}
-use Rattle.text.proofs.Digits.{decimal-short}
-use Rattle.percent.specs.Percent.{rangeText}
-use Rattle.percent.proofs.Digits.{range-short}
+use Rattle.text.specs.Decimal.{text}
+use Rattle.text.specs.Lines.{pairText}
 use Rattle.places.specs.declared.Ends.{Ends}
 use Rattle.printing.specs.Lines.{linesText}
 use Rattle.printing.proofs.Lined.{Lined}
 use Rattle.spares.specs.declared.Places.{Places}
+use Rattle.spares.proofs.Highest.{highest-same}
+use Rattle.pair_lines.specs.Rated.{ratedText}
+use Rattle.pair_lines.proofs.Lengths.{pair-short, rated-short}
 use Rattle.spare_lines.specs.declared.best.Shown.{Shown}
 use Rattle.spare_lines.specs.Lines.{endsOf, placeIn}
 use Rattle.spare_lines.specs.Ranks.{Ranked, upperAt, reaches, alike, leftAfter, groupAt, goneAfter, leftIn}
-use Rattle.spare_lines.specs.Best.{rankedIn, Grouped, rangeEnd, ratedText, ratedRoom, fanText, placeText, placeIf, placeRoom, groupText, groupIn, groupRoom, roundText, bestText, bestRoom}
+use Rattle.spare_lines.specs.Best.{rankedIn, Grouped, fanText, placeText, placeIf, placeRoom, groupText, groupIn, groupRoom, roundText, bestText, bestRoom}
 use Rattle.spare_lines.proofs.Same.{lines-same}
-use Rattle.spare_lines.proofs.Ranks.{highest-same, gone-left}
-
-pair-short : (first : List ℕ) (a : ℕ) (second : List ℕ) (b : ℕ) → length (pairText first a second b) ≤ pairRoom first second
-pair-short first a second b =
-    omega (
-      arith,
-      length-append (named first a) (named second b),
-      length-append first (decimal a),
-      length-append second (decimal b),
-      decimal-short a,
-      decimal-short b,
-    )
-
-rated-short : (u low high : ℕ) → length (ratedText u low high) ≤ ratedRoom
-rated-short u low high =
-    omega (
-      arith,
-      length-append (pairText (text " low ") low (text " high ") high) (rangeEnd u low high),
-      length-append (rangeText u low high) (text "\n"),
-      pair-short (text " low ") low (text " high ") high,
-      range-short u low high,
-    )
+use Rattle.spare_lines.proofs.Ranks.{gone-left}
 
 place-short : (shown : Shown) (rank count fan : ℕ) (after : Ends) → length (placeText shown rank count fan after) ≤ placeRoom
 place-short shown rank count fan after =

@@ -17,7 +17,8 @@ use Rattle.rules.proofs.Accepted.{figures-third}
 use Rattle.rules.proofs.Sure.{swapped-third}
 use Rattle.spares.specs.Places.{spareRefusal, lowWith, highWith}
 use Rattle.spares.proofs.Rating.{clear, accepted, small}
-use Rattle.spare_lines.specs.Ranks.{highest, rest}
+use Rattle.spares.specs.Highest.{highest}
+use Rattle.spare_lines.specs.Ranks.{rest}
 use Rattle.spare_lines.specs.Best.{rankedOf}
 use Rattle.spare_lines.proofs.Ranks.{left-out}
 

@@ -1,5 +1,5 @@
 -- All that is printed of a system: how long it is at most, and that what is put of arrays is what is printed of the stretch. Assumes nothing.
-use mathlib.Core.Path.{_≡_, refl}
+use mathlib.Core.Path.{_≡_, refl, ap, _∙_}
 use mathlib.Core.Bool.{Bool, true, false, not, cond}
 use Prim.Native.Nat.{ℕ, _+_, _≤_}
 use native.Mathlib.Nat.{mul-le-mul-left}
@@ -9,7 +9,7 @@ use lib.ListN.{length, length-append}
 use Rattle.rules.specs.State.{S, decimal, unitOf}
 use Rattle.rules.specs.Asked.{Asked, sizeOf}
 use Rattle.rules.specs.Refusal.{most}
-use Rattle.rules.proofs.Unless.{unless-by}
+use Rattle.rules.proofs.Unless.{unless-by, unless-none}
 use Rattle.units.specs.Step.{whole}
 use Rattle.text.proofs.Digits.{decimal-short}
 use Rattle.places.specs.declared.Ends.{Ends}
@@ -17,10 +17,12 @@ use Rattle.printing.proofs.Lined.{lines-short}
 use Rattle.spares.specs.declared.Places.{Places}
 use Rattle.spares.specs.Places.{spareRefusal, AsItIs, Placed}
 use Rattle.spares.proofs.Rating.{inside}
+use Rattle.pair_lines.specs.Line.{twoText}
+use Rattle.pair_lines.proofs.Lengths.{two-short}
 use Rattle.spare_lines.specs.declared.Job.{Job}
 use Rattle.spare_lines.specs.Lines.{nowOf, afterOf, gainLine, gainRoom, gainsText, refusedLine}
 use Rattle.spare_lines.specs.Best.{rankedIn, rankedOf, bestText}
-use Rattle.spare_lines.specs.System.{shownOf, placesText, systemText, systemRoom}
+use Rattle.spare_lines.specs.System.{shownOf, placesText, answeredText, systemText, systemRoom}
 use Rattle.spare_lines.proofs.Lengths.{gain-short}
 use Rattle.spare_lines.proofs.Same.{now-is}
 use Rattle.spare_lines.proofs.Rounds.{best-short}
@@ -41,9 +43,24 @@ places-short job q few = go (eqb (job .best) 0)
 -- a refusal's line, and the lines of a stretch that is not refused
 pub system-short : (job : Job) (q : Asked) → length (systemText job q) ≤ systemRoom
 system-short job q =
-    unless-by (λ t. length t ≤ systemRoom) (spareRefusal q (job .p)) (refusedLine (job .s + 1)) (placesText job q)
+    unless-by (λ t. length t ≤ systemRoom) (spareRefusal q (job .p)) (refusedLine (job .s + 1)) (answeredText job q)
     (simp length-append (omega (arith, decimal-short (job .s + 1), decimal-short (spareRefusal q (job .p)))))
-    (λ none. let within = inside q (job .p) none in places-short job q (omega arith))
+    (λ none. go none (job .two))
+  where
+    go : spareRefusal q (job .p) ≡ 0 → (two : Bool) → length (cond two (twoText (job .s + 1) (job .p) q) (placesText job q)) ≤ systemRoom
+    go none true = omega (arith, two-short (job .s + 1) (job .p) q)
+    go none false = let within = inside q (job .p) none in places-short job q (omega arith)
+
+-- what is printed where there is no refusal, for two spares and for one
+module _ (job : Job) (q : Asked) (none : spareRefusal q (job .p) ≡ 0) where
+  answered : systemText job q ≡ answeredText job q
+  answered = unless-none (spareRefusal q (job .p)) (refusedLine (job .s + 1)) (answeredText job q) none
+
+  pub of-two : job .two ≡ true → systemText job q ≡ twoText (job .s + 1) (job .p) q
+  of-two e = answered ∙ ap (λ b. cond b (twoText (job .s + 1) (job .p) q) (placesText job q)) e
+
+  pub of-one : job .two ≡ false → systemText job q ≡ placesText job q
+  of-one e = answered ∙ ap (λ b. cond b (twoText (job .s + 1) (job .p) q) (placesText job q)) e
 
 -- the places of the stretch, by the figures in arrays
 pub ranked-is : {q : Asked} {p : ℕ} {r : Places} {before : Ends} → Placed q p r → AsItIs q before → rankedIn (sizeOf q) r before ≡ rankedOf q p

@@ -14,10 +14,10 @@ use Rattle.units.specs.Step.{whole}
 use Rattle.places.specs.declared.Ends.{Ends}
 use Rattle.text.specs.Decimal.{text}
 use Rattle.text.specs.Lines.{pairText, pairRoom}
-use Rattle.percent.specs.Percent.{rangeText, rangeRoom}
 use Rattle.printing.specs.Lines.{linesText}
 use Rattle.spares.specs.declared.Places.{Places}
 use Rattle.spares.specs.Places.{upTo, lowWith, highWith}
+use Rattle.pair_lines.specs.Rated.{ratedText, ratedRoom}
 use Rattle.spare_lines.specs.declared.best.Shown.{Shown}
 use Rattle.spare_lines.specs.Lines.{endsOf, nowOf, placeIn}
 use Rattle.spare_lines.specs.Ranks.{Ranked, alike, rest, groupAt, goneAfter, leftIn}
@@ -37,15 +37,6 @@ pub record Grouped (k : Ranked) (left : ℕ → Bool) (lefts group : List Bool) 
   pub count : n ≡ held (alike k left) (k .size)
 
 -- `system S rank R alike N fan F low L high H X% to Y%`
-abbrev pub rangeEnd : (u low high : ℕ) → List ℕ
-rangeEnd u low high = rangeText u low high ++ text "\n"
-
-abbrev pub ratedText : (u low high : ℕ) → List ℕ
-ratedText u low high = pairText (text " low ") low (text " high ") high ++ rangeEnd u low high
-
-abbrev pub ratedRoom : ℕ
-ratedRoom = pairRoom (text " low ") (text " high ") + rangeRoom + 1
-
 abbrev pub fanText : (u count fan : ℕ) → Ends → List ℕ
 fanText u count fan after = pairText (text " alike ") count (text " fan ") fan ++ ratedText u (after .low) (after .high)
 

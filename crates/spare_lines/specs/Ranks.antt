@@ -1,13 +1,14 @@
 -- The places of a stretch from the best on, ties told as ties. Of the places that are left, L is the highest lower end of a gain; every one whose upper end is not below L
 -- is alike with the best; then the same among the rest. A place's gain has the lower end low less the high before and the upper end high less the low before.
-use Prim.Native.Nat.{ℕ, zero, suc, _+_, max}
-use mathlib.Core.Bool.{Bool, true, false, not, cond, _&&_}
+use Prim.Native.Nat.{ℕ, zero, suc, _+_}
+use mathlib.Core.Bool.{Bool, true, false, not, _&&_}
 use mathlib.Core.List.{List}
 use lib.IntN.{ℤ, subℕ}
 use lib.ListN.{getD}
 use lib.Signed.{leZ}
 use Rattle.rules.specs.Below.{held}
 use Rattle.places.specs.declared.Ends.{Ends}
+use Rattle.spares.specs.Highest.{highest}
 
 -- so many places, the figures with the spare in each, and the figures as they are
 pub record Ranked : Type 0 where
@@ -23,11 +24,7 @@ lowerAt k i = subℕ (k .low i) (k .before .high)
 abbrev pub upperAt : Ranked → ℕ → ℤ
 upperAt k i = subℕ (k .high i) (k .before .low)
 
--- the highest low of the places below n that are left, and L, the highest lower end
-unfoldable pub highest : (low : ℕ → ℕ) (left : ℕ → Bool) (n : ℕ) → ℕ
-highest low left zero = 0
-highest low left (suc n) = max (highest low left n) (cond (left n) (low n) 0)
-
+-- L, the highest lower end of the places that are left: that of the highest low
 abbrev pub leading : Ranked → (left : ℕ → Bool) → ℤ
 leading k left = subℕ (highest (k .low) left (k .size)) (k .before .high)
 

@@ -8,10 +8,10 @@ ghost use Rattle.rules.specs.State.{S};
 ghost use Rattle.rules.specs.Refusal.{most};
 ghost use Rattle.text.specs.Added.{Added};
 ghost use Rattle.spare_lines.specs.Lines.{InUnit};
-ghost use Rattle.spare_lines.specs.Ranks.{highest, leftIn};
-ghost use Rattle.units.specs.Step.{whole};
-ghost use Rattle.spare_lines.specs.Best.{rankedIn, Grouped, ratedText, placeText, placeIf, groupIn};
-ghost use Rattle.spare_lines.specs.Best.{ratedRoom, placeRoom, groupRoom, bestText, bestRoom, Few, Within};
+ghost use Rattle.spares.specs.Highest.{highest};
+ghost use Rattle.spare_lines.specs.Ranks.{leftIn};
+ghost use Rattle.spare_lines.specs.Best.{rankedIn, Grouped, placeText, placeIf, groupIn};
+ghost use Rattle.spare_lines.specs.Best.{placeRoom, groupRoom, bestText, bestRoom, Few, Within};
 use places::Ends;
 use rules::limit::FANS;
 use spares::Places;
@@ -106,18 +106,6 @@ fn group_of(left: [bool; FANS], places: Places, before: Ends, size: usize) -> Gr
     }
 }
 
-// ` low L high H X% to Y%`, and the line's end.
-fn put_rated(decimal: bool, after: Ends, out: &mut [u8], at: usize) -> usize
-    requires within { ⌜ (after .low ≤ S) × (after .high ≤ S) ⌝ }
-    requires room { ⌜ at + ratedRoom ≤ length (now out) ⌝ }
-    ensures { λ r.
-        ⌜ Added (ratedText (whole decimal) (after .low) (after .high)) (now (out .entry)) at (now (out .exit)) r ⌝ }
-{
-    let named = lines::put_pair(b" low ", after.low, b" high ", after.high, out, at);
-    let end = percent::put_range(decimal, after.low, after.high, out, named);
-    text::put(out, end, b"\n")
-}
-
 // The line of a place.
 fn put_place(
     shown: Shown,
@@ -134,7 +122,7 @@ fn put_place(
 {
     let ranked = lines::put_pair(b"system ", shown.s, b" rank ", rank, out, at);
     let named = lines::put_pair(b" alike ", count, b" fan ", fan, out, ranked);
-    put_rated(shown.decimal, after, out, named)
+    pair_lines::put_rated(shown.decimal, after, out, named)
 }
 
 // The same, or nothing.

@@ -1,4 +1,5 @@
-// What deckspare prints of a system, put into a buffer: what a spare gains in each of its places, or the best of them.
+// What deckspare prints of a system, put into a buffer: what a spare gains in each of its places, or the best of
+// them, or the best two for two spares.
 mod best; // best.rt: the best places
 
 ghost use mathlib.Core.List.{[]};
@@ -11,17 +12,19 @@ ghost use Rattle.text.specs.Added.{Added};
 ghost use Rattle.spare_lines.specs.Lines.{gainLine, gainLines, gainRoom, gainsRoom, FewPlaces, InUnit};
 ghost use Rattle.spare_lines.specs.System.{systemText, systemRoom};
 use best::Shown;
+use pair_lines::Two;
 use places::Ends;
 use rules::Question;
 use spares::Places;
 use text::lines;
 
 // What is asked of a system beside its lists: its place in the file, counted from 0, the spare's survival number, and
-// how many of the best places are named, 0 for every place and its gain.
+// how many of the best places are named, 0 for every place and its gain; or whether two spares go in together.
 pub struct Job {
     pub s: usize,
     pub p: u64,
     pub best: u64,
+    pub two: bool,
 }
 
 // `system S fan F lower L upper U`.
@@ -90,6 +93,19 @@ pub fn put_asked(
     if refused != 0 {
         let end = text::put_named(b"system ", s, out, at);
         return lines::put_refused(refused, out, end);
+    }
+    if job.two {
+        let two = Two { s, p: job.p };
+        return pair_lines::put_two(
+            question,
+            two,
+            survival,
+            weights,
+            boards,
+            switchboards,
+            out,
+            at,
+        );
     }
     let before = spares::rate_now(question, survival, weights, boards, switchboards);
     let places = spares::rate_places(question, job.p, survival, weights, boards, switchboards);

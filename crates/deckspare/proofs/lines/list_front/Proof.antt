@@ -18,7 +18,7 @@ returns : tie.Need-returns
 returns c =
     let fronted = c .before .before .before .before in
     let start = fronted .before .before .before in
-    whole-printed (listText (start .args .word .now) (start .args .best)) (fronted .front-of .ensures) (c .before .before .put-file .ensures)
+    whole-printed (listText (start .args .word .now) (start .args .wanted)) (fronted .front-of .ensures) (c .before .before .put-file .ensures)
 
 pub list-front-spec : {M : Type 1} → statement M
 list-front-spec = tie.close (tie.spec front-of-requires put-file-requires same-length returns)

@@ -22,7 +22,7 @@ returns c =
     let at-test = c .before .before .before .before in
     let opened = at-test .before .before in
     let start = opened .before .before .before .before in
-    refused-printed (listText (start .args .word .now) (start .args .best)) (at-test .before .before .«open» .ensures) (at-test .if1 .taken) (c .before .before .put-refused-file .ensures)
+    refused-printed (listText (start .args .word .now) (start .args .wanted)) (at-test .before .before .«open» .ensures) (at-test .if1 .taken) (c .before .before .put-refused-file .ensures)
 
 parts-requires : tie.Need-parts-requires
 parts-requires c κs = search needs
@@ -42,10 +42,10 @@ returns-2 c =
     let at-test = counted .before .before in
     let opened = at-test .before .before in
     let word = opened .before .before .before .before .args .word .now in
-    let best = opened .before .before .before .before .args .best in
+    let wanted = opened .before .before .before .before .args .wanted in
     let version = opened-headed (opened .«open» .ensures) (at-test .if1 .left) .says .version in
     let p = counted .parts .ensures ∙ ap (λ v. parts v word) version in
-    body-printed (listText word best) (opened .«open» .ensures) (at-test .if1 .left) (rw p at (c .before .before .put-systems .ensures))
+    body-printed (listText word wanted) (opened .«open» .ensures) (at-test .if1 .left) (rw p at (c .before .before .put-systems .ensures))
 
 pub put-file-spec : {M : Type 1} → statement M
 put-file-spec =

@@ -12,10 +12,10 @@ use Rattle.deckspare.proofs.lines.put_systems.Statement.{statement}
 use Rattle.deckspare.proofs.lines.put_systems.Tie as tie
 
 abbrev Inv-loop : tie.InvT-loop
-Inv-loop file head p best out₀ end₀ s₀ out end s = Lined (head .systems) (λ i. systemLines file (jobOf p best i)) out₀ 0 out end s
+Inv-loop file head p wanted out₀ end₀ s₀ out end s = Lined (head .systems) (λ i. systemLines file (jobOf p wanted i)) out₀ 0 out end s
 
 abbrev μ-loop : tie.MeasureT-loop
-μ-loop file head p best out₀ end₀ s₀ out end s = head .systems - s
+μ-loop file head p wanted out₀ end₀ s₀ out end s = head .systems - s
 
 loop-holds : tie.Need-loop-holds Inv-loop μ-loop
 loop-holds c = no-lines _ _ _ _
@@ -27,7 +27,7 @@ put-system-requires c κs =
     let bytes = start .args .file .now in
     let headed = start .pre .0 in (
       record { headed = headed; place = c .before .if1 .taken },
-      room-left (in-loop .loop .inv) systemRoom mostSystems (λ i. system-short (jobOf (start .args .p) (start .args .best) i) (askedBy (deckIn bytes) (systemIn bytes i))) (c .before .if1 .taken) (few-systems headed) (omega (arith, start .pre .1)),
+      room-left (in-loop .loop .inv) systemRoom mostSystems (λ i. system-short (jobOf (start .args .p) (start .args .wanted) i) (askedBy (deckIn bytes) (systemIn bytes i))) (c .before .if1 .taken) (few-systems headed) (omega (arith, start .pre .1)),
     )
 
 add-s : tie.Need-add-s Inv-loop μ-loop

@@ -7,7 +7,7 @@ use native.Mathlib.Omega.{arith}
 use lib.ListN.{getD}
 use Rattle.rules.specs.State.{S}
 use Rattle.spare_lines.specs.Ranks.{leftIn}
-use Rattle.spare_lines.proofs.Ranks.{highest-within}
+use Rattle.spares.proofs.Highest.{highest-within}
 use Rattle.spare_lines.proofs.Grouping.{Passed, none-passed, one-passed, few-counted, all-passed}
 use Rattle.spare_lines.proofs.best.group_of.Statement.{statement}
 use Rattle.spare_lines.proofs.best.group_of.Tie as tie
@@ -38,7 +38,7 @@ highest-requires c κs = c .before .before .pre .0
 add-top : tie.Need-add-top Inv-loop μ-loop
 add-top c =
     let s = entry c in
-    let top = highest-within S _ (leftIn (s .args .t1)) (s .args .size) (λ i. s .pre .1 .0 .after i .0) in
+    let top = highest-within S _ (leftIn (s .args .t1)) (s .args .size) (λ i l e. s .pre .1 .0 .after i .0) in
     omega (arith, c .before .highest .ensures, top, s .pre .1 .0 .now)
 
 loop-holds : tie.Need-loop-holds Inv-loop μ-loop

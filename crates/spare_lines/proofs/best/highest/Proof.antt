@@ -5,7 +5,8 @@ use Prim.Native.Nat.{_-_, _≤_, max}
 use native.Mathlib.Omega.{arith}
 use native.Mathlib.Numerals.{add-one}
 use lib.ListN.{getD}
-use Rattle.spare_lines.specs.Ranks.{highest, leftIn}
+use Rattle.spares.specs.Highest.{highest}
+use Rattle.spare_lines.specs.Ranks.{leftIn}
 use Rattle.spare_lines.proofs.best.highest.Statement.{statement}
 use Rattle.spare_lines.proofs.best.highest.Tie as tie
 

@@ -1,4 +1,4 @@
--- `best::put_rated` meets its contract: the percents fit behind the figures. Assumes nothing.
+-- `put_rated` meets its contract: the percents fit behind the figures. Assumes nothing.
 use borrow.Author.Needs.{needs}
 use Prim.Native.Nat.{_+_, _≤_}
 use native.Mathlib.Omega.{arith}
@@ -7,8 +7,8 @@ use Rattle.text.specs.Lines.{pairRoom}
 use Rattle.text.proofs.Adding.{put-added, added-more, pair-reach}
 use Rattle.percent.proofs.Digits.{range-short}
 use Rattle.units.specs.Step.{whole}
-use Rattle.spare_lines.proofs.best.put_rated.Statement.{statement}
-use Rattle.spare_lines.proofs.best.put_rated.Tie as tie
+use Rattle.pair_lines.proofs.put_rated.Statement.{statement}
+use Rattle.pair_lines.proofs.put_rated.Tie as tie
 
 -- the points of the code: the entry, the figures put
 abbrev entry : tie.After-put-pair → tie.Start
