@@ -127,7 +127,7 @@ def mending_helps():
 
 
 def inputs(decks, files):
-    found = [deck_bytes(deck) for deck in decks] + random_files(SEED, files)
+    found = [*(deck_bytes(deck) for deck in decks), *random_files(SEED, files)]
     return found + [data + bytes(5000) for data in found[-20:]] + [b"", bytes(19), bytes(20), b"\3" + bytes(24)]
 
 

@@ -5,10 +5,10 @@ ghost use Rattle.typed_lists.specs.Told.{toldRoom};
 ghost use Rattle.listing.specs.Holds.{mostLines};
 ghost use Rattle.text_stream.specs.Feeding.{lineRoom, Sane};
 use options::Asked;
+use shell::names;
 use shell::names::LABEL;
 use shell::reading;
 use shell::reading::Input;
-use shell::sources;
 use text_stream::Feeding;
 
 // So many bytes are read at a time.
@@ -59,14 +59,16 @@ pub fn read_asked(asked: Asked, line: &mut [u8], out: &mut [u8]) -> Text
         (r .feeding .listing .lines + 1 < mostLines) ⌝ }
 {
     let mut label = [0u8; LABEL];
-    let source = sources::begin(b"deckmake", asked, &mut label);
-    if source.fd < 0 {
+    let end = names::put_label(b"deckmake", asked.first, b"standard input", &mut label);
+    let fd = reading::open(asked.first);
+    if fd < 0 {
+        os::fail(&label[..end]);
         let feeding = text_stream::start();
         return Text {
             feeding,
             failed: true,
         };
     }
-    let end = source.end;
-    read_text(source.fd, &label[..end], line, out)
+    reading::tell_waiting(b"deckmake", fd);
+    read_text(fd, &label[..end], line, out)
 }
