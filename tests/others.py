@@ -63,6 +63,7 @@ TESTS = tuple(Test(*line) for line in (
     ("the published figures are what the proved programs print", "python3 -m tests.published", False),
     ("the headers declare the C calls as they are defined", "python3 -m tests.signatures", False),
     ("numbers by their names, and the form of the code", "python3 -m tests.form", False),
+    ("proofs name the points of the code, and no chain is long", "python3 -m tests.ladders", False),
 ))
 
 

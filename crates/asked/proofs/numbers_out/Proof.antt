@@ -16,7 +16,11 @@ above-unit-requires-2 : tie.Need-above-unit-requires-2
 above-unit-requires-2 c κs = search needs
 
 returns-2 : tie.Need-returns-2
-returns-2 c = let x = c .before .before .before .before .before .args in c .above-unit2 .ensures ∙ sym (ap (λ b. b || someAbove (x .all) (x .own .now)) (sym (c .before .before .above-unit .ensures) ∙ c .before .if1 .left))
+returns-2 c =
+    let after-above-unit = c .before .before in
+    let start = after-above-unit .before .before .before in
+    let x = start .args in
+    c .above-unit2 .ensures ∙ sym (ap (λ b. b || someAbove (x .all) (x .own .now)) (sym (after-above-unit .above-unit .ensures) ∙ c .before .if1 .left))
 
 pub numbers-out-spec : {M : Type 1} → statement M
 numbers-out-spec = tie.close (tie.spec above-unit-requires returns above-unit-requires-2 returns-2)

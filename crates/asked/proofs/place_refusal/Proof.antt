@@ -30,16 +30,22 @@ stretch-out-requires c κs = search needs
 returns-3 : tie.Need-returns-3
 unfolding placeRefusal
 returns-3 c =
-    let one = sym (c .before .before .before .before .before .kind-out .ensures) ∙ c .before .before .before .before .if1 .left in
-    let two = sym (c .before .before .before .size-out .ensures) ∙ c .before .before .if2 .left in
+    let after-size-out = c .before .before .before in
+    let else1 = after-size-out .before in
+    let after-kind-out = else1 .before in
+    let one = sym (after-kind-out .kind-out .ensures) ∙ else1 .if1 .left in
+    let two = sym (after-size-out .size-out .ensures) ∙ c .before .before .if2 .left in
     let three = sym (c .before .stretch-out .ensures) ∙ c .if3 .taken in
     sym (first-after 1 _ _ one ∙ first-after 2 _ _ two ∙ first-of 3 _ _ three)
 
 returns-4 : tie.Need-returns-4
 unfolding placeRefusal firstOf
 returns-4 c =
-    let one = sym (c .before .before .before .before .before .kind-out .ensures) ∙ c .before .before .before .before .if1 .left in
-    let two = sym (c .before .before .before .size-out .ensures) ∙ c .before .before .if2 .left in
+    let after-size-out = c .before .before .before in
+    let else1 = after-size-out .before in
+    let after-kind-out = else1 .before in
+    let one = sym (after-kind-out .kind-out .ensures) ∙ else1 .if1 .left in
+    let two = sym (after-size-out .size-out .ensures) ∙ c .before .before .if2 .left in
     let three = sym (c .before .stretch-out .ensures) ∙ c .if3 .left in
     rw (one, two, three)
 

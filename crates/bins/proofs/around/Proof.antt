@@ -38,8 +38,10 @@ part-requires c κs =
 
 add-sum : tie.Need-add-sum Inv-loop μ-loop
 add-sum c =
-    let v = c .before .before .loop .inv in
-    let a = c .before .before .before .before .before .args in
+    let at-loop = c .before .before in
+    let start = at-loop .before .before .before in
+    let v = at-loop .loop .inv in
+    let a = start .args in
     omega (arith, c .part .ensures, sum-step (term (a .top) (a .table .now)) _ _ (v .2 .fits) (omega arith) (v .3) .1)
 
 add-m : tie.Need-add-m Inv-loop μ-loop
@@ -50,8 +52,10 @@ loop-less c = search needs
 
 loop-again : tie.Need-loop-again Inv-loop μ-loop
 loop-again c =
-    let v = c .before .before .loop .inv in
-    let a = c .before .before .before .before .before .args in
+    let at-loop = c .before .before in
+    let start = at-loop .before .before .before in
+    let v = at-loop .loop .inv in
+    let a = start .args in
     (omega arith, v .1, v .2, omega (arith, sum-step (term (a .top) (a .table .now)) _ _ (v .2 .fits) (omega arith) (v .3) .0))
 
 returns : tie.Need-returns Inv-loop μ-loop

@@ -22,8 +22,10 @@ slice-write-table c = search needs
 
 loop-holds : tie.Need-loop-holds Inv-loop μ-loop
 loop-holds c =
-    let p = c .before .before .before .before .before .pre in
-    let m = first-row p (c .before .before .zero .ensures) in
+    let after-zero = c .before .before in
+    let start = after-zero .before .before .before in
+    let p = start .pre in
+    let m = first-row p (after-zero .zero .ensures) in
     (search needs, sized-same (m .rest .long) p, record { filled = m .filled; rest = outside-none })
 
 next-requires : tie.Need-next-requires Inv-loop μ-loop
@@ -39,14 +41,18 @@ loop-less c = search needs
 
 loop-again : tie.Need-loop-again Inv-loop μ-loop
 loop-again c =
-    let v = c .before .before .before .before .before .loop .inv in
-    let m = c .before .before .next .ensures in
+    let after-next = c .before .before in
+    let at-loop = after-next .before .before .before in
+    let v = at-loop .loop .inv in
+    let m = after-next .next .ensures in
     (omega arith, v .1, record { filled = rows-fewer (omega arith) (m .filled); rest = outside-then (v .2 .rest) (m .rest) })
 
 returns : tie.Need-returns Inv-loop μ-loop
 returns c =
+    let after-zero = c .before .before .before .before in
+    let start = after-zero .before .before .before in
     let v = c .before .loop .inv in
-    let m = first-row (c .before .before .before .before .before .before .before .pre) (c .before .before .before .before .zero .ensures) in
+    let m = first-row (start .pre) (after-zero .zero .ensures) in
     record { filled = rows-fewer (omega arith) (v .2 .filled); rest = outside-then (m .rest) (v .2 .rest) }
 
 same-length : tie.Need-same-length Inv-loop μ-loop

@@ -57,8 +57,10 @@ loop-less c = search needs
 loop-again : tie.Need-loop-again Inv-loop μ-loop
 unfolding shift
 loop-again c =
-    let p = c .before .before .before .before .before .pre in
-    let l = c .before .before .before .loop in
+    let at-loop = c .before .before .before in
+    let start = at-loop .before .before in
+    let p = start .pre in
+    let l = at-loop .loop in
     let o : l .j + 1 ≡ suc (l .j) = omega arith in
     let next = slid _ (p .0) (p .2) refl (l .inv .2) (omega arith) (l .inv .1) .0 in (
       search needs,

@@ -16,11 +16,14 @@ tally-requires c κs = countable _ _ _ _ _ (c .before .before .before .refusal .
 
 zero-requires : tie.Need-zero-requires
 zero-requires c κs =
-    let f = c .before .before .before .before .before in
-    let r = f .before .before .before .before in
-    let a = r .before .before .before .before .args in
-    let able = countable (a .rule) (a .n) (a .weights .now) (a .table .now) (a .room .now) (r .refusal .ensures) (f .before .before .before .if1 .left) in
-    omega (arith, able .long, f .tally .ensures .used .long)
+    let after-table = c .before .before .before .before in
+    let after-tally = after-table .before in
+    let else1 = after-tally .before .before .before in
+    let after-refusal = else1 .before in
+    let start = after-refusal .before .before .before .before in
+    let a = start .args in
+    let able = countable (a .rule) (a .n) (a .weights .now) (a .table .now) (a .room .now) (after-refusal .refusal .ensures) (else1 .if1 .left) in
+    omega (arith, able .long, after-tally .tally .ensures .used .long)
 
 same-length : tie.Need-same-length
 same-length c = search needs
@@ -30,9 +33,11 @@ same-length-2 c = search needs
 
 returns-2 : tie.Need-returns-2
 returns-2 c =
-    let f = c .before .before .before .before .before .before .before .before in
-    let r = f .before .before .before .before in
-    counted _ _ _ _ _ (r .refusal .ensures) (f .before .before .before .if1 .left) (f .tally .ensures) (c .before .before .zero .ensures)
+    let known4 = c .before .before .before .before in
+    let after-tally = known4 .before .before .before .before in
+    let else1 = after-tally .before .before .before in
+    let after-refusal = else1 .before in
+    counted _ _ _ _ _ (after-refusal .refusal .ensures) (else1 .if1 .left) (after-tally .tally .ensures) (c .before .before .zero .ensures)
 
 pub counts-spec : {M : Type 1} → statement M
 counts-spec =

@@ -36,9 +36,11 @@ returns-3 c =
 
 returns-4 : tie.Need-returns-4
 returns-4 c =
-    let first = c .before .before .before .before .before in
-    let e = c .before .before .before .rule-refusal .ensures in
-    let a = first .before .before .before .args in
+    let after-rule-refusal = c .before .before .before in
+    let first = after-rule-refusal .before .before in
+    let start = first .before .before .before in
+    let e = after-rule-refusal .rule-refusal .ensures in
+    let a = start .args in
     rw (← first .before .uncounted .ensures, first .if1 .left)
     (sym
     (after-none _ _ (sym e ∙ c .before .before .if2 .left)
@@ -46,9 +48,11 @@ returns-4 c =
 
 returns-5 : tie.Need-returns-5
 returns-5 c =
-    let first = c .before .before .before .before .before in
-    let e = c .before .before .before .rule-refusal .ensures in
-    let a = first .before .before .before .args in
+    let after-rule-refusal = c .before .before .before in
+    let first = after-rule-refusal .before .before in
+    let start = first .before .before .before in
+    let e = after-rule-refusal .rule-refusal .ensures in
+    let a = start .args in
     rw (← first .before .uncounted .ensures, first .if1 .left)
     (sym
     (after-none _ _ (sym e ∙ c .before .before .if2 .left)

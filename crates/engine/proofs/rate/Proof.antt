@@ -11,42 +11,54 @@ use Rattle.engine.proofs.rate.Tie as tie
 
 line-requires : tie.Need-line-requires
 line-requires c κs =
-    let start = c .before .before .before .before .before .before in
+    let known2 = c .before .before .before .before in
+    let start = known2 .before .before in
     let pre = start .pre in
     in-runs (start .args .decimal) pre (range4 (pre .accepted) (c .before .match .keys1))
 
 ring-requires : tie.Need-ring-requires
 ring-requires c κs =
-    let start = c .before .before .before .before .before .before in
+    let known2 = c .before .before .before .before in
+    let start = known2 .before .before in
     let pre = start .pre in
     in-runs (start .args .decimal) pre (range5 (pre .accepted) (c .before .match .keys2))
 
 line-requires-2 : tie.Need-line-requires-2
 line-requires-2 c κs =
-    let start = c .before .before .before .before .before .before in
+    let known2 = c .before .before .before .before in
+    let start = known2 .before .before in
     let pre = start .pre in
     in-gaps (start .args .decimal) pre (range6 (pre .accepted) (c .before .match .keys3))
 
 ring-requires-2 : tie.Need-ring-requires-2
 ring-requires-2 c κs =
-    let start = c .before .before .before .before .before .before in
+    let known2 = c .before .before .before .before in
+    let start = known2 .before .before in
     let pre = start .pre in
     in-gaps (start .args .decimal) pre (range7 (pre .accepted) (c .before .match .keys4))
 
 rate-requires : tie.Need-rate-requires
 rate-requires c κs =
-    let start = c .before .before .before .before .before .before in
+    let known2 = c .before .before .before .before in
+    let start = known2 .before .before in
     let x = start .args in
     let eight = c .before .match .keys5 in
     in-windows (x .decimal) (start .pre) (beside-more (x .rule) (x .weights .now) (x .more .now) eight) eight
 
 -- a kind from 1 to 8 that is none of 4 to 8
-early : (c : tie.At-match-rest) → c .before .before .before .before .before .args .rule .kind ≤ 3
-early c = omega (arith, c .before .before .before .before .before .pre .accepted .kind-high)
+early : (c : tie.At-match-rest) →
+    let known = c .before .before .before .before in
+    let start = known .before in
+    start .args .rule .kind ≤ 3
+early c =
+    let known = c .before .before .before .before in
+    let start = known .before in
+    omega (arith, start .pre .accepted .kind-high)
 
 rate-requires-2 : tie.Need-rate-requires-2
 rate-requires-2 c κs =
-    let start = c .before .before .before .before .before .before in
+    let known2 = c .before .before .before .before in
+    let start = known2 .before .before in
     let x = start .args in
     in-rows (x .decimal) (start .pre) (beside-early (x .rule) (x .weights .now) (x .more .now) (early (c .before))) (early (c .before))
 
@@ -90,8 +102,11 @@ same-length-5 c = search needs
 returns-5 : tie.Need-returns-5
 unfolding readingOf
 returns-5 c =
-    let x = c .before .before .before .before .before .before .before .before .before .args in
-    let eight = c .before .before .before .before .match .keys5 in
+    let at-match-keys5 = c .before .before .before .before in
+    let known = at-match-keys5 .before .before .before .before in
+    let start = known .before in
+    let x = start .args in
+    let eight = at-match-keys5 .match .keys5 in
     let rate = c .before .before .rate in
     (reads-is _ (x .rule) _ (beside-more (x .rule) (x .weights .now) (x .more .now) eight) (room-is _ (x .rule) _ _ 8 eight (λ up. refl) (rate .ensures .0)), rate .ensures .1)
 
@@ -100,9 +115,12 @@ same-length-6 c = search needs
 
 returns-6 : tie.Need-returns-6
 returns-6 c =
-    let x = c .before .before .before .before .before .before .before .before .before .args in
+    let at-match-rest = c .before .before .before .before in
+    let known = at-match-rest .before .before .before .before in
+    let start = known .before in
+    let x = start .args in
     let rate2 = c .before .before .rate2 in
-    (reads-is _ (x .rule) _ (beside-early (x .rule) (x .weights .now) (x .more .now) (early (c .before .before .before .before))) (rate2 .ensures .0), rate2 .ensures .1)
+    (reads-is _ (x .rule) _ (beside-early (x .rule) (x .weights .now) (x .more .now) (early at-match-rest)) (rate2 .ensures .0), rate2 .ensures .1)
 
 pub rate-spec : {M : Type 1} → statement M
 rate-spec =

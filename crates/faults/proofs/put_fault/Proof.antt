@@ -15,27 +15,35 @@ slice-aggregate-put c = search needs
 
 put-requires : tie.Need-put-requires
 put-requires c κs =
-    let start = c .before .before .before .before .before .before .before .before in
-    let spot = c .before .before .before .before .put-spot in
+    let after-put-spot = c .before .before .before .before in
+    let start = after-put-spot .before .before .before .before in
+    let spot = after-put-spot .put-spot in
     omega (arith, start .pre, spot .kept, spot .ensures .ends, spot-short (start .args .line) (start .args .word .now))
 
 put-wanted-requires : tie.Need-put-wanted-requires
 put-wanted-requires c κs =
-    let start = c .before .before .before .before .before .before .before .before .before .before .before .before in
-    let spot = c .before .before .before .before .before .before .before .before .put-spot in
+    let after-put = c .before .before .before in
+    let after-out = after-put .before .before .before .before in
+    let after-put-spot = after-out .before in
+    let start = after-put-spot .before .before .before .before in
+    let spot = after-put-spot .put-spot in
     let short = spot-short (start .args .line) (start .args .word .now) in
-    let middle = put-added (omega (arith, start .pre, spot .kept, spot .ensures .ends, short)) (c .before .before .before .put .ensures) in
-    omega (arith, start .pre, spot .kept, spot .ensures .ends, short, c .before .before .before .put .kept, middle .ends)
+    let middle = put-added (omega (arith, start .pre, spot .kept, spot .ensures .ends, short)) (after-put .put .ensures) in
+    omega (arith, start .pre, spot .kept, spot .ensures .ends, short, after-put .put .kept, middle .ends)
 
 slice-aggregate-put-2 : tie.Need-slice-aggregate-put-2
 slice-aggregate-put-2 c = search needs
 
 put-requires-2 : tie.Need-put-requires-2
 put-requires-2 c κs =
-    let put = c .before .before .before .before .before .before .before .before .put in
-    let start = c .before .before .before .before .before .before .before .before .before .before .before .before .before .before .before .before .before in
-    let spot = c .before .before .before .before .before .before .before .before .before .before .before .before .before .put-spot in
-    let wanted = c .before .before .before .before .put-wanted in
+    let after-put-wanted = c .before .before .before .before in
+    let after-put = after-put-wanted .before .before .before .before in
+    let after-out = after-put .before .before .before .before in
+    let after-put-spot = after-out .before in
+    let start = after-put-spot .before .before .before .before in
+    let put = after-put .put in
+    let spot = after-put-spot .put-spot in
+    let wanted = after-put-wanted .put-wanted in
     let short = spot-short (start .args .line) (start .args .word .now) in
     let middle = put-added (omega (arith, start .pre, spot .kept, spot .ensures .ends, short)) (put .ensures) in
     omega (arith, start .pre, spot .kept, spot .ensures .ends, short, put .kept, middle .ends, wanted .kept, wanted .ensures .ends, wanted-short (start .args .wanted) (start .args .named))
@@ -46,11 +54,16 @@ same-length c = search needs
 returns : tie.Need-returns
 unfolding faultText
 returns c =
-    let put = c .before .before .before .before .before .before .before .before .before .before .before .put in
+    let after-put-arg3 = c .before .before .before .before in
+    let after-put-wanted = after-put-arg3 .before .before .before in
+    let after-put = after-put-wanted .before .before .before .before in
+    let after-out = after-put .before .before .before .before in
+    let after-put-spot = after-out .before in
+    let start = after-put-spot .before .before .before .before in
+    let put = after-put .put in
     let put2 = c .before .before .put2 in
-    let start = c .before .before .before .before .before .before .before .before .before .before .before .before .before .before .before .before .before .before .before .before in
-    let spot = c .before .before .before .before .before .before .before .before .before .before .before .before .before .before .before .before .put-spot in
-    let wanted = c .before .before .before .before .before .before .before .put-wanted in
+    let spot = after-put-spot .put-spot in
+    let wanted = after-put-wanted .put-wanted in
     let short = spot-short (start .args .line) (start .args .word .now) in
     let middle = put-added (omega (arith, start .pre, spot .kept, spot .ensures .ends, short)) (put .ensures) in
     let three = added-more (added-more (spot .ensures) middle) (wanted .ensures) in

@@ -20,22 +20,31 @@ put-requires c κs = search needs
 
 put-shown-requires : tie.Need-put-shown-requires
 put-shown-requires c κs =
-    let start = c .before .before .before .before .before .before .before .before .before .before .before .before .before in
-    let number = c .before .before .before .before .before .before .before .before .put-named in
+    let after-put = c .before .before .before in
+    let after-out = after-put .before .before .before .before in
+    let after-put-named = after-out .before in
+    let after-put-named-arg = after-put-named .before .before in
+    let start = after-put-named-arg .before .before .before in
+    let number = after-put-named .put-named in
     let one = named-added (omega (arith, start .pre)) (number .ensures) in
     let reach = named-reach (text "line ") (start .args .line) one in
-    let two = put-added (omega (arith, start .pre, number .kept, reach)) (c .before .before .before .put .ensures) in
-    omega (arith, start .pre, number .kept, reach, c .before .before .before .put .kept, two .ends)
+    let two = put-added (omega (arith, start .pre, number .kept, reach)) (after-put .put .ensures) in
+    omega (arith, start .pre, number .kept, reach, after-put .put .kept, two .ends)
 
 same-length : tie.Need-same-length
 same-length c = search needs
 
 returns : tie.Need-returns
 returns c =
-    let put = c .before .before .before .before .before .before .put in
-    let put-shown = c .before .before .put-shown in
-    let start = c .before .before .before .before .before .before .before .before .before .before .before .before .before .before .before .before in
-    let number = c .before .before .before .before .before .before .before .before .before .before .before .put-named in
+    let after-put-shown = c .before .before in
+    let after-put = after-put-shown .before .before .before .before in
+    let after-out = after-put .before .before .before .before in
+    let after-put-named = after-out .before in
+    let after-put-named-arg = after-put-named .before .before in
+    let start = after-put-named-arg .before .before .before in
+    let put = after-put .put in
+    let put-shown = after-put-shown .put-shown in
+    let number = after-put-named .put-named in
     let one = named-added (omega (arith, start .pre)) (number .ensures) in
     let reach = named-reach (text "line ") (start .args .line) one in
     added-more (added-more one (put-added (omega (arith, start .pre, number .kept, reach)) (put .ensures))) (put-shown .ensures)

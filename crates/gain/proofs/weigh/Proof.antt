@@ -11,7 +11,10 @@ use Rattle.gain.proofs.weigh.Tie as tie
 
 -- the refusal that is worked out is the gain's
 abbrev entry : tie.After-fan-refusal → tie.Start
-entry c = let lent = c .before .before .before .before in lent .before .before .before .before .before
+entry c =
+    let lent = c .before .before .before .before in
+    let known = lent .before .before .before .before in
+    known .before
 
 refused : (c : tie.After-fan-refusal) → let x = entry c .args in
     c .fan-refusal .result

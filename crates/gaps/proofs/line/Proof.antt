@@ -12,12 +12,17 @@ settle-requires : tie.Need-settle-requires
 settle-requires c κs = search needs
 
 start-requires : tie.Need-start-requires
-start-requires c κs = omega (arith, c .before .before .before .before .before .before .pre .two)
+start-requires c κs =
+    let after-settle = c .before .before in
+    let start = after-settle .before .before .before .before in
+    omega (arith, start .pre .two)
 
 begin-requires : tie.Need-begin-requires
 begin-requires c κs =
-    let pre = c .before .before .before .before .before .before .before .before .pre in
-    let settle = c .before .before .before .before .settle in
+    let after-settle = c .before .before .before .before in
+    let start = after-settle .before .before .before .before in
+    let pre = start .pre in
+    let settle = after-settle .settle in
     start-begun pre (c .before .start .ensures) (settle .ensures .0) (settle .ensures .1)
 
 reach-requires : tie.Need-reach-requires
@@ -31,10 +36,14 @@ same-length c = search needs
 
 returns : tie.Need-returns
 returns c =
-    let settle = c .before .before .before .before .before .before .before .before .before .before .before .before .before .settle in
-    let start = c .before .before .before .before .before .before .before .before .before .before .start in
-    let begin = c .before .before .before .before .before .before .before .before .begin in
-    let reach = c .before .before .before .before .reach in
+    let after-reach = c .before .before .before .before in
+    let after-begin = after-reach .before .before .before .before in
+    let after-start = after-begin .before .before in
+    let after-settle = after-start .before .before .before in
+    let settle = after-settle .settle in
+    let start = after-start .start in
+    let begin = after-begin .begin in
+    let reach = after-reach .reach in
     let z = rw (ap (λ m. m .clean) (start .ensures)) at (reached-on (begin .ensures) (reach .ensures)) in
     (line-is z (c .read .ensures), kept-trans (settle .ensures .1) (z .kept))
 

@@ -17,14 +17,16 @@ failure-requires c κs = rw (c .chance .ensures) (c .before .before .before .bef
 
 step-requires : tie.Need-step-requires
 step-requires c κs =
-    let pre = c .before .before .before .before .before .pre in
-    let args = c .before .before .before .before .before .args in
+    let after-past = c .before .before in
+    let start = after-past .before .before .before in
+    let pre = start .pre in
+    let args = start .args in
     let list = pre .passable .holds .asked .list in
     record {
       survival = rw (c .before .chance .ensures) (list .units _);
       rest = c .failure .ensures;
       left = pre .works-small;
-      right = valued-within (list .whole) (owing (args .r)) (args .survival .now) (list .units) (args .i) (args .m) (c .before .before .past .ensures);
+      right = valued-within (list .whole) (owing (args .r)) (args .survival .now) (list .units) (args .i) (args .m) (after-past .past .ensures);
     }
 
 returns : tie.Need-returns

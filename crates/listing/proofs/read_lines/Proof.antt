@@ -56,7 +56,8 @@ add-at : tie.Need-add-at Inv-loop μ-loop
 add-at c =
     let read = c .before .before in
     let tested = read .before .before .before .before in
-    let start = tested .before .before .before .before .before .before .before in
+    let after-table = tested .before .before .before .before in
+    let start = after-table .before .before .before in
     omega (arith, tested .before .line-end .ensures .high, tested .if1 .left, start .pre .1)
 
 loop-less : tie.Need-loop-less Inv-loop μ-loop

@@ -14,8 +14,9 @@ slice-aggregate-tell c = search needs
 
 tell-requires : tie.Need-tell-requires
 tell-requires c κs =
-    let start = c .before .before .before .before .before .before in
-    let count-line = c .before .before .count-line in
+    let after-count-line = c .before .before in
+    let start = after-count-line .before .before .before .before in
+    let count-line = after-count-line .count-line in
     count-line .ensures .sane _ (start .pre .1)
 
 same-length : tie.Need-same-length
@@ -44,10 +45,11 @@ count-line-requires-2 c κs = search needs
 
 returns-2 : tie.Need-returns-2
 returns-2 c =
-    let test = c .before .before .before .if1 in
+    let else1 = c .before .before .before in
+    let start = else1 .before .before .before in
+    let test = else1 .if1 in
     let next = c .before .before .next in
     let test2 = c .before .if2 in
-    let start = c .before .before .before .before .before .before in
     let counts = c .count-line2 .ensures in
     record {
       sane = counts .sane _ (start .pre .1);
@@ -63,11 +65,15 @@ same-length-2 c = search needs
 
 returns-3 : tie.Need-returns-3
 returns-3 c =
-    let next = c .before .before .before .before .before .next in
-    let test = c .before .before .before .before .before .before .if1 in
-    let test2 = c .before .before .before .before .if2 in
+    let else2 = c .before .before .before .before in
+    let after-next = else2 .before in
+    let else1 = after-next .before in
+    let start = else1 .before .before .before in
+    let next = after-next .next in
+    let test = else1 .if1 in
+    let test2 = else2 .if2 in
     let with-words = c .before .before .with-words in
-    let x = c .before .before .before .before .before .before .before .before .before .args in
+    let x = start .args in
     let n = next .ensures in
     record {
       sane = with-words .ensures .sane;

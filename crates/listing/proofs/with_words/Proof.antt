@@ -28,7 +28,8 @@ array-read-tell c = search needs
 tell-requires : tie.Need-tell-requires
 tell-requires c κs =
     let next = c .before .before .before .before in
-    let start = next .before .before .before .before .before in
+    let after-read-line = next .before .before in
+    let start = after-read-line .before .before .before in
     next .count-line .ensures .sane _ (start .pre .1)
 
 same-length : tie.Need-same-length
@@ -36,10 +37,14 @@ same-length c = search needs
 
 returns : tie.Need-returns
 returns c =
-    let count-line = c .before .before .before .before .before .before .before .count-line in
-    let read-line = c .before .before .before .before .before .before .before .before .before .read-line in
-    let test = c .before .before .before .before .before .if1 in
-    let tell = c .before .before .tell in
+    let after-tell = c .before .before in
+    let then1 = after-tell .before .before .before in
+    let after-count-line = then1 .before .before in
+    let after-read-line = after-count-line .before .before in
+    let count-line = after-count-line .count-line in
+    let read-line = after-read-line .read-line in
+    let test = then1 .if1 in
+    let tell = after-tell .tell in
     record {
       sane = tell .ensures .sane;
       few = omega (arith, tell .ensures .few, count-line .ensures .one);
@@ -59,9 +64,11 @@ part-added-end c = search needs
 
 added-requires : tie.Need-added-requires
 added-requires c κs =
-    let start = c .before .before .before .before .before .before .before .before .before in
-    let count-line = c .before .before .before .before .count-line in
-    let read-line = c .before .before .before .before .before .before .read-line in
+    let after-count-line = c .before .before .before .before in
+    let after-read-line = after-count-line .before .before in
+    let start = after-read-line .before .before .before in
+    let count-line = after-count-line .count-line in
+    let read-line = after-read-line .read-line in
     (count-line .ensures .sane _ (start .pre .1), within-read (start .args .listing) _ _ (read-line .ensures))
 
 same-length-2 : tie.Need-same-length-2
@@ -69,10 +76,14 @@ same-length-2 c = search needs
 
 returns-2 : tie.Need-returns-2
 returns-2 c =
-    let count-line = c .before .before .before .before .before .before .before .count-line in
-    let read-line = c .before .before .before .before .before .before .before .before .before .read-line in
-    let test = c .before .before .before .before .before .if1 in
-    let added = c .before .before .added in
+    let after-added = c .before .before in
+    let else1 = after-added .before .before .before in
+    let after-count-line = else1 .before .before in
+    let after-read-line = after-count-line .before .before in
+    let count-line = after-count-line .count-line in
+    let read-line = after-read-line .read-line in
+    let test = else1 .if1 in
+    let added = after-added .added in
     record {
       sane = added .ensures .sane;
       few = omega (arith, added .ensures .few, count-line .ensures .one);

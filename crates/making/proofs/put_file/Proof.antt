@@ -10,17 +10,30 @@ use Rattle.making.proofs.put_file.Statement.{statement}
 use Rattle.making.proofs.put_file.Tie as tie
 
 cast-numbers : tie.Need-cast-numbers
-cast-numbers c = omega (arith, c .before .before .before .before .before .before .before .pre .fans .few)
+cast-numbers c =
+    let after-survival = c .before .before .before .before in
+    let start = after-survival .before .before .before in
+    omega (arith, start .pre .fans .few)
 
 numbers-requires : tie.Need-numbers-requires
-numbers-requires c κs = omega (arith, c .before .before .before .before .before .before .before .pre .systems)
+numbers-requires c κs =
+    let after-survival = c .before .before .before .before in
+    let start = after-survival .before .before .before in
+    omega (arith, start .pre .systems)
 
 mul-end : tie.Need-mul-end
-mul-end c = omega (arith, c .before .before .before .before .before .before .before .before .before .pre .systems)
+mul-end c =
+    let after-boards = c .before .before .before .before in
+    let after-fans = after-boards .before .before .before in
+    let start = after-fans .before .before in
+    omega (arith, start .pre .systems)
 
 array-share-prefix-survival : tie.Need-array-share-prefix-survival
 array-share-prefix-survival c =
-    let pre = c .before .before .before .before .before .before .before .before .before .pre in
+    let after-boards = c .before .before .before .before in
+    let after-fans = after-boards .before .before .before in
+    let start = after-fans .before .before in
+    let pre = start .pre in
     omega (arith, pre .fans .few, pre .fans .survival)
 
 slice-aggregate-write-deck : tie.Need-slice-aggregate-write-deck
@@ -28,7 +41,10 @@ slice-aggregate-write-deck c = sym (length-take-le _ _ (array-share-prefix-survi
 
 array-share-prefix-weights : tie.Need-array-share-prefix-weights
 array-share-prefix-weights c =
-    let pre = c .before .before .before .before .before .before .before .before .before .before .pre in
+    let after-switchboards = c .before .before .before .before in
+    let after-fans = after-switchboards .before .before .before .before in
+    let start = after-fans .before .before in
+    let pre = start .pre in
     omega (arith, pre .fans .few, pre .fans .weights)
 
 slice-aggregate-write-deck-2 : tie.Need-slice-aggregate-write-deck-2
@@ -36,7 +52,10 @@ slice-aggregate-write-deck-2 c = sym (length-take-le _ _ (array-share-prefix-wei
 
 array-share-prefix-boards : tie.Need-array-share-prefix-boards
 array-share-prefix-boards c =
-    let pre = c .before .before .before .before .before .before .before .before .before .before .before .pre in
+    let after-typed = c .before .before .before .before in
+    let after-survival = after-typed .before .before .before .before in
+    let start = after-survival .before .before .before in
+    let pre = start .pre in
     omega (arith, pre .fans .few, pre .fans .boards)
 
 slice-aggregate-write-deck-3 : tie.Need-slice-aggregate-write-deck-3
@@ -44,14 +63,22 @@ slice-aggregate-write-deck-3 c = sym (length-take-le _ _ (array-share-prefix-boa
 
 array-share-prefix-switchboards : tie.Need-array-share-prefix-switchboards
 array-share-prefix-switchboards c =
-    let pre = c .before .before .before .before .before .before .before .before .before .before .before .before .pre in
+    let after-numbers = c .before .before .before .before in
+    let after-weights = after-numbers .before .before .before .before in
+    let start = after-weights .before .before .before .before in
+    let pre = start .pre in
     omega (arith, pre .boards, pre .switchboards)
 
 slice-aggregate-write-deck-4 : tie.Need-slice-aggregate-write-deck-4
 slice-aggregate-write-deck-4 c = sym (length-take-le _ _ (array-share-prefix-switchboards (c .before)))
 
 array-share-prefix-numbers : tie.Need-array-share-prefix-numbers
-array-share-prefix-numbers c = omega (arith, c .before .before .before .before .before .before .before .before .before .before .before .before .before .pre .systems)
+array-share-prefix-numbers c =
+    let after-survival2 = c .before .before .before in
+    let after-switchboards = after-survival2 .before .before .before .before in
+    let after-fans = after-switchboards .before .before .before .before in
+    let start = after-fans .before .before in
+    omega (arith, start .pre .systems)
 
 slice-aggregate-write-deck-5 : tie.Need-slice-aggregate-write-deck-5
 slice-aggregate-write-deck-5 c = sym (length-take-le _ _ (array-share-prefix-numbers (c .before)))
@@ -70,9 +97,13 @@ same-length c = search needs
 
 returns : tie.Need-returns
 returns c =
-    let wrote = c .before .before .before .before .before .write-deck in
-    let typed = c .before .before .before .before .before .before .before .before .before .before .before .before .before .numbers in
-    let wrote-file = rw (c .before .written .given .1) at (wrote .ensures) in
+    let after-written = c .before in
+    let after-write-deck = after-written .before .before .before .before in
+    let after-boards2 = after-write-deck .before .before .before .before in
+    let after-numbers = after-boards2 .before .before .before .before in
+    let wrote = after-write-deck .write-deck in
+    let typed = after-numbers .numbers in
+    let wrote-file = rw (after-written .written .given .1) at (wrote .ensures) in
     record {
       counts = written-counts _ _ _ _ wrote-file;
       stands = λ s told h none.
@@ -85,13 +116,17 @@ same-length-2 c = search needs
 
 returns-2 : tie.Need-returns-2
 returns-2 c =
-    let wrote = c .before .before .before .before .before .write-deck in
-    let typed = c .before .before .before .before .before .before .before .before .before .before .before .before .before .numbers in
+    let after-written2 = c .before in
+    let after-write-deck = after-written2 .before .before .before .before in
+    let after-boards2 = after-write-deck .before .before .before .before in
+    let after-numbers = after-boards2 .before .before .before .before in
+    let wrote = after-write-deck .write-deck in
+    let typed = after-numbers .numbers in
     record {
       counts = (omega arith, refl);
       stands = λ s told h none.
           let e = held-typed h (typed .result) (typed .ensures) in
-          absurd (never-other (typedBy s) _ _ none _ (rw (e, c .before .written2 .given .1) at (wrote .ensures)));
+          absurd (never-other (typedBy s) _ _ none _ (rw (e, after-written2 .written2 .given .1) at (wrote .ensures)));
     }
 
 pub put-file-spec : {M : Type 1} → statement M

@@ -26,8 +26,10 @@ slice-aggregate-put c = search needs
 
 put-requires : tie.Need-put-requires
 put-requires c κs =
-    let start = c .before .before .before .before .before .before .before .before .before .before .before .before in
-    let pair = c .before .before .before .before .put-pair in
+    let after-put-pair = c .before .before .before .before in
+    let after-known-told2 = after-put-pair .before .before .before .before in
+    let start = after-known-told2 .before .before .before .before in
+    let pair = after-put-pair .put-pair in
     omega (arith, start .pre, pair .kept, pair-reach (text "system ") _ (text " will be refused ") _ (pair .ensures))
 
 returns : tie.Need-returns
@@ -40,9 +42,13 @@ same-length c = search needs
 
 returns-2 : tie.Need-returns-2
 returns-2 c =
-    let start = c .before .before .before .before .before .before .before .before .before .before .before .before .before .before .before in
-    let is = c .before .before .before .before .before .before .before .before .before .before .before .before .rating2 .given in
-    let pair = c .before .before .before .before .before .before .before .put-pair in
+    let after-put-arg = c .before .before .before .before in
+    let after-put-pair = after-put-arg .before .before .before in
+    let after-known-told2 = after-put-pair .before .before .before .before in
+    let after-rating2 = after-known-told2 .before in
+    let start = after-rating2 .before .before .before in
+    let is = after-rating2 .rating2 .given in
+    let pair = after-put-pair .put-pair in
     let reach = pair-reach (text "system ") _ (text " will be refused ") _ (pair .ensures) in
     rw (is .1) (added-more (pair .ensures) (put-added (omega (arith, start .pre, pair .kept, reach)) (c .before .before .put .ensures)))
 

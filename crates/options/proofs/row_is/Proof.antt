@@ -59,11 +59,12 @@ loop-again c =
 
 returns-3 : tie.Need-returns-3 Inv-loop μ-loop
 returns-3 c =
+    let else1 = c .before .before in
+    let start = else1 .before .before .before in
     let loop = c .before .loop in
-    let start = c .before .before .before .before .before in
     let x = start .args in
     let all = none-left (x .table .now) (rowLength * x .k) (x .word .now) nameLength (loop .j) (omega arith) in
-    simp (le-leb _ _ (c .before .before .if1 .left), sym (loop .inv .1) ∙ all)
+    simp (le-leb _ _ (else1 .if1 .left), sym (loop .inv .1) ∙ all)
 
 pub row-is-spec : {M : Type 1} → statement M
 row-is-spec =

@@ -39,12 +39,17 @@ same-length c = search needs
 
 returns : tie.Need-returns
 returns c =
-    let pointed = c .before .before .before .before .before .before .before .before .before .before .before .before .before in
-    let start = pointed .before .before .before .before .before .before .before .before .before in
-    let named = pointed .before .before .before .before .before .put-named in
+    let after-put-arg4 = c .before .before .before .before in
+    let after-put2 = after-put-arg4 .before .before .before in
+    let after-last-digits = after-put2 .before .before .before in
+    let pointed = after-last-digits .before .before .before in
+    let after-out = pointed .before .before .before .before in
+    let after-put-named = after-out .before in
+    let start = after-put-named .before .before .before .before in
+    let named = after-put-named .put-named in
     let point = pointed .put in
-    let digits = c .before .before .before .before .before .before .before .before .before .before .last-digits in
-    let last = c .before .before .before .before .before .before .before .put2 in
+    let digits = after-last-digits .last-digits in
+    let last = after-put2 .put2 in
     let percent = c .before .before .put3 in
     let name = start .args .name .now in
     let whole = start .args .millionths / million in

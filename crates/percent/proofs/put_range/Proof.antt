@@ -24,8 +24,11 @@ percent-of-requires-2 c κs = search needs
 
 put-percent-requires-2 : tie.Need-put-percent-requires-2
 put-percent-requires-2 c κs =
-    let start = c .before .before .before .before .before .before .before .before .before .before in
-    let first = c .before .before .before .before .before .put-percent in
+    let after-out = c .before .before .before .before in
+    let after-put-percent = after-out .before in
+    let after-percent-of = after-put-percent .before .before in
+    let start = after-percent-of .before .before .before in
+    let first = after-put-percent .put-percent in
     omega (arith, start .pre .1, first .kept, percent-reach (text " ") _ (first .ensures))
 
 same-length : tie.Need-same-length
@@ -33,9 +36,12 @@ same-length c = search needs
 
 returns : tie.Need-returns
 returns c =
-    let down = c .before .before .before .before .before .before .before .before .before .before .percent-of .ensures in
-    let up = c .before .before .before .before .percent-of2 .ensures in
-    let first = rw down at (c .before .before .before .before .before .before .before .before .put-percent .ensures) in
+    let after-percent-of2 = c .before .before .before .before in
+    let after-put-percent = after-percent-of2 .before .before .before .before in
+    let after-percent-of = after-put-percent .before .before in
+    let down = after-percent-of .percent-of .ensures in
+    let up = after-percent-of2 .percent-of2 .ensures in
+    let first = rw down at (after-put-percent .put-percent .ensures) in
     added-more first (rw up at (c .before .before .put-percent2 .ensures))
 
 pub put-range-spec : {M : Type 1} → statement M

@@ -46,8 +46,9 @@ whole-requires c κs = chance c
 
 cast-numbers : tie.Need-cast-numbers Inv-loop μ-loop
 cast-numbers c =
-    let start = c .before .before .before .before .before in
-    let i = c .before .before .before .loop .i in
+    let at-loop = c .before .before .before in
+    let start = at-loop .before .before in
+    let i = at-loop .loop .i in
     omega (arith, c .whole .ensures, small (bits (getD (start .args .floats .now) i nan)) (start .args .up) (chance (c .before)))
 
 add-numbers : tie.Need-add-numbers Inv-loop μ-loop
@@ -67,10 +68,11 @@ loop-less c = search needs
 
 loop-again : tie.Need-loop-again Inv-loop μ-loop
 loop-again c =
-    let start = c .before .before .before .before .before in
+    let at-loop = c .before .before .before in
+    let start = at-loop .before .before in
     let xs = start .args .floats .now in
     let from = start .args .from in
-    let l = c .before .before .before .loop in
+    let l = at-loop .loop in
     let v = c .whole .result in (
       omega arith,
       length-set (l .numbers) (from + l .i) v ∙ l .inv .1,

@@ -36,23 +36,38 @@ past-place q table = place-first (q .rule) (q .a) (q .b) (length (q .survival)) 
 
 -- what is asked, and its refusal, at each stage
 abbrev asked : tie.After-place-refusal → Planned
-asked c = let x = c .before .before .before .before .before .args in plannedOf (x .rule) (x .a) (x .b) (bitsOf (x .survival .now)) (x .weights .now) (x .more .now)
+asked c =
+    let known = c .before .before .before .before in
+    let start = known .before in
+    let x = start .args in
+    plannedOf (x .rule) (x .a) (x .b) (bitsOf (x .survival .now)) (x .weights .now) (x .more .now)
 
 abbrev table : tie.After-place-refusal → List ℕ
-table c = c .before .before .before .before .before .args .table .now
+table c =
+    let known = c .before .before .before .before in
+    let start = known .before in
+    start .args .table .now
 
 place : (c : tie.After-place-refusal) → let q = asked c in c .place-refusal .result ≡ placeRefusal (q .rule) (q .a) (q .b) (length (q .survival))
 place c =
-    let x = c .before .before .before .before .before .args in
+    let known = c .before .before .before .before in
+    let start = known .before in
+    let x = start .args in
     c .place-refusal .ensures ∙ ap (placeRefusal (x .rule) (x .a) (x .b)) (sym (length-map (x .survival .now) bits))
 
-inside : (c : tie.Else1) → let x = c .before .before .before .before .before .before .args in Placed (x .rule) (x .a) (x .b) (length (x .survival .now))
+inside : (c : tie.Else1) →
+    let known2 = c .before .before .before .before in
+    let start = known2 .before .before in
+    let x = start .args in Placed (x .rule) (x .a) (x .b) (length (x .survival .now))
 inside c = placed _ _ _ _ (sym (c .before .place-refusal .ensures) ∙ c .if1 .left)
 
 left1 : (c : tie.Else1) → plannedRefusal (asked (c .before)) (table (c .before)) ≡ firstOf ((18, noChance (floatsOf (asked (c .before)))) ∷ from5 (asked (c .before)) (table (c .before)))
 left1 c = past-place (asked (c .before)) (table (c .before)) ∙ after-none _ _ (sym (place (c .before)) ∙ c .if1 .left)
 
-read : (c : tie.Else1) → let x = c .before .before .before .before .before .before .args in bitsOf (take (x .b - (x .a - 1)) (drop (x .a - 1) (x .survival .now))) ≡ floatsOf (asked (c .before))
+read : (c : tie.Else1) →
+    let known2 = c .before .before .before .before in
+    let start = known2 .before .before in
+    let x = start .args in bitsOf (take (x .b - (x .a - 1)) (drop (x .a - 1) (x .survival .now))) ≡ floatsOf (asked (c .before))
 read c = floats-are _ _ _ _ (inside c .inside)
 
 out : (c : tie.After-outside) → noChance (floatsOf (asked (c .before .before .before))) ≡ c .outside .result
@@ -62,18 +77,34 @@ left2 : (c : tie.Else2) → let q = asked (c .before .before .before .before) in
     plannedRefusal q t ≡ after (partRefusal (q .rule) (q .a) (q .b) (length (q .survival)) (q .weights) (q .more)) (firstOf (from19 q t))
 left2 c = left1 (c .before .before .before) ∙ first-after 18 _ _ (out (c .before) ∙ c .if2 .left) ∙ part-first _ _ _ _ _ _ _
 
-part : (c : tie.After-part-refusal) → let q = asked (c .before .before .before .before .before) in
+part : (c : tie.After-part-refusal) →
+    let after-floats = c .before .before .before in
+    let after-place-refusal = after-floats .before .before in
+    let q = asked after-place-refusal in
     c .part-refusal .result ≡ partRefusal (q .rule) (q .a) (q .b) (length (q .survival)) (q .weights) (q .more)
 part c =
-    let x = c .before .before .before .before .before .before .before .before .before .before .args in
+    let after-floats = c .before .before .before in
+    let known3 = after-floats .before .before .before .before in
+    let start = known3 .before .before .before in
+    let x = start .args in
     c .part-refusal .ensures ∙ ap (λ n. partRefusal (x .rule) (x .a) (x .b) n (x .weights .now) (x .more .now)) (sym (length-map (x .survival .now) bits))
 
-left3 : (c : tie.Else3) → let q = asked (c .before .before .before .before .before .before) in let t = table (c .before .before .before .before .before .before) in
+left3 : (c : tie.Else3) →
+    let after-floats = c .before .before .before .before in
+    let after-place-refusal = after-floats .before .before in
+    let q = asked after-place-refusal in let t = table after-place-refusal in
     plannedRefusal q t ≡ firstOf (from19 q t)
 left3 c = left2 (c .before .before) ∙ after-none _ _ (sym (part (c .before)) ∙ c .if3 .left)
 
-off : (c : tie.After-off-grid) → let q = asked (c .before .before .before .before .before .before .before) in offGrid (q .rule) (floatsOf q) ≡ c .off-grid .result
-off c = sym (c .off-grid .ensures ∙ ap (offGrid (asked (c .before .before .before .before .before .before .before) .rule)) (read (c .before .before .before .before .before .before)))
+off : (c : tie.After-off-grid) →
+    let after-outside = c .before .before .before .before in
+    let after-place-refusal = after-outside .before .before .before in
+    let q = asked after-place-refusal in offGrid (q .rule) (floatsOf q) ≡ c .off-grid .result
+off c =
+    let after-outside = c .before .before .before .before in
+    let else1 = after-outside .before .before in
+    let after-place-refusal = else1 .before in
+    sym (c .off-grid .ensures ∙ ap (offGrid (asked after-place-refusal .rule)) (read else1))
 
 place-refusal-requires : tie.Need-place-refusal-requires
 place-refusal-requires c κs = search needs
@@ -120,7 +151,10 @@ returns-5 c = sym (left3 (c .before .before .before) ∙ first-after 19 _ _ (off
 returns-6 : tie.Need-returns-6
 unfolding firstOf
 returns-6 c =
-    sym (left3 (c .before .before .before) ∙ rw (off (c .before .before) ∙ c .before .if4 .left, le-ltb (length (table (c .before .before .before .before .before .before .before .before .before))) cells (c .if5 .left)))
+    let else3 = c .before .before .before in
+    let after-floats = else3 .before .before .before .before in
+    let after-place-refusal = after-floats .before .before in
+    sym (left3 else3 ∙ rw (off (c .before .before) ∙ c .before .if4 .left, le-ltb (length (table after-place-refusal)) cells (c .if5 .left)))
 
 pub refusal-spec : {M : Type 1} → statement M
 refusal-spec =

@@ -40,9 +40,12 @@ on-grid-requires c κs =
 returns : tie.Need-returns Inv-loop μ-loop
 unfolding someOff
 returns c =
-    let xs = c .before .before .before .before .before .before .args .floats .now in
-    let i = c .before .before .before .before .loop .i in
-    let l = c .before .before .before .loop-test .taken in
+    let in-loop = c .before .before .before in
+    let at-loop = in-loop .before in
+    let start = at-loop .before .before in
+    let xs = start .args .floats .now in
+    let i = at-loop .loop .i in
+    let l = in-loop .loop-test .taken in
     sym (some-found _ _ i (rw (length-map xs bits) l) (ap (λ b. not (onGrid b)) (bits-get xs i l) ∙ ap not (sym (c .before .on-grid .ensures)) ∙ c .if1 .taken))
 
 add-i : tie.Need-add-i Inv-loop μ-loop
@@ -54,11 +57,14 @@ loop-less c = search needs
 loop-again : tie.Need-loop-again Inv-loop μ-loop
 unfolding some
 loop-again c =
-    let xs = c .before .before .before .before .before .before .args .floats .now in
-    let i = c .before .before .before .before .loop .i in (
+    let in-loop = c .before .before .before in
+    let at-loop = in-loop .before in
+    let start = at-loop .before .before in
+    let xs = start .args .floats .now in
+    let i = at-loop .loop .i in (
       omega arith,
-      rw (add-one, c .before .before .before .before .loop .inv .1)
-          (ap (λ b. not (onGrid b)) (bits-get xs i (c .before .before .before .loop-test .taken)) ∙ ap not (sym (c .before .on-grid .ensures)) ∙ c .if1 .left),
+      rw (add-one, at-loop .loop .inv .1)
+          (ap (λ b. not (onGrid b)) (bits-get xs i (in-loop .loop-test .taken)) ∙ ap not (sym (c .before .on-grid .ensures)) ∙ c .if1 .left),
     )
 
 returns-2 : tie.Need-returns-2 Inv-loop μ-loop

@@ -57,20 +57,26 @@ range-out-requires-2 c κs = search needs
 
 returns-5 : tie.Need-returns-5
 returns-5 c =
-    rw (← c .before .before .before .total-of .ensures)
+    let after-total-of = c .before .before .before in
+    let else3 = after-total-of .before in
+    let else1 = else3 .before in
+    rw (← after-total-of .total-of .ensures)
     (sym
-    (weighed _ _ _ _ _ _ (c .before .before .before .before .before .if1 .left) false
+    (weighed _ _ _ _ _ _ (else1 .if1 .left) false
     (not-true _ (sym (c .before .range-out2 .ensures) ∙ c .if5 .taken))
-    (c .before .before .before .before .if3 .left)
+    (else3 .if3 .left)
     (c .before .before .if4 .left)))
 
 returns-6 : tie.Need-returns-6
 returns-6 c =
-    rw (← c .before .before .before .total-of .ensures)
+    let after-total-of = c .before .before .before in
+    let else3 = after-total-of .before in
+    let else1 = else3 .before in
+    rw (← after-total-of .total-of .ensures)
     (sym
-    (weighed _ _ _ _ _ _ (c .before .before .before .before .before .if1 .left) true
+    (weighed _ _ _ _ _ _ (else1 .if1 .left) true
     (not-false _ (sym (c .before .range-out2 .ensures) ∙ c .if5 .left))
-    (c .before .before .before .before .if3 .left)
+    (else3 .if3 .left)
     (c .before .before .if4 .left)))
 
 pub rated-refusal-spec : {M : Type 1} → statement M

@@ -25,7 +25,9 @@ returns-2 c =
 
 rated-refusal-requires : tie.Need-rated-refusal-requires
 rated-refusal-requires c κs =
-    let n = c .before .before .before .before .before .before .args .n in
+    let after-kind-out = c .before .before .before in
+    let start = after-kind-out .before .before .before in
+    let n = start .args .n in
     (within-true 1 n most (not-false (within 1 n most) (sym (c .before .size-out .ensures) ∙ c .if2 .left)) .1, le-refl _)
 
 returns-3 : tie.Need-returns-3

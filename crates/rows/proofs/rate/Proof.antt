@@ -26,56 +26,78 @@ gap-requires c κs = search needs
 
 start-requires : tie.Need-start-requires Inv-loop μ-loop
 start-requires c κs =
-    let pre = c .before .before .before .before .before .before .pre in
-    (record { low = omega (arith, early-is pre .most); room = pre .list .room }, c .before .before .limit .ensures)
+    let after-limit = c .before .before in
+    let start = after-limit .before .before .before .before in
+    let pre = start .pre in
+    (record { low = omega (arith, early-is pre .most); room = pre .list .room }, after-limit .limit .ensures)
 
 clear-requires : tie.Need-clear-requires Inv-loop μ-loop
 clear-requires c κs =
-    let s = c .before .before .before in
-    let g = s .before .before in
-    let pre = g .before .before .before .before .before .pre in
+    let after-start = c .before .before .before in
+    let after-gap = after-start .before .before in
+    let after-limit = after-gap .before in
+    let start = after-limit .before .before .before .before in
+    let pre = start .pre in
     record {
-      low = omega (arith, g .gap .ensures, g .before .limit .ensures, early-is pre .most);
-      room = room-kept (s .start .ensures .kept) (pre .list .room);
+      low = omega (arith, after-gap .gap .ensures, after-limit .limit .ensures, early-is pre .most);
+      room = room-kept (after-start .start .ensures .kept) (pre .list .room);
     }
 
 add-clear : tie.Need-add-clear Inv-loop μ-loop
 add-clear c =
-    let g = c .before .before .before .before .before .before .before .before in
-    let pre = g .before .before .before .before .before .pre in
-    omega (arith, g .before .limit .ensures, early-is pre .most)
+    let known2 = c .before .before .before .before in
+    let after-gap = known2 .before .before .before .before in
+    let after-limit = after-gap .before in
+    let start = after-limit .before .before .before .before in
+    let pre = start .pre in
+    omega (arith, after-limit .limit .ensures, early-is pre .most)
 
 clear-requires-2 : tie.Need-clear-requires-2 Inv-loop μ-loop
 clear-requires-2 c κs =
-    let d = c .before .before .before in
-    let s = d .before .before .before .before in
-    let g = s .before .before in
-    let pre = g .before .before .before .before .before .pre in
+    let after-clear = c .before .before .before in
+    let after-start = after-clear .before .before .before .before in
+    let after-gap = after-start .before .before in
+    let after-limit = after-gap .before in
+    let start = after-limit .before .before .before .before in
+    let pre = start .pre in
     record {
-      low = omega (arith, g .gap .ensures, g .before .limit .ensures, early-is pre .most);
-      room = room-kept (d .clear .ensures .kept) (room-kept (s .start .ensures .kept) (pre .list .room));
+      low = omega (arith, after-gap .gap .ensures, after-limit .limit .ensures, early-is pre .most);
+      room = room-kept (after-clear .clear .ensures .kept) (room-kept (after-start .start .ensures .kept) (pre .list .room));
     }
 
 load-requires : tie.Need-load-requires Inv-loop μ-loop
 load-requires c κs =
-    let g = c .before .before .before .before .before .before .before .before .before .before .before .before in
-    g .before .before .before .before .before .pre .accepted
+    let known3 = c .before .before .before .before in
+    let known2 = known3 .before .before .before .before in
+    let after-gap = known2 .before .before .before .before in
+    let after-limit = after-gap .before in
+    let start = after-limit .before .before .before .before in
+    start .pre .accepted
 
 add-t18 : tie.Need-add-t18 Inv-loop μ-loop
 add-t18 c =
-    let g = c .before .before .before .before .before .before .before .before .before .before .before .before .before in
-    let ok = g .before .before .before .before .before .pre .accepted in
-    omega (arith, c .load .ensures, load-le ok (length (g .before .before .before .before .before .args .survival .now)), ok .size-high)
+    let after-clear2 = c .before .before .before in
+    let after-clear = after-clear2 .before .before .before .before in
+    let after-start = after-clear .before .before .before .before in
+    let after-gap = after-start .before .before in
+    let after-limit = after-gap .before in
+    let start = after-limit .before .before .before .before in
+    let ok = start .pre .accepted in
+    omega (arith, c .load .ensures, load-le ok (length (start .args .survival .now)), ok .size-high)
 
 loop-holds : tie.Need-loop-holds Inv-loop μ-loop
 loop-holds c =
-    let s = c .before .before .before .before .before .before .before .before .before .before .before in
-    let g = s .before .before in
-    let pre = g .before .before .before .before .before .pre in
-    let limit = g .before .limit .ensures in
-    let row = rw limit at (s .start .ensures) in
-    let first = rw (g .gap .ensures, limit) at (c .before .before .before .before .before .before .before .clear .ensures) in
-    let second = rw (g .gap .ensures, limit) at (c .before .before .before .clear2 .ensures) in
+    let after-clear2 = c .before .before .before in
+    let after-clear = after-clear2 .before .before .before .before in
+    let after-start = after-clear .before .before .before .before in
+    let after-gap = after-start .before .before in
+    let after-limit = after-gap .before in
+    let start = after-limit .before .before .before .before in
+    let pre = start .pre in
+    let limit = after-limit .limit .ensures in
+    let row = rw limit at (after-start .start .ensures) in
+    let first = rw (after-gap .gap .ensures, limit) at (after-clear .clear .ensures) in
+    let second = rw (after-gap .gap .ensures, limit) at (after-clear2 .clear2 .ensures) in
     (rw (c .load .ensures) (level-none pre row first second), kept-none)
 
 turn-requires : tie.Need-turn-requires Inv-loop μ-loop
@@ -86,8 +108,10 @@ loop-less c = omega (arith, c .before .before .turn .ensures .is)
 
 loop-again : tie.Need-loop-again Inv-loop μ-loop
 loop-again c =
-    let r = c .before .before .turn .ensures in
-    (r .level, kept-trans (c .before .before .before .before .before .before .loop .inv .1) (r .kept))
+    let after-turn = c .before .before in
+    let at-loop = after-turn .before .before .before .before in
+    let r = after-turn .turn .ensures in
+    (r .level, kept-trans (at-loop .loop .inv .1) (r .kept))
 
 read-requires : tie.Need-read-requires Inv-loop μ-loop
 read-requires c κs =
@@ -96,18 +120,22 @@ read-requires c κs =
 
 same-length : tie.Need-same-length Inv-loop μ-loop
 same-length c =
-    let o = c .before .before .before .before in
-    let d = o .before .before .before .before .before .before .before .before in
-    let second = o .before .before .before .before .clear2 .ensures .kept .long in
-    omega (arith, d .before .before .before .before .start .ensures .kept .long, d .clear .ensures .kept .long, o .loop .inv .1 .long)
+    let at-loop = c .before .before .before .before in
+    let after-clear2 = at-loop .before .before .before .before in
+    let after-clear = after-clear2 .before .before .before .before in
+    let after-start = after-clear .before .before .before .before in
+    let second = after-clear2 .clear2 .ensures .kept .long in
+    omega (arith, after-start .start .ensures .kept .long, after-clear .clear .ensures .kept .long, at-loop .loop .inv .1 .long)
 
 returns : tie.Need-returns Inv-loop μ-loop
 returns c =
-    let o = c .before .before .before .before in
-    let d = o .before .before .before .before .before .before .before .before in
-    let y = o .loop .inv .0 in
-    let first = kept-trans (d .before .before .before .before .start .ensures .kept) (d .clear .ensures .kept) in
-    let kept = kept-trans first (kept-trans (o .before .before .before .before .clear2 .ensures .kept) (o .loop .inv .1)) in
+    let at-loop = c .before .before .before .before in
+    let after-clear2 = at-loop .before .before .before .before in
+    let after-clear = after-clear2 .before .before .before .before in
+    let after-start = after-clear .before .before .before .before in
+    let y = at-loop .loop .inv .0 in
+    let first = kept-trans (after-start .start .ensures .kept) (after-clear .clear .ensures .kept) in
+    let kept = kept-trans first (kept-trans (after-clear2 .clear2 .ensures .kept) (at-loop .loop .inv .1)) in
     (level-read y (omega (arith, y .some)) (c .read .ensures), kept)
 
 pub rate-spec : {M : Type 1} → statement M

@@ -45,13 +45,19 @@ loop-less c = search needs
 
 loop-again : tie.Need-loop-again Inv-loop μ-loop
 loop-again c =
-    let args = c .before .before .before .before .before .before .before .before .before .before .before .args in
-    let pre = c .before .before .before .before .before .before .before .before .before .before .before .pre in
-    let lesser = c .before .before .before .before .before .before .before .before .lesser in
-    let works = c .before .before .before .before .before .before .before .works in
-    let value = c .before .before .before .before .before .before .end-value in
-    let loop = c .before .before .before .before .before .loop in
-    let write = c .before .before .write in
+    let after-write = c .before .before in
+    let at-loop = after-write .before .before .before in
+    let after-end-value = at-loop .before in
+    let after-works = after-end-value .before in
+    let after-lesser = after-works .before in
+    let start = after-lesser .before .before .before in
+    let args = start .args in
+    let pre = start .pre in
+    let lesser = after-lesser .lesser in
+    let works = after-works .works in
+    let value = after-end-value .end-value in
+    let loop = at-loop .loop in
+    let write = after-write .write in
     let short : args .free .lead + args .free .run < args .k = omega (arith, pre .free .none, pre .free .alive) in
     let all = rw (works .ensures ∙ lt-ltb _ _ short) at (value .ensures) in
     (omega arith, written-more (write .ensures) (omega arith) (omega (arith, lesser .ensures, pre .size)) all (loop .inv .1))

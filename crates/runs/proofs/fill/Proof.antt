@@ -21,8 +21,10 @@ decide-requires c κs = search needs
 
 loop-holds : tie.Need-loop-holds Inv-loop μ-loop
 loop-holds c =
-    let pre = c .before .before .before .before .before .before .pre in
-    let decide = c .before .before .decide in
+    let after-decide = c .before .before in
+    let start = after-decide .before .before .before .before in
+    let pre = start .pre in
+    let decide = after-decide .decide in
     let e = decide .ensures .0 in
     (omega arith, λ more. omega (arith, pre .free .alive), rw e (filled-first pre (decide .ensures .1)))
 
@@ -31,18 +33,25 @@ add-left c = search needs
 
 back-requires : tie.Need-back-requires Inv-loop μ-loop
 back-requires c κs =
-    let pre = c .before .before .before .before .before .before .before .before .before .pre in
-    let decide = c .before .before .before .before .before .decide in
-    let loop = c .before .before .loop in
+    let at-loop = c .before .before in
+    let after-decide = at-loop .before .before .before in
+    let start = after-decide .before .before .before .before in
+    let pre = start .pre in
+    let decide = after-decide .decide in
+    let loop = at-loop .loop in
     let v = loop .inv in
     filled-falling (fillable-kept pre (decide .ensures .1 .kept)) (v .2) (c .before .loop-test .taken) (v .1 (c .before .loop-test .taken))
 
 write-requires : tie.Need-write-requires Inv-loop μ-loop
 write-requires c κs =
-    let pre = c .before .before .before .before .before .before .before .before .before .before .before .pre in
-    let decide = c .before .before .before .before .before .before .before .decide in
-    let loop = c .before .before .before .before .loop in
-    let test = c .before .before .before .loop-test in
+    let in-loop = c .before .before .before in
+    let at-loop = in-loop .before in
+    let after-decide = at-loop .before .before .before in
+    let start = after-decide .before .before .before .before in
+    let pre = start .pre in
+    let decide = after-decide .decide in
+    let loop = at-loop .loop in
+    let test = in-loop .loop-test in
     filled-place (fillable-kept pre (decide .ensures .1 .kept)) (loop .inv .2) (test .taken)
 
 loop-less : tie.Need-loop-less Inv-loop μ-loop
@@ -50,11 +59,16 @@ loop-less c = search needs
 
 loop-again : tie.Need-loop-again Inv-loop μ-loop
 loop-again c =
-    let pre = c .before .before .before .before .before .before .before .before .before .before .before .before .before .before .pre in
-    let decide = c .before .before .before .before .before .before .before .before .before .before .decide in
-    let loop = c .before .before .before .before .before .before .before .loop in
-    let test = c .before .before .before .before .before .before .loop-test in
-    let back = c .before .before .before .before .back in
+    let after-back = c .before .before .before .before in
+    let in-loop = after-back .before .before in
+    let at-loop = in-loop .before in
+    let after-decide = at-loop .before .before .before in
+    let start = after-decide .before .before .before .before in
+    let pre = start .pre in
+    let decide = after-decide .decide in
+    let loop = at-loop .loop in
+    let test = in-loop .loop-test in
+    let back = after-back .back in
     let write = c .before .before .write in
     let v = loop .inv in
     let l = test .taken in
@@ -65,9 +79,11 @@ same-length c = kept-trans (c .before .before .before .before .decide .ensures .
 
 returns : tie.Need-returns Inv-loop μ-loop
 returns c =
+    let after-decide = c .before .before .before .before in
+    let start = after-decide .before .before .before .before in
     let v = c .before .loop .inv in
-    let e : c .before .loop .left ≡ c .before .before .before .before .before .before .before .before .args .upto = omega (arith, v .0, c .loop-test .left) in
-    record { row = rw e at (v .2 .row); kept = kept-trans (c .before .before .before .before .decide .ensures .1 .kept) (v .2 .kept) }
+    let e : c .before .loop .left ≡ start .args .upto = omega (arith, v .0, c .loop-test .left) in
+    record { row = rw e at (v .2 .row); kept = kept-trans (after-decide .decide .ensures .1 .kept) (v .2 .kept) }
 
 pub fill-spec : {M : Type 1} → statement M
 fill-spec =

@@ -14,7 +14,10 @@ fill-requires c κs =
     rw (c .before .start .ensures) (record { free = record { none = refl; alive = pre .some }; size = search needs; list = pre .list })
 
 place-requires : tie.Need-place-requires
-place-requires c κs = ap (λ m. m .run) (c .before .before .before .before .before .start .ensures)
+place-requires c κs =
+    let after-fill = c .before .before .before in
+    let after-start = after-fill .before .before in
+    ap (λ m. m .run) (after-start .start .ensures)
 
 read-requires : tie.Need-read-requires
 read-requires c κs = search needs
@@ -24,10 +27,14 @@ same-length c = search needs
 
 returns : tie.Need-returns
 returns c =
-    let pre = c .before .before .before .before .before .before .before .before .before .before .pre in
-    let start = c .before .before .before .before .before .before .before .start in
-    let fill = c .before .before .before .before .before .fill in
-    (line-is pre (filled-at (rw (start .ensures) at (fill .ensures)) (rw (c .before .place .ensures) at (c .read .ensures))), fill .ensures .kept)
+    let after-place = c .before in
+    let after-fill = after-place .before .before .before .before in
+    let after-start = after-fill .before .before in
+    let at-start = after-start .before .before .before in
+    let pre = at-start .pre in
+    let start = after-start .start in
+    let fill = after-fill .fill in
+    (line-is pre (filled-at (rw (start .ensures) at (fill .ensures)) (rw (after-place .place .ensures) at (c .read .ensures))), fill .ensures .kept)
 
 pub line-spec : {M : Type 1} → statement M
 line-spec =

@@ -23,8 +23,11 @@ slice-aggregate-put-pair-4 c = search needs
 
 put-pair-requires-2 : tie.Need-put-pair-requires-2
 put-pair-requires-2 c κs =
-    let start = c .before .before .before .before .before .before .before .before .before .before in
-    let pair = c .before .before .before .before .before .put-pair in
+    let after-out = c .before .before .before .before in
+    let after-put-pair = after-out .before in
+    let after-put-pair-arg = after-put-pair .before .before .before in
+    let start = after-put-pair-arg .before .before in
+    let pair = after-put-pair .put-pair in
     omega (arith, start .pre, pair .kept, pair-reach (text "kind ") _ (text " answered ") _ (pair .ensures))
 
 slice-aggregate-put-two : tie.Need-slice-aggregate-put-two
@@ -35,9 +38,14 @@ slice-aggregate-put-two-2 c = search needs
 
 put-two-requires : tie.Need-put-two-requires
 put-two-requires c κs =
-    let start = c .before .before .before .before .before .before .before .before .before .before .before .before .before .before .before .before in
-    let pair = c .before .before .before .before .before .before .before .before .before .before .before .put-pair in
-    let next = c .before .before .before .before .before .put-pair2 in
+    let after-out2 = c .before .before .before .before in
+    let after-put-pair2 = after-out2 .before in
+    let after-put-pair-arg4 = after-put-pair2 .before .before .before in
+    let after-put-pair = after-put-pair-arg4 .before .before .before in
+    let after-put-pair-arg = after-put-pair .before .before .before in
+    let start = after-put-pair-arg .before .before in
+    let pair = after-put-pair .put-pair in
+    let next = after-put-pair2 .put-pair2 in
     let first = pair-reach (text "kind ") _ (text " answered ") _ (pair .ensures) in
     let second = pair-reach (text " refused 3 ") _ (text " 4 ") _ (next .ensures) in
     omega (arith, start .pre, pair .kept, next .kept, first, second)
@@ -47,7 +55,11 @@ same-length c = search needs
 
 returns : tie.Need-returns
 returns c =
-    added-more (added-more (c .before .before .before .before .before .before .before .before .before .before .before .before .before .before .put-pair .ensures) (c .before .before .before .before .before .before .before .before .put-pair2 .ensures)) (c .before .before .put-two .ensures)
+    let after-put-two-arg2 = c .before .before .before .before in
+    let after-put-pair2 = after-put-two-arg2 .before .before .before .before in
+    let after-put-pair-arg4 = after-put-pair2 .before .before .before in
+    let after-put-pair = after-put-pair-arg4 .before .before .before in
+    added-more (added-more (after-put-pair .put-pair .ensures) (after-put-pair2 .put-pair2 .ensures)) (c .before .before .put-two .ensures)
 
 pub put-answers-spec : {M : Type 1} → statement M
 put-answers-spec =

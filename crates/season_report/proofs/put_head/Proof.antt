@@ -22,8 +22,10 @@ slice-aggregate-put-two-2 c = search needs
 
 put-two-requires : tie.Need-put-two-requires
 put-two-requires c κs =
-    let start = c .before .before .before .before .before .before .before .before .before in
-    let one = c .before .before .before .before .before .put-one in
+    let after-out = c .before .before .before .before in
+    let after-put-one = after-out .before in
+    let start = after-put-one .before .before .before .before in
+    let one = after-put-one .put-one in
     omega (arith, start .pre, one .kept, reach (oneRoom (text "decks ")) (one-short (text "decks ") _) (one .ensures))
 
 slice-aggregate-put-one-2 : tie.Need-slice-aggregate-put-one-2
@@ -31,9 +33,12 @@ slice-aggregate-put-one-2 c = search needs
 
 put-one-requires-2 : tie.Need-put-one-requires-2
 put-one-requires-2 c κs =
-    let start = c .before .before .before .before .before .before .before .before .before .before .before .before .before .before in
-    let one = c .before .before .before .before .before .before .before .before .before .before .put-one in
-    let two = c .before .before .before .before .put-two in
+    let after-put-two = c .before .before .before .before in
+    let after-put-two-arg = after-put-two .before .before .before in
+    let after-put-one = after-put-two-arg .before .before .before in
+    let start = after-put-one .before .before .before .before in
+    let one = after-put-one .put-one in
+    let two = after-put-two .put-two in
     let first = reach (oneRoom (text "decks ")) (one-short (text "decks ") _) (one .ensures) in
     let second = reach (twoRoom (text "files refused ") (text " number ")) (two-short (text "files refused ") _ (text " number ") _) (two .ensures) in
     omega (arith, start .pre, one .kept, two .kept, first, second)
@@ -43,7 +48,11 @@ same-length c = search needs
 
 returns : tie.Need-returns
 returns c =
-    added-more (added-more (c .before .before .before .before .before .before .before .before .before .before .before .before .before .put-one .ensures) (c .before .before .before .before .before .before .before .put-two .ensures)) (c .before .before .put-one2 .ensures)
+    let after-put-one-arg3 = c .before .before .before .before in
+    let after-put-two = after-put-one-arg3 .before .before .before in
+    let after-put-two-arg = after-put-two .before .before .before in
+    let after-put-one = after-put-two-arg .before .before .before in
+    added-more (added-more (after-put-one .put-one .ensures) (after-put-two .put-two .ensures)) (c .before .before .put-one2 .ensures)
 
 pub put-head-spec : {M : Type 1} → statement M
 put-head-spec =

@@ -12,15 +12,20 @@ put-answers-requires c κs = search needs
 
 put-lowest-requires : tie.Need-put-lowest-requires
 put-lowest-requires c κs =
-    let start = c .before .before .before .before .before .before .before .before .before in
-    let answers = c .before .before .before .put-answers in
+    let after-put-answers = c .before .before .before in
+    let after-refused = after-put-answers .before .before .before .before in
+    let start = after-refused .before .before in
+    let answers = after-put-answers .put-answers in
     omega (arith, start .pre, answers .kept, reach answersRoom (answers-short _ _ _) (answers .ensures))
 
 put-widths-requires : tie.Need-put-widths-requires
 put-widths-requires c κs =
-    let start = c .before .before .before .before .before .before .before .before .before .before .before .before .before in
-    let answers = c .before .before .before .before .before .before .before .put-answers in
-    let lowest = c .before .before .before .put-lowest in
+    let after-put-lowest = c .before .before .before in
+    let after-put-answers = after-put-lowest .before .before .before .before in
+    let after-refused = after-put-answers .before .before .before .before in
+    let start = after-refused .before .before in
+    let answers = after-put-answers .put-answers in
+    let lowest = after-put-lowest .put-lowest in
     let first = reach answersRoom (answers-short _ _ _) (answers .ensures) in
     let second = reach lowestRoom (lowest-short _ _) (lowest .ensures) in
     omega (arith, start .pre, answers .kept, lowest .kept, first, second)
@@ -30,7 +35,10 @@ same-length c = search needs
 
 returns : tie.Need-returns
 returns c =
-    added-more (added-more (c .before .before .before .before .before .before .before .before .before .before .put-answers .ensures) (c .before .before .before .before .before .before .put-lowest .ensures)) (c .before .before .put-widths .ensures)
+    let after-put-widths = c .before .before in
+    let after-put-lowest = after-put-widths .before .before .before .before in
+    let after-put-answers = after-put-lowest .before .before .before .before in
+    added-more (added-more (after-put-answers .put-answers .ensures) (after-put-lowest .put-lowest .ensures)) (after-put-widths .put-widths .ensures)
 
 pub put-kind-spec : {M : Type 1} → statement M
 put-kind-spec =

@@ -34,8 +34,9 @@ add-k c = omega arith
 
 put-kind-requires : tie.Need-put-kind-requires Inv-loop μ-loop
 put-kind-requires c κs =
-    let start = c .before .before .before .before .before in
-    let l = c .before .before .before .loop in
+    let at-loop = c .before .before .before in
+    let start = at-loop .before .before in
+    let l = at-loop .loop in
     omega (arith, start .pre, l .inv .1, l .inv .2 .ends, kinds-short (l .k) (start .args .t1))
 
 loop-less : tie.Need-loop-less Inv-loop μ-loop
@@ -44,8 +45,10 @@ loop-less c = omega arith
 loop-again : tie.Need-loop-again Inv-loop μ-loop
 unfolding kindsText
 loop-again c =
-    let l = c .before .before .before .before .before .before .loop in
-    let put = c .before .before .put-kind in
+    let after-put-kind = c .before .before in
+    let at-loop = after-put-kind .before .before .before .before in
+    let l = at-loop .loop in
+    let put = after-put-kind .put-kind in
     (omega arith, omega (arith, put .kept, l .inv .1), rw add-one (added-more (l .inv .2) (rw add-one at (put .ensures))))
 
 same-length : tie.Need-same-length Inv-loop μ-loop

@@ -23,8 +23,11 @@ slice-aggregate-put-pair-4 c = search needs
 
 put-pair-requires-2 : tie.Need-put-pair-requires-2
 put-pair-requires-2 c κs =
-    let start = c .before .before .before .before .before .before .before .before .before .before in
-    let pair = c .before .before .before .before .before .put-pair in
+    let after-out = c .before .before .before .before in
+    let after-put-pair = after-out .before in
+    let after-put-pair-arg = after-put-pair .before .before .before in
+    let start = after-put-pair-arg .before .before in
+    let pair = after-put-pair .put-pair in
     omega (arith, start .pre, pair .kept, pair-reach (text "kind ") _ (text " lowest ") _ (pair .ensures))
 
 slice-aggregate-put-one : tie.Need-slice-aggregate-put-one
@@ -32,9 +35,13 @@ slice-aggregate-put-one c = search needs
 
 put-one-requires : tie.Need-put-one-requires
 put-one-requires c κs =
-    let start = c .before .before .before .before .before .before .before .before .before .before .before .before .before .before .before in
-    let pair = c .before .before .before .before .before .before .before .before .before .before .put-pair in
-    let next = c .before .before .before .before .put-pair2 in
+    let after-put-pair2 = c .before .before .before .before in
+    let after-put-pair-arg4 = after-put-pair2 .before .before .before in
+    let after-put-pair = after-put-pair-arg4 .before .before .before in
+    let after-put-pair-arg = after-put-pair .before .before .before in
+    let start = after-put-pair-arg .before .before in
+    let pair = after-put-pair .put-pair in
+    let next = after-put-pair2 .put-pair2 in
     let first = pair-reach (text "kind ") _ (text " lowest ") _ (pair .ensures) in
     let second = pair-reach (text " unit ") _ (text " deck ") _ (next .ensures) in
     omega (arith, start .pre, pair .kept, next .kept, first, second)
@@ -44,7 +51,11 @@ same-length c = search needs
 
 returns : tie.Need-returns
 returns c =
-    added-more (added-more (c .before .before .before .before .before .before .before .before .before .before .before .before .before .put-pair .ensures) (c .before .before .before .before .before .before .before .put-pair2 .ensures)) (c .before .before .put-one .ensures)
+    let after-put-one-arg = c .before .before .before .before in
+    let after-put-pair2 = after-put-one-arg .before .before .before in
+    let after-put-pair-arg4 = after-put-pair2 .before .before .before in
+    let after-put-pair = after-put-pair-arg4 .before .before .before in
+    added-more (added-more (after-put-pair .put-pair .ensures) (after-put-pair2 .put-pair2 .ensures)) (c .before .before .put-one .ensures)
 
 pub put-lowest-spec : {M : Type 1} → statement M
 put-lowest-spec =

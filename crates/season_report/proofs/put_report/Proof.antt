@@ -13,8 +13,9 @@ put-head-requires c κs = search needs
 
 put-kinds-requires : tie.Need-put-kinds-requires
 put-kinds-requires c κs =
-    let start = c .before .before .before .before .before .before .before in
-    let head = c .before .before .before .put-head in
+    let after-put-head = c .before .before .before in
+    let start = after-put-head .before .before .before .before in
+    let head = after-put-head .put-head in
     omega (arith, start .pre, head .kept, reach headRoom (head-short _ _ _ _) (head .ensures))
 
 slice-aggregate-put-one : tie.Need-slice-aggregate-put-one
@@ -22,9 +23,11 @@ slice-aggregate-put-one c = search needs
 
 put-one-requires : tie.Need-put-one-requires
 put-one-requires c κs =
-    let start = c .before .before .before .before .before .before .before .before .before .before .before .before in
-    let head = c .before .before .before .before .before .before .before .before .put-head in
-    let kinds = c .before .before .before .before .put-kinds in
+    let after-put-kinds = c .before .before .before .before in
+    let after-put-head = after-put-kinds .before .before .before .before in
+    let start = after-put-head .before .before .before .before in
+    let head = after-put-head .put-head in
+    let kinds = after-put-kinds .put-kinds in
     let first = reach headRoom (head-short _ _ _ _) (head .ensures) in
     let second = reach kindsRoom (kinds-short lastKind _) (kinds .ensures) in
     omega (arith, start .pre, head .kept, kinds .kept, first, second)
@@ -34,9 +37,12 @@ same-length c = search needs
 
 returns : tie.Need-returns
 returns c =
+    let after-put-one-arg = c .before .before .before .before in
+    let after-put-kinds = after-put-one-arg .before .before .before in
+    let after-put-head = after-put-kinds .before .before .before .before in
     let all =
     added-more
-    (added-more (c .before .before .before .before .before .before .before .before .before .before .before .put-head .ensures) (c .before .before .before .before .before .before .before .put-kinds .ensures))
+    (added-more (after-put-head .put-head .ensures) (after-put-kinds .put-kinds .ensures))
     (c .before .before .put-one .ensures) in
     record { counts = added-counts all; stands = all .stands }
 

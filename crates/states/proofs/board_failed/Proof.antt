@@ -32,13 +32,18 @@ failed-with-requires : tie.Need-failed-with-requires Inv-loop μ-loop
 failed-with-requires c κs = omega (arith, c .before .before .before .before .pre)
 
 bit-of-requires : tie.Need-bit-of-requires Inv-loop μ-loop
-bit-of-requires c κs = omega (arith, c .before .before .before .before .before .pre)
+bit-of-requires c κs =
+    let at-loop = c .before .before .before in
+    let start = at-loop .before .before in
+    omega (arith, start .pre)
 
 add-after : tie.Need-add-after Inv-loop μ-loop
 add-after c =
-    let l = c .before .before .before .before .loop in
+    let at-loop = c .before .before .before .before in
+    let start = at-loop .before .before in
+    let l = at-loop .loop in
     let sum : c .bit-of .result + l .after < 2 ^ suc (l .i) = rw (c .bit-of .ensures) (more-bit (c .before .failed-with .result) (l .i) (l .after) (l .inv .1)) in
-    omega (arith, sum, pow-mono {i = suc (l .i)} {j = 64} (omega (arith, c .before .before .before .before .before .before .pre)))
+    omega (arith, sum, pow-mono {i = suc (l .i)} {j = 64} (omega (arith, start .pre)))
 
 add-i : tie.Need-add-i Inv-loop μ-loop
 add-i c = omega arith

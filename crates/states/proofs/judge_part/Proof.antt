@@ -74,15 +74,17 @@ on-deck-requires c κs =
 returns-2 : tie.Need-returns-2
 unfolding partVerdict
 returns-2 c =
-    let tested = c .before .before .before .before .before in
-    let x = tested .before .before .before .before .args in
+    let after-state-in = c .before .before .before .before in
+    let tested = after-state-in .before in
+    let start = tested .before .before .before .before in
+    let x = start .args in
     let fit = sound tested .fits in
     let rule = x .system .rule in
     let a = x .system .a in
     let b = x .system .b in
     let size : b - (a - 1) ≡ suc b - a = omega (arith, fit) in
     let part = part-is a b (length (x .weights .now)) (x .weights .now) (sound tested .inside) in
-    let seen = c .before .before .before .before .state-in .ensures in
+    let seen = after-state-in .state-in .ensures in
     c .on-deck .ensures
     ∙ ap (onDeck a) (verdict-is (c .before .verdict-on .ensures))
     ∙ (λ y. onDeck a (verdictOf rule (size y) (part y) [] (seen y)))

@@ -13,12 +13,15 @@ same-length : tie.Need-same-length
 same-length c = search needs
 
 returns : tie.Need-returns
-returns c = record {
-  between = _;
-  place = _;
-  name-put = c .before .before .before .before .before .before .put .ensures;
-  number-put = c .before .before .put-number .ensures;
-}
+returns c =
+    let after-put-number = c .before .before in
+    let after-put = after-put-number .before .before .before .before in
+    record {
+      between = _;
+      place = _;
+      name-put = after-put .put .ensures;
+      number-put = after-put-number .put-number .ensures;
+    }
 
 pub put-named-spec : {M : Type 1} → statement M
 put-named-spec = tie.close (tie.spec put-requires put-number-requires same-length returns)

@@ -22,9 +22,11 @@ same-length c = search needs
 
 returns : tie.Need-returns
 returns c =
-    let d = c .before .before .before .before .before .decimal in
-    let start = c .before .before .before .before .before .before .before .before in
-    rw (d .ensures .1 .1 ∙ fewest-decimal _ _ (start .fits .n .fits) (d .ensures .1 .0)) at (c .before .before .put .ensures)
+    let after-put = c .before .before in
+    let after-decimal = after-put .before .before .before in
+    let start = after-decimal .before .before .before in
+    let d = after-decimal .decimal in
+    rw (d .ensures .1 .1 ∙ fewest-decimal _ _ (start .fits .n .fits) (d .ensures .1 .0)) at (after-put .put .ensures)
 
 pub put-number-spec : {M : Type 1} → statement M
 put-number-spec =

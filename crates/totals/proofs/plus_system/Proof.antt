@@ -33,15 +33,23 @@ plus-requires : tie.Need-plus-requires
 plus-requires c κs = let start = c .before .before .before .before in (start .pre .0 .kinds _, start .pre .1)
 
 mul-kinds : tie.Need-mul-kinds
-mul-kinds c = omega (arith, within-true 1 (c .before .before .before .before .before .args .kind) lastKind (not-false _ (sym (c .before .before .before .outside .ensures) ∙ c .before .before .if1 .left)))
+mul-kinds c =
+    let after-outside = c .before .before .before in
+    let start = after-outside .before .before in
+    omega (arith, within-true 1 (start .args .kind) lastKind (not-false _ (sym (after-outside .outside .ensures) ∙ c .before .before .if1 .left)))
 
 array-set-from-kinds : tie.Need-array-set-from-kinds
-array-set-from-kinds c = omega (arith, within-true 1 (c .before .before .before .before .before .args .kind) lastKind (not-false _ (sym (c .before .before .before .outside .ensures) ∙ c .before .before .if1 .left)))
+array-set-from-kinds c =
+    let after-outside = c .before .before .before in
+    let start = after-outside .before .before in
+    omega (arith, within-true 1 (start .args .kind) lastKind (not-false _ (sym (after-outside .outside .ensures) ∙ c .before .before .if1 .left)))
 
 returns-2 : tie.Need-returns-2
 unfolding systemPlus
 returns-2 c =
-    rw (not-false (within 1 (c .before .before .before .before .before .args .kind) lastKind) (sym (c .before .before .before .outside .ensures) ∙ c .before .before .if1 .left), c .plus .ensures)
+    let after-outside = c .before .before .before in
+    let start = after-outside .before .before in
+    rw (not-false (within 1 (start .args .kind) lastKind) (sym (after-outside .outside .ensures) ∙ c .before .before .if1 .left), c .plus .ensures)
 
 pub plus-system-spec : {M : Type 1} → statement M
 plus-system-spec =

@@ -102,8 +102,10 @@ fitting-requires c κs = search needs
 
 judge-windows-requires-3 : tie.Need-judge-windows-requires-3
 judge-windows-requires-3 c κs =
-    let pre = c .before .before .before .before .before .pre in
-    let r = range6 (pre .0) (c .before .match .keys6) in
+    let at-match-keys6 = c .before in
+    let start = at-match-keys6 .before .before .before .before in
+    let pre = start .pre in
+    let r = range6 (pre .0) (at-match-keys6 .match .keys6) in
     (omega (arith, c .fitting .ensures, pre .0 .size-low), omega (arith, c .fitting .ensures), pre .0 .size-high, pre .1)
 
 judge-windows-requires-4 : tie.Need-judge-windows-requires-4
@@ -122,25 +124,31 @@ judge-pairs-requires c κs =
 returns : tie.Need-returns
 unfolding judgedOf fails placeOf
 returns c =
-    let a = c .before .before .before .before .before .before .args in
-    rw (c .before .before .match .keys1) (c .judge-sum .ensures ∙ ap (λ x. judgment (leb (a .rule .first) x) 0) (c .before .before .before .ones-of .ensures))
+    let after-ones-of = c .before .before .before in
+    let start = after-ones-of .before .before .before in
+    let a = start .args in
+    rw (c .before .before .match .keys1) (c .judge-sum .ensures ∙ ap (λ x. judgment (leb (a .rule .first) x) 0) (after-ones-of .ones-of .ensures))
 
 returns-2 : tie.Need-returns-2
 unfolding fails placeOf
 returns-2 c =
-    let a = c .before .before .before .before .before .before .before .args in
-    let two = c .before .before .before .match .keys2 in
+    let at-match-keys2 = c .before .before .before in
+    let start = at-match-keys2 .before .before .before .before in
+    let a = start .args in
+    let two = at-match-keys2 .match .keys2 in
     with-beside (a .rule) (a .n) (a .weights .now) (a .more .now) (a .w) (two-beside (a .rule) (a .weights .now) (a .more .now) two)
     (rw two (c .judge-sum2 .ensures ∙ ap (λ x. judgment (leb (a .rule .first) x) 0) (c .before .before .weighed .ensures)))
 
 returns-3 : tie.Need-returns-3
 unfolding judgedOf fails placeOf
 returns-3 c =
-    let a = c .before .before .before .before .before .before .args in
+    let after-ones-of = c .before .before .before in
+    let start = after-ones-of .before .before .before in
+    let a = start .args in
     rw (c .before .before .match .keys3)
     (c .judge-sum3 .ensures ∙ ap (λ x. judgment (not x) 0) (c .before .outside .ensures)
     ∙ ap (λ x. judgment x 0) (twice (within (a .rule .first) _ (a .rule .second)))
-    ∙ ap (λ x. judgment (within (a .rule .first) x (a .rule .second)) 0) (c .before .before .before .ones-of .ensures))
+    ∙ ap (λ x. judgment (within (a .rule .first) x (a .rule .second)) 0) (after-ones-of .ones-of .ensures))
 
 returns-4 : tie.Need-returns-4
 unfolding judgedOf fails placeOf
@@ -153,8 +161,10 @@ returns-5 c = rw (c .before .match .keys5) (c .judge-windows2 .ensures)
 returns-6 : tie.Need-returns-6
 unfolding judgedOf fails placeOf
 returns-6 c =
-    let a = c .before .before .before .before .before .before .args in
-    rw (c .before .before .match .keys6) (c .judge-windows3 .ensures ∙ line-window (a .n) (a .rule .second) (a .w) _ (c .before .fitting .ensures))
+    let at-match-keys6 = c .before .before in
+    let start = at-match-keys6 .before .before .before .before in
+    let a = start .args in
+    rw (at-match-keys6 .match .keys6) (c .judge-windows3 .ensures ∙ line-window (a .n) (a .rule .second) (a .w) _ (c .before .fitting .ensures))
 
 returns-7 : tie.Need-returns-7
 unfolding judgedOf fails placeOf
@@ -163,9 +173,11 @@ returns-7 c = rw (c .before .match .keys7) (c .judge-windows4 .ensures)
 returns-8 : tie.Need-returns-8
 unfolding fails placeOf
 returns-8 c =
-    let a = c .before .before .before .before .before .args in
-    with-beside (a .rule) (a .n) (a .weights .now) (a .more .now) (a .w) (beside-more (a .rule) (a .weights .now) (a .more .now) (eight (c .before)))
-    (rw (eight (c .before)) (c .judge-pairs .ensures))
+    let at-match-rest = c .before in
+    let start = at-match-rest .before .before .before .before in
+    let a = start .args in
+    with-beside (a .rule) (a .n) (a .weights .now) (a .more .now) (a .w) (beside-more (a .rule) (a .weights .now) (a .more .now) (eight at-match-rest))
+    (rw (eight at-match-rest) (c .judge-pairs .ensures))
 
 pub judge-spec : {M : Type 1} → statement M
 judge-spec =

@@ -35,10 +35,16 @@ module _ (c : tie.After-shared-slice-known2 Inv-loop μ-loop) where
   at = c .before .before .before .loop .i
 
   abbrev weight : ℕ
-  weight = getD (c .before .before .before .before .before .args .weights .now) at 0
+  weight =
+      let at-loop = c .before .before .before in
+      let start = at-loop .before .before in
+      getD (start .args .weights .now) at 0
 
   abbrev word : ℕ
-  word = c .before .before .before .before .before .args .w
+  word =
+      let at-loop = c .before .before .before in
+      let start = at-loop .before .before in
+      start .args .w
 
   term : c .before .ones-in .result * weight ≡ cond (down at word) weight 0
   term = ap (λ x. x * weight) (c .before .ones-in .ensures) ∙ weight-down word at weight
@@ -75,12 +81,14 @@ loop-less c = omega arith
 
 loop-again : tie.Need-loop-again Inv-loop μ-loop
 loop-again c =
+    let at-loop = c .before .before .before in
+    let start = at-loop .before .before in
     omega (
       arith,
       term c,
       most c,
-      next (c .before .before .before .loop .i) (c .before .before .before .before .before .args .weights .now)
-          (c .before .before .before .before .before .args .w),
+      next (at-loop .loop .i) (start .args .weights .now)
+          (start .args .w),
     )
 
 returns : tie.Need-returns Inv-loop μ-loop

@@ -24,39 +24,71 @@ mul-start : tie.Need-mul-start Inv-loop μ-loop
 mul-start c = omega (arith, most (c .before .before .before .before .pre) (c .oldest .ensures))
 
 start-requires : tie.Need-start-requires Inv-loop μ-loop
-start-requires c κs = filling (c .before .before .before .before .before .pre) (c .before .oldest .ensures)
+start-requires c κs =
+    let after-oldest = c .before in
+    let at-start = after-oldest .before .before .before .before in
+    filling (at-start .pre) (after-oldest .oldest .ensures)
 
 sort-requires : tie.Need-sort-requires Inv-loop μ-loop
-sort-requires c κs = sortable (c .before .before .before .before .before .before .before .before .before .pre) (c .before .before .before .before .before .oldest .ensures) (c .before .before .before .start .ensures .kept)
+sort-requires c κs =
+    let after-start = c .before .before .before in
+    let after-oldest = after-start .before .before in
+    let at-start = after-oldest .before .before .before .before in
+    sortable (at-start .pre) (after-oldest .oldest .ensures) (after-start .start .ensures .kept)
 
 loop-holds : tie.Need-loop-holds Inv-loop μ-loop
-loop-holds c = (level-none (c .before .before .before .before .before .before .before .before .before .before .before .before .pre) (c .before .before .before .before .before .before .before .before .oldest .ensures) (c .before .before .before .before .before .before .start .ensures) (c .before .before .sort .ensures), kept-none, omega arith)
+loop-holds c =
+    let after-sort = c .before .before in
+    let after-start = after-sort .before .before .before .before in
+    let after-oldest = after-start .before .before in
+    let at-start = after-oldest .before .before .before .before in
+    (level-none (at-start .pre) (after-oldest .oldest .ensures) (after-start .start .ensures) (after-sort .sort .ensures), kept-none, omega arith)
 
 turn-requires : tie.Need-turn-requires Inv-loop μ-loop
 turn-requires c κs = record { ps = _; level = c .before .before .before .loop .inv .0; more = c .before .if1 .taken }
 
 loop-less : tie.Need-loop-less Inv-loop μ-loop
 loop-less c =
-    let r = c .before .before .turn .ensures .0 _ (c .before .before .before .before .before .before .loop .inv .0) in
-    omega (arith, r .is, c .before .before .before .before .if1 .taken)
+    let then1 = c .before .before .before .before in
+    let at-loop = then1 .before .before in
+    let r = c .before .before .turn .ensures .0 _ (at-loop .loop .inv .0) in
+    omega (arith, r .is, then1 .if1 .taken)
 
 loop-again : tie.Need-loop-again Inv-loop μ-loop
 loop-again c =
-    let v = c .before .before .before .before .before .before .loop .inv in
-    let r = c .before .before .turn .ensures .0 _ (v .0) in
-    (r .level, kept-trans (v .1) (c .before .before .turn .ensures .1), omega (arith, r .is, c .before .before .before .before .if1 .taken))
+    let after-turn = c .before .before in
+    let then1 = after-turn .before .before in
+    let at-loop = then1 .before .before in
+    let v = at-loop .loop .inv in
+    let r = after-turn .turn .ensures .0 _ (v .0) in
+    (r .level, kept-trans (v .1) (after-turn .turn .ensures .1), omega (arith, r .is, then1 .if1 .taken))
 
 read-requires : tie.Need-read-requires Inv-loop μ-loop
-read-requires c κs = figure-place (c .before .before .before .before .before .before .before .before .before .before .before .before .before .before .before .before .pre) (c .before .before .before .loop .inv .0)
+read-requires c κs =
+    let at-loop = c .before .before .before in
+    let after-sort = at-loop .before .before .before in
+    let after-start = after-sort .before .before .before .before in
+    let after-oldest = after-start .before .before in
+    let at-start = after-oldest .before .before .before .before in
+    figure-place (at-start .pre) (at-loop .loop .inv .0)
 
 same-length : tie.Need-same-length Inv-loop μ-loop
-same-length c = kept-trans (kept-trans (c .before .before .before .before .before .before .before .before .before .before .before .start .ensures .kept) (c .before .before .before .before .before .before .before .sort .ensures .kept)) (c .before .before .before .before .loop .inv .1) .long
+same-length c =
+    let at-loop = c .before .before .before .before in
+    let after-sort = at-loop .before .before .before in
+    let after-start = after-sort .before .before .before .before in
+    kept-trans (kept-trans (after-start .start .ensures .kept) (after-sort .sort .ensures .kept)) (at-loop .loop .inv .1) .long
 
 returns : tie.Need-returns Inv-loop μ-loop
 returns c =
-    let v = c .before .before .before .before .loop .inv in (
-      figure-there (c .before .before .before .before .before .before .before .before .before .before .before .before .before .before .before .before .before .pre) (v .0) (omega (arith, v .2, c .before .before .if1 .left)) (c .read .ensures),
-      kept-trans (kept-trans (c .before .before .before .before .before .before .before .before .before .before .before .start .ensures .kept) (c .before .before .before .before .before .before .before .sort .ensures .kept)) (v .1),
+    let at-loop = c .before .before .before .before in
+    let after-sort = at-loop .before .before .before in
+    let after-start = after-sort .before .before .before .before in
+    let after-oldest = after-start .before .before in
+    let at-start = after-oldest .before .before .before .before in
+    let v = at-loop .loop .inv in (
+      figure-there (at-start .pre) (v .0) (omega (arith, v .2, c .before .before .if1 .left)) (c .read .ensures),
+      kept-trans (kept-trans (after-start .start .ensures .kept) (after-sort .sort .ensures .kept)) (v .1),
     )
 
 pub rate-spec : {M : Type 1} → statement M

@@ -19,8 +19,9 @@ slice-aggregate-put-some c = search needs
 
 put-some-requires : tie.Need-put-some-requires
 put-some-requires c κs =
-    let start = c .before .before .before .before .before .before .before .before in
-    let number = c .before .before .before .before .put-named in
+    let after-put-named = c .before .before .before .before in
+    let start = after-put-named .before .before .before .before in
+    let number = after-put-named .put-named in
     let one = named-added (omega (arith, start .pre)) (number .ensures) in
     omega (arith, start .pre, number .kept, named-reach (text "fan ") (start .args .parts) one)
 
@@ -29,9 +30,12 @@ slice-aggregate-put-some-2 c = search needs
 
 put-some-requires-2 : tie.Need-put-some-requires-2
 put-some-requires-2 c κs =
-    let start = c .before .before .before .before .before .before .before .before .before .before .before .before .before in
-    let number = c .before .before .before .before .before .before .before .before .before .put-named in
-    let weight = c .before .before .before .before .put-some in
+    let after-put-some = c .before .before .before .before in
+    let after-out = after-put-some .before .before .before .before in
+    let after-put-named = after-out .before in
+    let start = after-put-named .before .before .before .before in
+    let number = after-put-named .put-named in
+    let weight = after-put-some .put-some in
     let one = named-added (omega (arith, start .pre)) (number .ensures) in
     let reach = named-reach (text "fan ") (start .args .parts) one in
     omega (arith, start .pre, number .kept, reach, weight .kept, weight .ensures .ends, some-short (text " weight ") (start .args .weight))
@@ -41,10 +45,15 @@ slice-aggregate-put c = search needs
 
 put-requires : tie.Need-put-requires
 put-requires c κs =
-    let start = c .before .before .before .before .before .before .before .before .before .before .before .before .before .before .before .before .before .before in
-    let number = c .before .before .before .before .before .before .before .before .before .before .before .before .before .before .put-named in
-    let weight = c .before .before .before .before .before .before .before .before .before .put-some in
-    let board = c .before .before .before .before .put-some2 in
+    let after-put-some2 = c .before .before .before .before in
+    let after-out2 = after-put-some2 .before .before .before .before in
+    let after-put-some = after-out2 .before in
+    let after-out = after-put-some .before .before .before .before in
+    let after-put-named = after-out .before in
+    let start = after-put-named .before .before .before .before in
+    let number = after-put-named .put-named in
+    let weight = after-put-some .put-some in
+    let board = after-put-some2 .put-some2 in
     let one = named-added (omega (arith, start .pre)) (number .ensures) in
     let reach = named-reach (text "fan ") (start .args .parts) one in
     let weighs = some-short (text " weight ") (start .args .weight) in
@@ -57,11 +66,17 @@ same-length c = search needs
 returns : tie.Need-returns
 unfolding fanText
 returns c =
+    let after-put-arg = c .before .before .before .before in
+    let after-put-some2 = after-put-arg .before .before .before in
+    let after-out2 = after-put-some2 .before .before .before .before in
+    let after-put-some = after-out2 .before in
+    let after-out = after-put-some .before .before .before .before in
+    let after-put-named = after-out .before in
+    let start = after-put-named .before .before .before .before in
     let put = c .before .before .put in
-    let start = c .before .before .before .before .before .before .before .before .before .before .before .before .before .before .before .before .before .before .before .before .before in
-    let number = c .before .before .before .before .before .before .before .before .before .before .before .before .before .before .before .before .before .put-named in
-    let weight = c .before .before .before .before .before .before .before .before .before .before .before .before .put-some in
-    let board = c .before .before .before .before .before .before .before .put-some2 in
+    let number = after-put-named .put-named in
+    let weight = after-put-some .put-some in
+    let board = after-put-some2 .put-some2 in
     let one = named-added (omega (arith, start .pre)) (number .ensures) in
     let reach = named-reach (text "fan ") (start .args .parts) one in
     let weighs = some-short (text " weight ") (start .args .weight) in

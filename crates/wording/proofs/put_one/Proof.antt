@@ -16,11 +16,14 @@ same-length c = search needs
 
 returns : tie.Need-returns
 returns c =
-    let start = c .before .before .before .before .before .before .before .before .before .before .before in
-    let number = c .before .before .before .before .before .before .put-named in
+    let after-put = c .before .before in
+    let after-put-named = after-put .before .before .before .before in
+    let after-put-named-arg = after-put-named .before in
+    let start = after-put-named-arg .before .before .before .before in
+    let number = after-put-named .put-named in
     let one = named-added (omega (arith, start .pre)) (number .ensures) in
     let reach = named-reach (start .args .before .now) (start .args .k) one in
-    added-more one (put-added (omega (arith, start .pre, number .kept, reach)) (c .before .before .put .ensures))
+    added-more one (put-added (omega (arith, start .pre, number .kept, reach)) (after-put .put .ensures))
 
 pub put-one-spec : {M : Type 1} → statement M
 put-one-spec = tie.close (tie.spec put-named-requires put-requires same-length returns)

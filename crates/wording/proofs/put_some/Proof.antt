@@ -17,8 +17,9 @@ same-length c = search needs
 
 returns-2 : tie.Need-returns-2
 returns-2 c =
-    let first = c .before .before .before .before .if1 in
-    let start = c .before .before .before .before .before .before .before in
+    let else1 = c .before .before .before .before in
+    let start = else1 .before .before .before in
+    let first = else1 .if1 in
     let put-named = c .before .before .put-named in
     rw (ne-eqb _ 0 (first .left)) (named-added (omega (arith, start .pre)) (put-named .ensures))
 

@@ -27,9 +27,12 @@ same-length c = search needs
 
 returns-2 : tie.Need-returns-2
 returns-2 c =
-    let first = c .before .before .before .before .before .before .if1 in
-    let put-pair = c .before .before .put-pair in
-    let a = c .before .before .before .before .before .before .before .before .args in
+    let after-put-pair = c .before .before in
+    let joined1 = after-put-pair .before .before .before .before in
+    let start = joined1 .before .before in
+    let first = joined1 .if1 in
+    let put-pair = after-put-pair .put-pair in
+    let a = start .args in
     rw (not-whole (a .n) (a .a) (a .b) (⊎-elim (λ w. inr (w .1 .left)) (λ w. inl (w .left)) (first .came)))
     (put-pair .ensures)
 

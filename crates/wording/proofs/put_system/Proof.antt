@@ -15,15 +15,19 @@ put-requires c κs = search needs
 
 put-rule-requires : tie.Need-put-rule-requires
 put-rule-requires c κs =
-    let name = c .before .before .before .put in
-    let one = put-added (omega (arith, c .before .before .before .before .before .before .before .pre)) (name .ensures) in
-    omega (arith, c .before .before .before .before .before .before .before .pre, name .kept, one .ends)
+    let after-put = c .before .before .before in
+    let start = after-put .before .before .before .before in
+    let name = after-put .put in
+    let one = put-added (omega (arith, start .pre)) (name .ensures) in
+    omega (arith, start .pre, name .kept, one .ends)
 
 put-stretch-requires : tie.Need-put-stretch-requires
 put-stretch-requires c κs =
-    let start = c .before .before .before .before .before .before .before .before .before .before .before in
-    let name = c .before .before .before .before .before .before .before .put in
-    let rule = c .before .before .before .put-rule in
+    let after-put-rule = c .before .before .before in
+    let after-put = after-put-rule .before .before .before .before in
+    let start = after-put .before .before .before .before in
+    let name = after-put .put in
+    let rule = after-put-rule .put-rule in
     let one = put-added (omega (arith, start .pre)) (name .ensures) in
     let short = rule-short (start .args .kind) (start .args .first) (start .args .second) in
     omega (arith, start .pre, name .kept, one .ends, rule .kept, rule .ensures .ends)
@@ -33,10 +37,13 @@ slice-aggregate-put-2 c = search needs
 
 put-requires-2 : tie.Need-put-requires-2
 put-requires-2 c κs =
-    let start = c .before .before .before .before .before .before .before .before .before .before .before .before .before .before .before .before in
-    let name = c .before .before .before .before .before .before .before .before .before .before .before .before .put in
-    let rule = c .before .before .before .before .before .before .before .before .put-rule in
-    let stretch = c .before .before .before .before .put-stretch in
+    let after-put-stretch = c .before .before .before .before in
+    let after-put-rule = after-put-stretch .before .before .before .before in
+    let after-put = after-put-rule .before .before .before .before in
+    let start = after-put .before .before .before .before in
+    let name = after-put .put in
+    let rule = after-put-rule .put-rule in
+    let stretch = after-put-stretch .put-stretch in
     let one = put-added (omega (arith, start .pre)) (name .ensures) in
     let short = rule-short (start .args .kind) (start .args .first) (start .args .second) in
     let ends = stretch-short (start .args .n) (start .args .a) (start .args .b) in
@@ -48,11 +55,15 @@ same-length c = search needs
 returns : tie.Need-returns
 unfolding systemText
 returns c =
+    let after-put-arg3 = c .before .before .before .before in
+    let after-put-stretch = after-put-arg3 .before .before .before in
+    let after-put-rule = after-put-stretch .before .before .before .before in
+    let after-put = after-put-rule .before .before .before .before in
+    let start = after-put .before .before .before .before in
     let put2 = c .before .before .put2 in
-    let start = c .before .before .before .before .before .before .before .before .before .before .before .before .before .before .before .before .before .before .before in
-    let name = c .before .before .before .before .before .before .before .before .before .before .before .before .before .before .before .put in
-    let rule = c .before .before .before .before .before .before .before .before .before .before .before .put-rule in
-    let stretch = c .before .before .before .before .before .before .before .put-stretch in
+    let name = after-put .put in
+    let rule = after-put-rule .put-rule in
+    let stretch = after-put-stretch .put-stretch in
     let one = put-added (omega (arith, start .pre)) (name .ensures) in
     let short = rule-short (start .args .kind) (start .args .first) (start .args .second) in
     let ends = stretch-short (start .args .n) (start .args .a) (start .args .b) in

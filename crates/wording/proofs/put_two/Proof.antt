@@ -10,9 +10,11 @@ put-pair-requires c κs = search needs
 
 put-requires : tie.Need-put-requires
 put-requires c κs =
-    let start = c .before .before .before .before .before .before .before .before .before in
-    let a = c .before .before .before .before .before .before .before .before .before .args in
-    let pair = c .before .before .before .put-pair in
+    let after-put-pair = c .before .before .before in
+    let known2 = after-put-pair .before .before .before .before in
+    let start = known2 .before .before in
+    let a = start .args in
+    let pair = after-put-pair .put-pair in
     omega (arith, start .pre, pair .kept, pair-reach (a .before .now) (a .a) (a .between .now) (a .b) (pair .ensures))
 
 same-length : tie.Need-same-length
@@ -20,11 +22,14 @@ same-length c = search needs
 
 returns : tie.Need-returns
 returns c =
-    let start = c .before .before .before .before .before .before .before .before .before .before .before .before in
+    let after-put = c .before .before in
+    let after-put-pair = after-put .before .before .before .before in
+    let known2 = after-put-pair .before .before .before .before in
+    let start = known2 .before .before in
     let a = start .args in
-    let pair = c .before .before .before .before .before .before .put-pair in
+    let pair = after-put-pair .put-pair in
     let reach = pair-reach (a .before .now) (a .a) (a .between .now) (a .b) (pair .ensures) in
-    added-more (pair .ensures) (put-added (omega (arith, start .pre, pair .kept, reach)) (c .before .before .put .ensures))
+    added-more (pair .ensures) (put-added (omega (arith, start .pre, pair .kept, reach)) (after-put .put .ensures))
 
 pub put-two-spec : {M : Type 1} → statement M
 put-two-spec = tie.close (tie.spec put-pair-requires put-requires same-length returns)

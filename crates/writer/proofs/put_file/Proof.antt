@@ -25,8 +25,10 @@ sound t room none =
 
 boards-read-requires : tie.Need-boards-read-requires
 boards-read-requires c κs =
-    let s = sound _ _ (c .before .before .before .before .before .before .pre) in
-    let x = c .before .before .before .before .before .before .args in
+    let known2 = c .before .before .before .before in
+    let start = known2 .before .before in
+    let s = sound _ _ (start .pre) in
+    let x = start .args in
     let w = s .0 in
     (omega arith, λ has. omega (arith, listed (x .version) _ (x .boards .now) (x .switchboards .now) (w .counted) (w .placed) has))
 
@@ -35,74 +37,154 @@ numbers-read-requires c κs = search needs
 
 put-header-requires : tie.Need-put-header-requires
 put-header-requires c κs =
-    let s = sound _ _ (c .before .before .before .before .before .before .before .before .before .pre) in
-    let x = c .before .before .before .before .before .before .before .before .before .args in
+    let after-numbers-read = c .before in
+    let known4 = after-numbers-read .before .before .before .before in
+    let start = known4 .before .before .before .before in
+    let s = sound _ _ (start .pre) in
+    let x = start .args in
     let w = s .0 in
     let few = few-typed (x .version) (length (x .survival .now)) (x .boards .now) (x .switchboards .now) (w .counted) (w .placed) in
-    record { versioned = w .versioned; few = w .most-fans; boards = rw (c .before .numbers-read .ensures) few; fewer = w .most-systems; fits = omega (arith, s .1) }
+    record { versioned = w .versioned; few = w .most-fans; boards = rw (after-numbers-read .numbers-read .ensures) few; fewer = w .most-systems; fits = omega (arith, s .1) }
 
 header-length-requires : tie.Need-header-length-requires
 header-length-requires c κs = search needs
 
 put-all4-requires : tie.Need-put-all4-requires
 put-all4-requires c κs =
-    let s = sound _ _ (c .before .before .before .before .before .before .before .before .before .before .before .before .before .before .pre) in
+    let after-put-header = c .before .before .before .before in
+    let after-boards-read = after-put-header .before .before .before in
+    let known3 = after-boards-read .before .before .before .before in
+    let start = known3 .before .before .before in
+    let s = sound _ _ (start .pre) in
     omega (arith, c .header-length .ensures .0, s .1)
 
 weights-offset-requires : tie.Need-weights-offset-requires
-weights-offset-requires c κs = omega (arith, sound _ _ (c .before .before .before .before .before .before .before .before .before .before .before .before .before .before .before .before .before .before .pre) .0 .most-fans)
+weights-offset-requires c κs =
+    let after-header-length = c .before .before .before .before in
+    let after-put-header = after-header-length .before .before .before .before in
+    let after-boards-read = after-put-header .before .before .before in
+    let known3 = after-boards-read .before .before .before .before in
+    let start = known3 .before .before .before in
+    omega (arith, sound _ _ (start .pre) .0 .most-fans)
 
 put-all2-requires : tie.Need-put-all2-requires
 put-all2-requires c κs =
-    let s = sound _ _ (c .before .before .before .before .before .before .before .before .before .before .before .before .before .before .before .before .before .before .before .pre) in
+    let after-put-all4 = c .before .before .before .before in
+    let after-room = after-put-all4 .before .before .before .before in
+    let after-boards-read = after-room .before .before .before .before in
+    let known3 = after-boards-read .before .before .before .before in
+    let start = known3 .before .before .before in
+    let s = sound _ _ (start .pre) in
     omega (arith, c .weights-offset .ensures .0, s .0 .weighed, s .1)
 
 boards-offset-requires : tie.Need-boards-offset-requires
-boards-offset-requires c κs = omega (arith, sound _ _ (c .before .before .before .before .before .before .before .before .before .before .before .before .before .before .before .before .before .before .before .before .before .before .before .pre) .0 .most-fans)
+boards-offset-requires c κs =
+    let after-weights-offset = c .before .before .before .before in
+    let after-put-all4 = after-weights-offset .before .before .before .before in
+    let after-room = after-put-all4 .before .before .before .before in
+    let after-boards-read = after-room .before .before .before .before in
+    let known3 = after-boards-read .before .before .before .before in
+    let start = known3 .before .before .before in
+    omega (arith, sound _ _ (start .pre) .0 .most-fans)
 
 put-all1-requires : tie.Need-put-all1-requires
 put-all1-requires c κs =
-    let s = sound _ _ (c .before .before .before .before .before .before .before .before .before .before .before .before .before .before .before .before .before .before .before .before .before .before .before .before .pre) in
-    let x = c .before .before .before .before .before .before .before .before .before .before .before .before .before .before .before .before .before .before .before .before .before .before .before .before .args in
+    let after-put-all2 = c .before .before .before .before in
+    let after-room2 = after-put-all2 .before .before .before .before in
+    let after-header-length = after-room2 .before .before in
+    let after-put-header = after-header-length .before .before .before .before in
+    let after-boards-read = after-put-header .before .before .before in
+    let known3 = after-boards-read .before .before .before .before in
+    let start = known3 .before .before .before in
+    let s = sound _ _ (start .pre) in
+    let x = start .args in
     let w = s .0 in
     let placed = fans-typed (x .version) (length (x .survival .now)) (x .boards .now) (x .switchboards .now) (w .counted) (w .placed) in
-    let read = ap length (c .before .before .before .before .before .before .before .before .before .before .before .before .before .before .before .before .before .boards-read .ensures ∙ whole-read (x .version) _ (x .boards .now) (x .switchboards .now) (w .counted) (w .placed)) in
+    let read = ap length (after-boards-read .boards-read .ensures ∙ whole-read (x .version) _ (x .boards .now) (x .switchboards .now) (w .counted) (w .placed)) in
     omega (arith, c .boards-offset .ensures .0, s .1)
 
 board-survival-offset-requires : tie.Need-board-survival-offset-requires
-board-survival-offset-requires c κs = omega (arith, sound _ _ (c .before .before .before .before .before .before .before .before .before .before .before .before .before .before .before .before .before .before .before .before .before .before .before .before .before .before .before .before .pre) .0 .most-fans)
+board-survival-offset-requires c κs =
+    let after-boards-offset = c .before .before .before .before in
+    let after-put-all2 = after-boards-offset .before .before .before .before in
+    let after-room2 = after-put-all2 .before .before .before .before in
+    let known2 = after-room2 .before .before .before .before in
+    let after-numbers-read = known2 .before .before .before .before in
+    let known4 = after-numbers-read .before .before .before .before in
+    let start = known4 .before .before .before .before in
+    omega (arith, sound _ _ (start .pre) .0 .most-fans)
 
 put-all4-requires-2 : tie.Need-put-all4-requires-2
 put-all4-requires-2 c κs =
-    let s = sound _ _ (c .before .before .before .before .before .before .before .before .before .before .before .before .before .before .before .before .before .before .before .before .before .before .before .before .before .before .before .before .before .pre) in
-    omega (arith, c .board-survival-offset .ensures .0, ap length (c .before .before .before .before .before .before .before .before .before .before .before .before .before .before .before .before .before .before .before .before .before .numbers-read .ensures), s .1)
+    let after-put-all1 = c .before .before .before .before in
+    let after-room3 = after-put-all1 .before .before .before .before in
+    let after-weights-offset = after-room3 .before .before in
+    let after-put-all4 = after-weights-offset .before .before .before .before in
+    let after-room = after-put-all4 .before .before .before .before in
+    let after-numbers-read = after-room .before .before .before in
+    let known4 = after-numbers-read .before .before .before .before in
+    let start = known4 .before .before .before .before in
+    let s = sound _ _ (start .pre) in
+    omega (arith, c .board-survival-offset .ensures .0, ap length (after-numbers-read .numbers-read .ensures), s .1)
 
 systems-offset-requires : tie.Need-systems-offset-requires
 systems-offset-requires c κs =
-    let s = sound _ _ (c .before .before .before .before .before .before .before .before .before .before .before .before .before .before .before .before .before .before .before .before .before .before .before .before .before .before .before .before .before .before .before .before .before .pre) in
-    let x = c .before .before .before .before .before .before .before .before .before .before .before .before .before .before .before .before .before .before .before .before .before .before .before .before .before .before .before .before .before .before .before .before .before .args in
+    let after-board-survival-offset = c .before .before .before .before in
+    let after-put-all1 = after-board-survival-offset .before .before .before .before in
+    let after-room3 = after-put-all1 .before .before .before .before in
+    let after-weights-offset = after-room3 .before .before in
+    let after-put-all4 = after-weights-offset .before .before .before .before in
+    let after-room = after-put-all4 .before .before .before .before in
+    let after-numbers-read = after-room .before .before .before in
+    let known4 = after-numbers-read .before .before .before .before in
+    let start = known4 .before .before .before .before in
+    let s = sound _ _ (start .pre) in
+    let x = start .args in
     let w = s .0 in
     let few = few-typed (x .version) (length (x .survival .now)) (x .boards .now) (x .switchboards .now) (w .counted) (w .placed) in
-    (omega (arith, w .most-fans), omega (arith, ap length (c .before .before .before .before .before .before .before .before .before .before .before .before .before .before .before .before .before .before .before .before .before .before .before .before .before .numbers-read .ensures)))
+    (omega (arith, w .most-fans), omega (arith, ap length (after-numbers-read .numbers-read .ensures)))
 
 put-all2-requires-2 : tie.Need-put-all2-requires-2
 put-all2-requires-2 c κs =
-    let s = sound _ _ (c .before .before .before .before .before .before .before .before .before .before .before .before .before .before .before .before .before .before .before .before .before .before .before .before .before .before .before .before .before .before .before .before .before .before .pre) in
-    omega (arith, c .systems-offset .ensures .0, ap length (c .before .before .before .before .before .before .before .before .before .before .before .before .before .before .before .before .before .before .before .before .before .before .before .before .before .before .numbers-read .ensures), s .0 .whole, s .1)
+    let after-put-all42 = c .before .before .before .before in
+    let after-room4 = after-put-all42 .before .before .before .before in
+    let after-put-all1-arg = after-room4 .before .before .before in
+    let after-weights-offset = after-put-all1-arg .before .before .before .before in
+    let after-put-all4 = after-weights-offset .before .before .before .before in
+    let after-room = after-put-all4 .before .before .before .before in
+    let after-numbers-read = after-room .before .before .before in
+    let known4 = after-numbers-read .before .before .before .before in
+    let start = known4 .before .before .before .before in
+    let s = sound _ _ (start .pre) in
+    omega (arith, c .systems-offset .ensures .0, ap length (after-numbers-read .numbers-read .ensures), s .0 .whole, s .1)
 
 same-length : tie.Need-same-length
 same-length c = search needs
 
 returns : tie.Need-returns
 returns c =
-    let s = sound _ _ (c .before .before .before .before .before .before .before .before .before .before .before .before .before .before .before .before .before .before .before .before .before .before .before .before .before .before .before .before .before .before .before .before .before .before .before .before .before .pre) in
-    let x = c .before .before .before .before .before .before .before .before .before .before .before .before .before .before .before .before .before .before .before .before .before .before .before .before .before .before .before .before .before .before .before .before .before .before .before .before .before .args in
+    let after-systems-offset = c .before .before .before in
+    let after-put-all42 = after-systems-offset .before .before .before .before in
+    let after-board-survival-offset = after-put-all42 .before in
+    let after-put-all1 = after-board-survival-offset .before .before .before .before in
+    let after-boards-offset = after-put-all1 .before in
+    let after-put-all2 = after-boards-offset .before .before .before .before in
+    let after-weights-offset = after-put-all2 .before in
+    let after-put-all4 = after-weights-offset .before .before .before .before in
+    let after-header-length = after-put-all4 .before in
+    let after-put-header = after-header-length .before .before .before .before in
+    let after-numbers-read = after-put-header .before .before in
+    let after-boards-read = after-numbers-read .before in
+    let known3 = after-boards-read .before .before .before .before in
+    let start = known3 .before .before .before in
+    let s = sound _ _ (start .pre) in
+    let x = start .args in
     let w = s .0 in
-    let read = c .before .before .before .before .before .before .before .before .before .before .before .before .before .before .before .before .before .before .before .before .before .before .before .before .before .before .before .before .before .before .boards-read .ensures ∙ whole-read (x .version) _ (x .boards .now) (x .switchboards .now) (w .counted) (w .placed) in
-    file-laid _ _ w (rw (c .before .before .before .before .before .before .before .before .before .before .before .before .before .before .before .before .before .before .before .before .before .before .before .before .before .before .before .before .before .numbers-read .ensures) at (c .before .before .before .before .before .before .before .before .before .before .before .before .before .before .before .before .before .before .before .before .before .before .before .before .before .before .before .put-header .ensures)) (rw (c .before .before .before .before .before .before .before .before .before .before .before .before .before .before .before .before .before .before .before .before .before .before .before .header-length .ensures .0) at (c .before .before .before .before .before .before .before .before .before .before .before .before .before .before .before .before .before .before .before .before .before .before .put-all4 .ensures))
-    (rw (c .before .before .before .before .before .before .before .before .before .before .before .before .before .before .before .before .before .before .weights-offset .ensures .0) at (c .before .before .before .before .before .before .before .before .before .before .before .before .before .before .before .before .before .put-all2 .ensures)) (rw (c .before .before .before .before .before .before .before .before .before .before .before .before .before .boards-offset .ensures .0, read) at (c .before .before .before .before .before .before .before .before .before .before .before .before .put-all1 .ensures))
-    (rw (c .before .before .before .before .before .before .before .before .board-survival-offset .ensures .0, c .before .before .before .before .before .before .before .before .before .before .before .before .before .before .before .before .before .before .before .before .before .before .before .before .before .before .before .before .before .numbers-read .ensures) at (c .before .before .before .before .before .before .before .put-all42 .ensures))
-    (rw (c .before .before .before .systems-offset .ensures .0, c .before .before .before .before .before .before .before .before .before .before .before .before .before .before .before .before .before .before .before .before .before .before .before .before .before .before .before .before .before .numbers-read .ensures) at (c .before .before .put-all22 .ensures))
+    let read = after-boards-read .boards-read .ensures ∙ whole-read (x .version) _ (x .boards .now) (x .switchboards .now) (w .counted) (w .placed) in
+    file-laid _ _ w (rw (after-numbers-read .numbers-read .ensures) at (after-put-header .put-header .ensures)) (rw (after-header-length .header-length .ensures .0) at (after-put-all4 .put-all4 .ensures))
+    (rw (after-weights-offset .weights-offset .ensures .0) at (after-put-all2 .put-all2 .ensures)) (rw (after-boards-offset .boards-offset .ensures .0, read) at (after-put-all1 .put-all1 .ensures))
+    (rw (after-board-survival-offset .board-survival-offset .ensures .0, after-numbers-read .numbers-read .ensures) at (after-put-all42 .put-all42 .ensures))
+    (rw (after-systems-offset .systems-offset .ensures .0, after-numbers-read .numbers-read .ensures) at (c .before .before .put-all22 .ensures))
 
 pub put-file-spec : {M : Type 1} → statement M
 put-file-spec =

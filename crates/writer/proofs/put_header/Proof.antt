@@ -45,14 +45,21 @@ systems-offset-requires c κs = search needs
 
 cast-systems : tie.Need-cast-systems
 cast-systems c =
-    let x = c .before .before .before .before .before .before .before .before .before .args in
-    record { fits = omega (arith, c .systems-offset .ensures .0, header-bounds (x .version), fans-bound (x .version) (x .n), c .before .before .before .before .before .before .before .before .before .pre .few, c .before .before .before .before .before .before .before .before .before .pre .boards) }
+    let after-room = c .before .before .before .before in
+    let after-counts = after-room .before .before .before in
+    let start = after-counts .before .before in
+    let x = start .args in
+    record { fits = omega (arith, c .systems-offset .ensures .0, header-bounds (x .version), fans-bound (x .version) (x .n), start .pre .few, start .pre .boards) }
 
 slice-aggregate-put-all4 : tie.Need-slice-aggregate-put-all4
 slice-aggregate-put-all4 c = search needs
 
 put-all4-requires : tie.Need-put-all4-requires
-put-all4-requires c κs = omega (arith, c .before .before .before .before .before .before .before .before .before .before .before .pre .fits, header-bounds (c .before .before .before .before .before .before .before .before .before .before .before .args .version))
+put-all4-requires c κs =
+    let after-header-length = c .before .before .before .before in
+    let after-put-all2 = after-header-length .before .before .before in
+    let start = after-put-all2 .before .before .before .before in
+    omega (arith, start .pre .fits, header-bounds (start .args .version))
 
 boards-offset-requires : tie.Need-boards-offset-requires
 boards-offset-requires c κs = search needs
@@ -71,18 +78,31 @@ numbers-read-requires c κs = search needs
 
 put-all4-requires-2 : tie.Need-put-all4-requires-2
 put-all4-requires-2 c κs =
-    let x = c .before .before .before .before .before .before .before .before .before .before .before .before .before .before .before .before .before .before .args in
-    omega (arith, c .before .before .before .before .before .before .before .before .before .before .before .before .before .before .before .before .before .before .pre .fits, ap length (c .before .numbers-read .ensures), last-fits (x .version) (x .g) (c .before .before .before .boards-offset .result))
+    let after-boards-offset = c .before .before .before in
+    let after-put-all4 = after-boards-offset .before .before .before in
+    let after-weights-offset = after-put-all4 .before .before .before .before in
+    let after-put-all2 = after-weights-offset .before .before .before .before in
+    let start = after-put-all2 .before .before .before .before in
+    let x = start .args in
+    omega (arith, start .pre .fits, ap length (c .before .numbers-read .ensures), last-fits (x .version) (x .g) (after-boards-offset .boards-offset .result))
 
 same-length : tie.Need-same-length
 same-length c = search needs
 
 returns : tie.Need-returns
 returns c =
-    let x = c .before .before .before .before .before .before .before .before .before .before .before .before .before .before .before .before .before .before .before .before .before .args in
-    header-laid (x .version) (x .n) (x .g) (x .m) (x .room .now) (c .before .before .before .before .before .before .before .before .before .before .before .before .before .before .before .before .before .before .before .before .before .pre .fits) (c .before .before .before .before .before .before .before .before .before .before .before .before .before .before .before .before .before .put-all2 .ensures)
-    (rw (c .before .before .before .before .before .before .before .before .before .before .before .before .before .before .header-length .ensures .0, c .before .before .before .before .before .before .before .before .before .before .before .before .before .weights-offset .ensures .0, c .before .before .before .before .before .before .before .before .before .before .before .before .systems-offset .ensures .0) at (c .before .before .before .before .before .before .before .before .before .put-all4 .ensures))
-    (rw (c .before .before .before .before .numbers-read .ensures, c .before .before .before .before .before .before .boards-offset .ensures .0) at (c .before .before .put-all42 .ensures))
+    let after-numbers-read = c .before .before .before .before in
+    let after-boards-offset = after-numbers-read .before .before in
+    let after-put-all4 = after-boards-offset .before .before .before in
+    let after-systems-offset = after-put-all4 .before .before .before in
+    let after-weights-offset = after-systems-offset .before in
+    let after-header-length = after-weights-offset .before in
+    let after-put-all2 = after-header-length .before .before .before in
+    let start = after-put-all2 .before .before .before .before in
+    let x = start .args in
+    header-laid (x .version) (x .n) (x .g) (x .m) (x .room .now) (start .pre .fits) (after-put-all2 .put-all2 .ensures)
+    (rw (after-header-length .header-length .ensures .0, after-weights-offset .weights-offset .ensures .0, after-systems-offset .systems-offset .ensures .0) at (after-put-all4 .put-all4 .ensures))
+    (rw (after-numbers-read .numbers-read .ensures, after-boards-offset .boards-offset .ensures .0) at (c .before .before .put-all42 .ensures))
 
 pub put-header-spec : {M : Type 1} → statement M
 put-header-spec =

@@ -23,8 +23,12 @@ put-file-requires c κs = search needs
 
 file-size-requires : tie.Need-file-size-requires
 file-size-requires c κs =
-    let x = c .before .before .before .before .before .before .before .before .before .before .before .before .before .args in
-    let w = writable _ _ (sym (c .before .before .before .before .before .refusal .ensures) ∙ c .before .before .before .before .if1 .left) in
+    let else1 = c .before .before .before .before in
+    let after-refusal = else1 .before in
+    let known4 = after-refusal .before .before .before .before in
+    let start = known4 .before .before .before .before in
+    let x = start .args in
+    let w = writable _ _ (sym (after-refusal .refusal .ensures) ∙ else1 .if1 .left) in
     record {
       few = w .most-fans;
       boards = few-typed (x .version) (length (x .survival .now)) (x .boards .now) (x .switchboards .now) (w .counted) (w .placed);
@@ -36,11 +40,16 @@ same-length-2 c = search needs
 
 returns-2 : tie.Need-returns-2
 returns-2 c =
-    let x = c .before .before .before .before .before .before .before .before .before .before .before .before .before .before .args in
-    let none = sym (c .before .before .before .before .before .before .refusal .ensures) ∙ c .before .before .before .before .before .if1 .left in
+    let after-put-file = c .before .before .before in
+    let else1 = after-put-file .before .before in
+    let after-refusal = else1 .before in
+    let known4 = after-refusal .before .before .before .before in
+    let start = known4 .before .before .before .before in
+    let x = start .args in
+    let none = sym (after-refusal .refusal .ensures) ∙ else1 .if1 .left in
     let w = writable _ _ none in
     let placed = fans-typed (x .version) (length (x .survival .now)) (x .boards .now) (x .switchboards .now) (w .counted) (w .placed) in
-    written none (c .file-size .ensures ∙ sym (bytes-long _ (w .weighed) placed)) (c .before .before .before .put-file .ensures)
+    written none (c .file-size .ensures ∙ sym (bytes-long _ (w .weighed) placed)) (after-put-file .put-file .ensures)
 
 pub write-deck-spec : {M : Type 1} → statement M
 write-deck-spec =

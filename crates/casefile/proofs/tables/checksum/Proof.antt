@@ -57,8 +57,10 @@ loop-less c = omega arith
 
 loop-again : tie.Need-loop-again Inv-loop μ-loop
 loop-again c =
-    let l = c .before .before .before .before .loop in
-    let cells = c .before .before .before .before .before .before .args .cells .now in
+    let at-loop = c .before .before .before .before in
+    let start = at-loop .before .before in
+    let l = at-loop .loop in
+    let cells = start .args .cells .now in
     (omega arith, c .wrapping-add-u64 .ensures ∙ next cells (l .i) _ _ (l .inv .1) (c .before .times .ensures))
 
 returns : tie.Need-returns Inv-loop μ-loop

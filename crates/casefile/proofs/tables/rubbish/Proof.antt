@@ -56,8 +56,10 @@ loop-less c = simp length-set (omega arith)
 
 loop-again : tie.Need-loop-again Inv-loop μ-loop
 loop-again c =
-    let l = c .before .before .before .loop in
-    let seed = c .before .before .before .before .before .args .seed in
+    let at-loop = c .before .before .before in
+    let start = at-loop .before .before in
+    let l = at-loop .loop in
+    let seed = start .args .seed in
     let e : c .wrapping-add-u64 .result ≡ rubbishAt seed (l .k + 1) =
     next seed (l .k) (l .x) (c .before .times .result) _ (l .inv .0) (c .before .times .ensures) (c .wrapping-add-u64 .ensures) in
     (e, begins-more (l .inv .1) _ (c .before .before .loop-test .taken) e)

@@ -40,14 +40,16 @@ between-requires c κs = search needs
 around-requires : tie.Need-around-requires
 unfolding entryAt
 around-requires c κs =
-    let i = c .before .before in
-    let p = i .before .before .before .before .before .pre in
+    let else2 = c .before .before in
+    let else1 = else2 .before .before in
+    let start = else1 .before .before .before in
+    let p = start .pre in
     record {
       most = omega (arith, p .0 .most, p .1);
       row = omega arith;
       long = omega (arith, p .0 .most, p .0 .long);
       fits = rw (c .between .ensures)
-          (rw (ne-eqb _ _ (i .before .before .if1 .left), ne-eqb _ _ (i .if2 .left), ne-eqb _ _ (c .before .if3 .left)) at (p .0 .fits _ (p .1)));
+          (rw (ne-eqb _ _ (else1 .if1 .left), ne-eqb _ _ (else2 .if2 .left), ne-eqb _ _ (c .before .if3 .left)) at (p .0 .fits _ (p .1)));
     }
 
 returns-4 : tie.Need-returns-4

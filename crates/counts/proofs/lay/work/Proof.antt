@@ -5,10 +5,16 @@ use Rattle.counts.proofs.lay.work.Statement.{statement}
 use Rattle.counts.proofs.lay.work.Tie as tie
 
 fill-requires : tie.Need-fill-requires
-fill-requires c κs = weighed (c .before .before .before .before .before .pre) (c .before .if1 .taken)
+fill-requires c κs =
+    let then1 = c .before in
+    let start = then1 .before .before .before .before in
+    weighed (start .pre) (then1 .if1 .taken)
 
 fill-requires-2 : tie.Need-fill-requires-2
-fill-requires-2 c κs = sized (c .before .before .before .before .before .pre) (c .before .if1 .left)
+fill-requires-2 c κs =
+    let else1 = c .before in
+    let start = else1 .before .before .before .before in
+    sized (start .pre) (else1 .if1 .left)
 
 same-length : tie.Need-same-length
 same-length c = search needs

@@ -46,9 +46,11 @@ loop-less c = search needs
 
 loop-again : tie.Need-loop-again Inv-loop μ-loop
 loop-again c =
-    let v = c .before .before .before .before .before .loop .inv in
+    let after-raise = c .before .before in
+    let at-loop = after-raise .before .before .before in
+    let v = at-loop .loop .inv in
     let more = stored-up _ _ (omega arith) refl (omega (arith, v .1 .long, v .2 .rest .long)) (add-cell _ (v .1) (omega arith) (v .2)) (v .2) in
-    (search needs, v .1, rw (c .before .before .raise .ensures) more)
+    (search needs, v .1, rw (after-raise .raise .ensures) more)
 
 same-length : tie.Need-same-length Inv-loop μ-loop
 same-length c = search needs

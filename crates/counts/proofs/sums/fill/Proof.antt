@@ -32,8 +32,10 @@ slice-write-table c = search needs
 
 loop-holds : tie.Need-loop-holds Inv-loop μ-loop
 loop-holds c =
-    let p = c .before .before .before .before .before .before .pre in
-    let one = one-first cells (omega arith) (p .long) (c .before .before .zero .ensures) in
+    let after-zero = c .before .before in
+    let start = after-zero .before .before .before .before in
+    let p = start .pre in
+    let one = one-first cells (omega arith) (p .long) (after-zero .zero .ensures) in
     (search needs, weighed-same (one .rest .long) p, omega (arith, p .light), none-read p one, outside-none)
 
 mul-w : tie.Need-mul-w Inv-loop μ-loop
@@ -53,17 +55,24 @@ add-turn c = search needs
 
 turn-requires : tie.Need-turn-requires Inv-loop μ-loop
 turn-requires c κs =
-    let l = c .before .before .before .before in
-    let v = l .loop .inv in
-    let taken = c .before .before .before .loop-test .taken in
-    let next = total-drop (l .loop .i) (l .before .before .before .before .before .before .before .args .weights .now) taken in
+    let in-loop = c .before .before .before in
+    let at-loop = in-loop .before in
+    let after-zero = at-loop .before .before .before in
+    let start = after-zero .before .before .before .before in
+    let v = at-loop .loop .inv in
+    let taken = in-loop .loop-test .taken in
+    let next = total-drop (at-loop .loop .i) (start .args .weights .now) taken in
     sums-turnable (weighed-same (v .4 .long) (v .1)) (v .3) taken refl (c .before .within .ensures) (omega (arith, v .2, next))
 
 add-reach : tie.Need-add-reach Inv-loop μ-loop
 add-reach c =
-    let l = c .before .before .before .before .before .before .before in
-    let weights = l .before .before .before .before .before .before .before .args .weights .now in
-    omega (arith, l .loop .inv .2, total-drop (l .loop .i) weights (c .before .before .before .before .before .before .loop-test .taken))
+    let after-within = c .before .before .before .before in
+    let in-loop = after-within .before .before in
+    let at-loop = in-loop .before in
+    let after-zero = at-loop .before .before .before in
+    let start = after-zero .before .before .before .before in
+    let weights = start .args .weights .now in
+    omega (arith, at-loop .loop .inv .2, total-drop (at-loop .loop .i) weights (in-loop .loop-test .taken))
 
 add-i : tie.Need-add-i Inv-loop μ-loop
 add-i c = search needs
@@ -73,12 +82,16 @@ loop-less c = search needs
 
 loop-again : tie.Need-loop-again Inv-loop μ-loop
 loop-again c =
-    let l = c .before .before .before .before .before .before .before in
-    let v = l .loop .inv in
-    let taken = c .before .before .before .before .before .before .loop-test .taken in
-    let next = total-drop (l .loop .i) (l .before .before .before .before .before .before .before .args .weights .now) taken in
+    let after-within = c .before .before .before .before in
+    let in-loop = after-within .before .before in
+    let at-loop = in-loop .before in
+    let after-zero = at-loop .before .before .before in
+    let start = after-zero .before .before .before .before in
+    let v = at-loop .loop .inv in
+    let taken = in-loop .loop-test .taken in
+    let next = total-drop (at-loop .loop .i) (start .args .weights .now) taken in
     let able = weighed-same (v .4 .long) (v .1) in
-    let count = c .before .before .before .before .within .ensures in
+    let count = after-within .within .ensures in
     let o = c .before .before .turn .ensures in (
       search needs,
       v .1,

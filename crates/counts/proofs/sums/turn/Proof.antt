@@ -40,9 +40,11 @@ loop-less c = search needs
 
 loop-again : tie.Need-loop-again Inv-loop μ-loop
 loop-again c =
-    let l = c .before .before .before .before .before .loop in
+    let after-add = c .before .before in
+    let at-loop = after-add .before .before .before in
+    let l = at-loop .loop in
     let e : l .j ≡ suc (l .j - 1) = omega arith in
-    (omega arith, l .inv .1, turned-row (l .inv .1) (rw e at (l .inv .2)) (omega arith) (c .before .before .add .ensures))
+    (omega arith, l .inv .1, turned-row (l .inv .1) (rw e at (l .inv .2)) (omega arith) (after-add .add .ensures))
 
 same-length : tie.Need-same-length Inv-loop μ-loop
 same-length c = search needs

@@ -45,8 +45,10 @@ loop-less c = omega arith
 
 loop-again : tie.Need-loop-again Inv-loop μ-loop
 loop-again c =
-    let a = c .before .before .before .before .before .before .args in
-    let l = c .before .before .before .loop in
+    let at-loop = c .before .before .before in
+    let start = at-loop .before .before .before in
+    let a = start .args in
+    let l = at-loop .loop in
     let told = map plain (a .word .now) in
     let byte = c .plain .ensures ∙ sym (List·getD-map plain (a .word .now) (l .k) 0) in
     let size = length-map (a .word .now) plain in (

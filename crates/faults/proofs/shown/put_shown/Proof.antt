@@ -24,17 +24,23 @@ same-length c = search needs
 returns : tie.Need-returns
 unfolding shown
 returns c =
-    let first = c .before .before .before .before .before .if1 in
-    let start = c .before .before .before .before .before .before .before .before in
-    let put = c .before .before .put in
+    let after-put = c .before .before in
+    let then1 = after-put .before .before .before in
+    let start = then1 .before .before .before in
+    let first = then1 .if1 in
+    let put = after-put .put in
     rw (eq-eqb _ 0 (first .taken)) (put-added (omega (arith, start .pre)) (put .ensures))
 
 slice-aggregate-put-plain : tie.Need-slice-aggregate-put-plain
-slice-aggregate-put-plain c = sym (length-take-le mostShown (c .before .before .before .before .before .args .word .now) (omega arith))
+slice-aggregate-put-plain c =
+    let else1 = c .before .before in
+    let start = else1 .before .before .before in
+    sym (length-take-le mostShown (start .args .word .now) (omega arith))
 
 put-plain-requires : tie.Need-put-plain-requires
 put-plain-requires c κs =
-    let start = c .before .before .before .before .before .before in
+    let else1 = c .before .before .before in
+    let start = else1 .before .before .before in
     let size = length-take-le mostShown (start .args .word .now) (omega arith) in omega (arith, start .pre, size)
 
 slice-aggregate-put-2 : tie.Need-slice-aggregate-put-2
@@ -42,9 +48,11 @@ slice-aggregate-put-2 c = search needs
 
 put-requires-2 : tie.Need-put-requires-2
 put-requires-2 c κs =
-    let start = c .before .before .before .before .before .before .before .before .before .before .before in
-    let next = c .before .before .before .before .before .before .before .if2 in
-    let told = c .before .before .before .before .put-plain in
+    let after-put-plain = c .before .before .before .before in
+    let then2 = after-put-plain .before .before .before in
+    let start = then2 .before .before .before .before in
+    let next = then2 .if2 in
+    let told = after-put-plain .put-plain in
     let word = start .args .word .now in
     let size = length-take-le mostShown word (omega (arith, next .taken)) in
     let ends : told .result ≡ start .args .at + length (map plain (take mostShown word)) = told .ensures .ends in
@@ -56,11 +64,15 @@ same-length-2 c = search needs
 returns-2 : tie.Need-returns-2
 unfolding shown
 returns-2 c =
-    let next = c .before .before .before .before .before .before .before .before .before .before .if2 in
-    let first = c .before .before .before .before .before .before .before .before .before .before .before .if1 in
+    let after-put-arg3 = c .before .before .before .before in
+    let after-put-plain = after-put-arg3 .before .before .before in
+    let then2 = after-put-plain .before .before .before in
+    let else1 = then2 .before in
+    let start = else1 .before .before .before in
+    let next = then2 .if2 in
+    let first = else1 .if1 in
     let put2 = c .before .before .put2 in
-    let start = c .before .before .before .before .before .before .before .before .before .before .before .before .before .before in
-    let told = c .before .before .before .before .before .before .before .put-plain in
+    let told = after-put-plain .put-plain in
     let word = start .args .word .now in
     let size = length-take-le mostShown word (omega (arith, next .taken)) in
     let room = length-map (take mostShown word) plain in
@@ -76,8 +88,10 @@ same-length-3 c = search needs
 returns-3 : tie.Need-returns-3
 unfolding shown
 returns-3 c =
-    let first = c .before .before .before .before .before .if1 in
-    let next = c .before .before .before .before .if2 in
+    let else2 = c .before .before .before .before in
+    let else1 = else2 .before in
+    let first = else1 .if1 in
+    let next = else2 .if2 in
     let put-plain2 = c .before .before .put-plain2 in
     rw (ne-eqb _ 0 (first .left), le-ltb _ _ (next .left)) (put-plain2 .ensures)
 

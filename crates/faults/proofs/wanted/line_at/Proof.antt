@@ -27,7 +27,10 @@ returns c =
     found _ _ (l .before .loop .inv) (l .loop-test .taken) (c .before .if1 .taken) (c .if2 .taken)
 
 add-line : tie.Need-add-line Inv-loop μ-loop
-add-line c = omega (arith, c .before .before .before .before .loop .inv .passed, c .before .before .before .before .before .fits .k .fits)
+add-line c =
+    let at-loop = c .before .before .before .before in
+    let start = at-loop .before in
+    omega (arith, at-loop .loop .inv .passed, start .fits .k .fits)
 
 loop-less : tie.Need-loop-less Inv-loop μ-loop
 loop-less c = omega arith

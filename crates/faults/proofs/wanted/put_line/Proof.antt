@@ -25,8 +25,11 @@ same-length c = search needs
 
 returns : tie.Need-returns
 returns c =
-    let is = c .before .before .before .before .before .line-at .ensures .line in
-    put-added (omega (arith, c .before .before .before .before .before .before .before .before .pre)) (rw is at (c .before .before .put .ensures))
+    let after-put = c .before .before in
+    let after-line-at = after-put .before .before .before in
+    let start = after-line-at .before .before .before in
+    let is = after-line-at .line-at .ensures .line in
+    put-added (omega (arith, start .pre)) (rw is at (after-put .put .ensures))
 
 pub put-line-spec : {M : Type 1} → statement M
 put-line-spec =

@@ -30,9 +30,11 @@ slice-aggregate-put c = search needs
 
 put-requires : tie.Need-put-requires
 put-requires c κs =
-    let below = c .before .before .before .before .before .before .before .before .below in
-    let start = c .before .before .before .before .before .before .before .before .before .before .before in
-    let pair = c .before .before .before .before .put-pair in
+    let after-put-pair = c .before .before .before .before in
+    let after-below = after-put-pair .before .before .before .before in
+    let start = after-below .before .before .before in
+    let below = after-below .below in
+    let pair = after-put-pair .put-pair in
     let parts = below .result in
     omega (arith, start .pre, pair .kept, pair-reach [] parts (text " or ") (parts + 1) (pair .ensures))
 
@@ -41,11 +43,15 @@ same-length c = search needs
 
 returns : tie.Need-returns
 returns c =
-    let below = c .before .before .before .before .before .before .before .before .before .before .before .below in
-    let start = c .before .before .before .before .before .before .before .before .before .before .before .before .before .before in
+    let after-put-arg = c .before .before .before .before in
+    let after-put-pair = after-put-arg .before .before .before in
+    let after-below = after-put-pair .before .before .before .before in
+    let then1 = after-below .before in
+    let start = then1 .before .before in
+    let below = after-below .below in
     let put = c .before .before .put in
-    let first = c .before .before .before .before .before .before .before .before .before .before .before .before .if1 in
-    let pair = c .before .before .before .before .before .before .before .put-pair in
+    let first = then1 .if1 in
+    let pair = after-put-pair .put-pair in
     let parts = below .result in
     let reach = pair-reach [] parts (text " or ") (parts + 1) (pair .ensures) in
     let both = added-more (pair .ensures) (put-added (omega (arith, start .pre, pair .kept, reach)) (put .ensures)) in
@@ -59,8 +65,10 @@ same-length-2 c = search needs
 
 returns-2 : tie.Need-returns-2
 returns-2 c =
-    let start = c .before .before .before .before .before .before .before in
-    rw (ne-eqb _ _ (c .before .before .before .before .before .if1 .left), eq-eqb _ _ (c .before .before .before .before .if2 .taken))
+    let then2 = c .before .before .before .before in
+    let else1 = then2 .before in
+    let start = else1 .before .before in
+    rw (ne-eqb _ _ (else1 .if1 .left), eq-eqb _ _ (then2 .if2 .taken))
     (put-added (omega (arith, start .pre, decimal-short (start .args .named))) (c .before .before .put-number .ensures))
 
 returns-3 : tie.Need-returns-3

@@ -12,8 +12,9 @@ put-words-requires c κs = search needs
 
 put-numbers-requires : tie.Need-put-numbers-requires
 put-numbers-requires c κs =
-    let start = c .before .before .before .before .before .before in
-    let words = c .before .before .before .put-words in
+    let after-put-words = c .before .before .before in
+    let start = after-put-words .before .before .before in
+    let words = after-put-words .put-words in
     omega (arith, start .pre, words .kept, words .ensures .ends, words-short (start .args .wanted))
 
 same-length : tie.Need-same-length
@@ -21,7 +22,10 @@ same-length c = search needs
 
 returns : tie.Need-returns
 unfolding wantedText
-returns c = added-more (c .before .before .before .before .before .before .put-words .ensures) (c .before .before .put-numbers .ensures)
+returns c =
+    let after-put-numbers = c .before .before in
+    let after-put-words = after-put-numbers .before .before .before .before in
+    added-more (after-put-words .put-words .ensures) (after-put-numbers .put-numbers .ensures)
 
 pub put-wanted-spec : {M : Type 1} → statement M
 put-wanted-spec = tie.close (tie.spec put-words-requires put-numbers-requires same-length returns)

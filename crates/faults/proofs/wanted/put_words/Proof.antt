@@ -33,7 +33,10 @@ same-length-2 : tie.Need-same-length-2
 same-length-2 c = search needs
 
 returns-3 : tie.Need-returns-3
-returns-3 c = rw (lt-ltb _ _ (c .before .before .before .before .before .if1 .left)) (c .before .before .put-place .ensures)
+returns-3 c =
+    let after-put-place = c .before .before in
+    let else1 = after-put-place .before .before .before in
+    rw (lt-ltb _ _ (else1 .if1 .left)) (after-put-place .put-place .ensures)
 
 pub put-words-spec : {M : Type 1} → statement M
 put-words-spec =

@@ -18,9 +18,12 @@ same-length c = search needs
 
 returns : tie.Need-returns
 returns c =
-    let pre = c .before .before .before .before .before .before .before .before .pre in
-    let works = c .before .before .before .before .works in
-    let value = c .before .before .before .end-value in
+    let after-end-value = c .before .before .before in
+    let after-works = after-end-value .before in
+    let start = after-works .before .before .before .before in
+    let pre = start .pre in
+    let works = after-works .works in
+    let value = after-end-value .end-value in
     let write = c .before .before .write in
     begun pre (works .ensures) (value .ensures) (write .ensures)
 

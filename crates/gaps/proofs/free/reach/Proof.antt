@@ -8,13 +8,22 @@ reach-cut-requires : tie.Need-reach-cut-requires
 reach-cut-requires c κs = search needs
 
 reach-paid-requires : tie.Need-reach-paid-requires
-reach-paid-requires c κs = cut-payable (c .before .before .before .before .before .before .before .pre) (c .before .before .before .reach-cut .ensures)
+reach-paid-requires c κs =
+    let after-reach-cut = c .before .before .before in
+    let start = after-reach-cut .before .before .before .before in
+    cut-payable (start .pre) (after-reach-cut .reach-cut .ensures)
 
 same-length : tie.Need-same-length
-same-length c = cut-reached (c .before .before .before .before .before .before .reach-cut .ensures) (c .before .before .reach-paid .ensures) .kept .long
+same-length c =
+    let after-reach-paid = c .before .before in
+    let after-reach-cut = after-reach-paid .before .before .before .before in
+    cut-reached (after-reach-cut .reach-cut .ensures) (after-reach-paid .reach-paid .ensures) .kept .long
 
 returns : tie.Need-returns
-returns c = cut-reached (c .before .before .before .before .before .before .reach-cut .ensures) (c .before .before .reach-paid .ensures)
+returns c =
+    let after-reach-paid = c .before .before in
+    let after-reach-cut = after-reach-paid .before .before .before .before in
+    cut-reached (after-reach-cut .reach-cut .ensures) (after-reach-paid .reach-paid .ensures)
 
 pub reach-spec : {M : Type 1} → statement M
 reach-spec = tie.close (tie.spec reach-cut-requires reach-paid-requires same-length returns)

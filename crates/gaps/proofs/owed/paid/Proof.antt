@@ -15,13 +15,17 @@ read-requires c κs = paid-place (c .before .before .before .before .pre .0) (c 
 
 back-requires : tie.Need-back-requires
 back-requires c κs =
-    let pre = c .before .before .before .before .before .pre in
-    paid-owing (pre .0) (pre .1) (c .before .worked-many .ensures) (c .read .ensures)
+    let after-worked-many = c .before in
+    let start = after-worked-many .before .before .before .before in
+    let pre = start .pre in
+    paid-owing (pre .0) (pre .1) (after-worked-many .worked-many .ensures) (c .read .ensures)
 
 returns : tie.Need-returns
 returns c =
-    let pre = c .before .before .before .before .before .before .pre in
-    let worked-many = c .before .before .worked-many in
+    let after-worked-many = c .before .before in
+    let start = after-worked-many .before .before .before .before in
+    let pre = start .pre in
+    let worked-many = after-worked-many .worked-many in
     paid-is (pre .0) (pre .1) (worked-many .ensures) (c .before .read .ensures) (c .back .ensures)
 
 pub paid-spec : {M : Type 1} → statement M

@@ -8,7 +8,10 @@ cut-short-requires : tie.Need-cut-short-requires
 cut-short-requires c κs = search needs
 
 returns : tie.Need-returns
-returns c = past-is (c .before .before .before .before .before .pre) (c .before .if1 .taken) (c .cut-short .ensures)
+returns c =
+    let then1 = c .before in
+    let start = then1 .before .before .before .before in
+    past-is (start .pre) (then1 .if1 .taken) (c .cut-short .ensures)
 
 paid-requires : tie.Need-paid-requires
 paid-requires c κs = search needs

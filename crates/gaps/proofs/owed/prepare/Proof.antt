@@ -38,12 +38,18 @@ chance-requires : tie.Need-chance-requires Inv-loop μ-loop
 chance-requires c κs = search needs
 
 failure-requires : tie.Need-failure-requires Inv-loop μ-loop
-failure-requires c κs = rw (c .chance .ensures) (c .before .before .before .before .before .before .before .before .pre .units _)
+failure-requires c κs =
+    let after-by-shares = c .before .before .before .before in
+    let start = after-by-shares .before .before .before .before in
+    rw (c .chance .ensures) (start .pre .units _)
 
 deal-requires : tie.Need-deal-requires Inv-loop μ-loop
 deal-requires c κs =
-    let pre = c .before .before .before .before .before .before .before .before .before .pre in
-    let whole = c .before .before .before .before .before .before .whole in
+    let at-loop = c .before .before .before in
+    let after-whole = at-loop .before .before .before in
+    let start = after-whole .before .before .before in
+    let pre = start .pre in
+    let whole = after-whole .whole in
     rw (whole .ensures) (record {
       unit = whole-any _;
       survival = rw (c .before .chance .ensures) (pre .units _);
@@ -55,9 +61,13 @@ add-write-shares c = search needs
 
 write-shares-requires : tie.Need-write-shares-requires Inv-loop μ-loop
 write-shares-requires c κs =
-    let pre = c .before .before .before .before .before .before .before .before .before .before .before .pre in
-    let loop = c .before .before .before .before .before .loop in
-    let test = c .before .before .before .before .loop-test in
+    let in-loop = c .before .before .before .before in
+    let at-loop = in-loop .before in
+    let after-whole = at-loop .before .before .before in
+    let start = after-whole .before .before .before in
+    let pre = start .pre in
+    let loop = at-loop .loop in
+    let test = in-loop .loop-test in
     record { low = omega (arith, test .taken, pre .size); room = room-kept (loop .inv .1 .kept) (pre .room) }
 
 add-i : tie.Need-add-i Inv-loop μ-loop
@@ -68,11 +78,17 @@ loop-less c = search needs
 
 loop-again : tie.Need-loop-again Inv-loop μ-loop
 loop-again c =
-    let pre = c .before .before .before .before .before .before .before .before .before .before .before .before .before .before .pre in
-    let loop = c .before .before .before .before .before .before .before .before .loop in
-    let test = c .before .before .before .before .before .before .before .loop-test in
-    let chance = c .before .before .before .before .before .before .chance in
-    let deal = c .before .before .before .before .deal in (
+    let after-deal = c .before .before .before .before in
+    let after-chance = after-deal .before .before in
+    let in-loop = after-chance .before in
+    let at-loop = in-loop .before in
+    let after-whole = at-loop .before .before .before in
+    let start = after-whole .before .before .before in
+    let pre = start .pre in
+    let loop = at-loop .loop in
+    let test = in-loop .loop-test in
+    let chance = after-chance .chance in
+    let deal = after-deal .deal in (
       omega (arith, test .taken),
       shared-more (loop .inv .1) (omega (arith, test .taken, pre .size)) (rw (chance .ensures) at (deal .ensures .of-p)) (rw (chance .ensures) at (deal .ensures .of-q))
           (c .before .before .write-shares .ensures),

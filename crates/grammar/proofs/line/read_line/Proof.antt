@@ -38,13 +38,18 @@ part-step-end : tie.Need-part-step-end Inv-loop μ-loop
 part-step-end c = omega (arith, c .next .ensures .high)
 
 step-requires : tie.Need-step-requires Inv-loop μ-loop
-step-requires c κs = (c .before .before .before .before .before .pre, c .before .before .loop .inv .1)
+step-requires c κs =
+    let at-loop = c .before .before in
+    let start = at-loop .before .before .before in
+    (start .pre, at-loop .loop .inv .1)
 
 returns : tie.Need-returns Inv-loop μ-loop
 returns c =
-    let start = c .before .before .before .before .before .before .before .before in
-    let turn = c .before .before .before .before .before .loop in
-    let next = c .before .before .before .before .next in
+    let after-next = c .before .before .before .before in
+    let at-loop = after-next .before in
+    let start = at-loop .before .before .before in
+    let turn = at-loop .loop in
+    let next = after-next .next in
     let step = c .before .before .step in
     let e = line-ends (start .args .line .now) (start .args .version) (turn .place) (turn .set) (turn .at) _ _ (next .ensures) _ (turn .inv .2) _ _ (step .ensures .0) (step .ensures .1) (c .if1 .taken) in record { low = next .ensures .mid; high = next .ensures .high; ended = sym (ap (λ x. x .ended) e); word = sym (ap (λ x. x .word) e); set = sym (ap (λ x. x .set) e) }
 
@@ -53,27 +58,35 @@ goes-on-requires c κs = search needs
 
 returns-2 : tie.Need-returns-2 Inv-loop μ-loop
 returns-2 c =
-    let start = c .before .before .before .before .before .before .before .before .before .before in
-    let turn = c .before .before .before .before .before .before .before .loop in
-    let next = c .before .before .before .before .before .before .next in
-    let step = c .before .before .before .before .step in
+    let after-step = c .before .before .before .before in
+    let after-next = after-step .before .before in
+    let at-loop = after-next .before in
+    let start = at-loop .before .before .before in
+    let turn = at-loop .loop in
+    let next = after-next .next in
+    let step = after-step .step in
     let test = c .before .before .if1 in
     let goes-on = c .before .goes-on in
     let e = line-stops (start .args .line .now) (start .args .version) (turn .place) (turn .set) (turn .at) _ _ (next .ensures) _ (turn .inv .2) _ _ (step .ensures .0) (step .ensures .1) (omega (arith, next .ensures .mid, test .left)) (sym (goes-on .ensures) ∙ not-true _ (c .if2 .taken)) in record { low = next .ensures .mid; high = next .ensures .high; ended = sym (ap (λ x. x .ended) e); word = sym (ap (λ x. x .word) e); set = sym (ap (λ x. x .set) e) }
 
 loop-less : tie.Need-loop-less Inv-loop μ-loop
 loop-less c =
-    let next = c .before .before .before .before .before .before .next in
-    let test = c .before .before .if1 in
+    let else1 = c .before .before in
+    let after-next = else1 .before .before .before .before in
+    let next = after-next .next in
+    let test = else1 .if1 in
     omega (arith, next .ensures .low, next .ensures .mid, next .ensures .high, test .left)
 
 loop-again : tie.Need-loop-again Inv-loop μ-loop
 loop-again c =
+    let after-step = c .before .before .before .before in
+    let after-next = after-step .before .before in
+    let at-loop = after-next .before in
+    let start = at-loop .before .before .before in
     let goes-on = c .before .goes-on in
-    let next = c .before .before .before .before .before .before .next in
-    let start = c .before .before .before .before .before .before .before .before .before .before in
-    let turn = c .before .before .before .before .before .before .before .loop in
-    let step = c .before .before .before .before .step in
+    let next = after-next .next in
+    let turn = at-loop .loop in
+    let step = after-step .step in
     let test = c .before .before .if1 in
     let g = sym (goes-on .ensures) ∙ not-false _ (c .if2 .left) in (next .ensures .high, goes-few _ g, line-goes (start .args .line .now) (start .args .version) (turn .place) (turn .set) (turn .at) _ _ (next .ensures) _ (turn .inv .2) _ _ (step .ensures .0) (step .ensures .1) (omega (arith, next .ensures .mid, test .left)) g)
 

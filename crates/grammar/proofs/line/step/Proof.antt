@@ -38,8 +38,9 @@ element-copy-out-with c = omega (arith, c .before .before .row-for .ensures .1, 
 
 with-requires : tie.Need-with-requires
 with-requires c κs =
-    let start = c .before .before .before .before .before in
-    let row-for = c .before .before .before .row-for in
+    let after-row-for = c .before .before .before in
+    let start = after-row-for .before .before in
+    let row-for = after-row-for .row-for in
     let test = c .before .before .if1 in
     let x = start .args in let row = row-for .result in omega (arith, cell-at (x .table .now) (start .pre .0) row 4, set-few row (omega (arith, row-for .ensures .1, test .left)))
 
@@ -54,11 +55,14 @@ element-copy-out-t16 c = omega (arith, c .before .before .before .before .row-fo
 
 returns-2 : tie.Need-returns-2
 returns-2 c =
-    let start = c .before .before .before .before .before .before .before in
-    let row-for = c .before .before .before .before .before .row-for in
-    let test = c .before .before .before .before .if1 in
+    let after-value-by = c .before .before .before in
+    let else1 = after-value-by .before in
+    let after-row-for = else1 .before in
+    let start = after-row-for .before .before in
+    let row-for = after-row-for .row-for in
+    let test = else1 .if1 in
     let with = c .before .with in
-    let value-by = c .before .before .before .value-by in
+    let value-by = after-value-by .value-by in
     let x = start .args in let is = row-for .ensures .0 in let row = row-for .result in let table = cell-at (x .table .now) (start .pre .0) row in let l : row < rows = (omega (arith, row-for .ensures .1, test .left)) in (table 6 ∙ sym (place-some (x .version) (x .place) (x .word .now) (x .before) row is l), with .ensures ∙ ap₂ (λ k v. set (x .before) k v) (table 4) (value-by .ensures) ∙ sym (set-some (x .version) (x .place) (x .word .now) (x .before) row is l))
 
 pub step-spec : {M : Type 1} → statement M

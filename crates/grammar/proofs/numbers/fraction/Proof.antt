@@ -37,8 +37,9 @@ returns-2 c =
 
 slice-aggregate-whole : tie.Need-slice-aggregate-whole
 slice-aggregate-whole c =
-    let point = c .before .before .before .point in
-    let start = c .before .before .before .before .before in
+    let after-point = c .before .before .before in
+    let start = after-point .before .before in
+    let point = after-point .point in
     omega (arith, length-take-le (point .result) (start .args .word .now) (point .ensures .1))
 
 whole-requires : tie.Need-whole-requires
@@ -61,24 +62,32 @@ joined-requires c κs = (c .before .before .whole .ensures .1, c .whole2 .ensure
 
 returns-3 : tie.Need-returns-3
 returns-3 c =
-    let start = c .before .before .before .before .before .before .before .before .before .before in
-    let point = c .before .before .before .before .before .before .before .before .point in
+    let after-whole = c .before .before .before .before in
+    let else2 = after-whole .before .before in
+    let else1 = else2 .before in
+    let after-point = else1 .before in
+    let start = after-point .before .before in
+    let point = after-point .point in
     let joined-done = c .before .joined in
-    let whole-done = c .before .before .before .before .whole in
+    let whole-done = after-whole .whole in
     let whole2 = c .before .before .whole2 in
-    let test = c .before .before .before .before .before .before .before .if1 in
-    let test2 = c .before .before .before .before .before .before .if2 in
+    let test = else1 .if1 in
+    let test2 = else2 .if2 in
     let word = start .args .word .now in let at = point .result in let is = joined-done .ensures ∙ ap₂ (λ b h. joined b h (length word - (at + 1))) (whole-done .ensures .0) (whole2 .ensures .0 ∙ ap whole (rest-all word (at + 1))) in (sym (ap (decimalAt word) (sym (point .ensures .0)) ∙ above-one word at (test .left) (test2 .left) (joined-done .result) is (c .if3 .taken)), omega arith)
 
 returns-4 : tie.Need-returns-4
 returns-4 c =
-    let start = c .before .before .before .before .before .before .before .before .before .before in
-    let point = c .before .before .before .before .before .before .before .before .point in
+    let after-whole = c .before .before .before .before in
+    let else2 = after-whole .before .before in
+    let else1 = else2 .before in
+    let after-point = else1 .before in
+    let start = after-point .before .before in
+    let point = after-point .point in
     let joined-done = c .before .joined in
-    let whole-done = c .before .before .before .before .whole in
+    let whole-done = after-whole .whole in
     let whole2 = c .before .before .whole2 in
-    let test = c .before .before .before .before .before .before .before .if1 in
-    let test2 = c .before .before .before .before .before .before .if2 in
+    let test = else1 .if1 in
+    let test2 = else2 .if2 in
     let word = start .args .word .now in let at = point .result in let is = joined-done .ensures ∙ ap₂ (λ b h. joined b h (length word - (at + 1))) (whole-done .ensures .0) (whole2 .ensures .0 ∙ ap whole (rest-all word (at + 1))) in (sym (ap (decimalAt word) (sym (point .ensures .0)) ∙ in-billionths word at (test .left) (test2 .left) (joined-done .result) is (c .if3 .left)), omega (arith, c .if3 .left))
 
 pub fraction-spec : {M : Type 1} → statement M

@@ -32,7 +32,13 @@ loop-less : tie.Need-loop-less Inv-loop μ-loop
 loop-less c = omega (arith, c .before .before .loop-test .taken)
 
 loop-again : tie.Need-loop-again Inv-loop μ-loop
-loop-again c = let l = c .before .before .before .loop in let x = c .before .before .before .before .before .args in (omega (arith, c .before .before .loop-test .taken), rw (add-one, c .with-letter .ensures) (l .inv .1 ∙ letter-on (x .word .now) (l .i) (c .before .before .loop-test .taken) (l .number)))
+loop-again c =
+    let in-loop = c .before .before in
+    let at-loop = in-loop .before in
+    let start = at-loop .before .before in
+    let l = at-loop .loop in
+    let x = start .args in
+    (omega (arith, in-loop .loop-test .taken), rw (add-one, c .with-letter .ensures) (l .inv .1 ∙ letter-on (x .word .now) (l .i) (in-loop .loop-test .taken) (l .number)))
 
 returns : tie.Need-returns Inv-loop μ-loop
 returns c = let l = c .before .loop in sym (l .inv .1 ∙ letters-end (c .before .before .before .args .word .now) (l .i) (omega (arith, l .inv .0, c .loop-test .left)) (l .number))

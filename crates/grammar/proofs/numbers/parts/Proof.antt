@@ -20,7 +20,10 @@ share-requires : tie.Need-share-requires
 share-requires c κs = c .fraction .ensures .1
 
 returns-2 : tie.Need-returns-2
-returns-2 c = c .share .ensures ∙ ap (share (c .before .before .before .before .before .args .version)) (c .before .fraction .ensures .0) ∙ sym (parts-decimal _ _ (sym (c .before .before .before .whole .ensures .0) ∙ c .before .before .if1 .left))
+returns-2 c =
+    let after-whole = c .before .before .before in
+    let start = after-whole .before .before in
+    c .share .ensures ∙ ap (share (start .args .version)) (c .before .fraction .ensures .0) ∙ sym (parts-decimal _ _ (sym (after-whole .whole .ensures .0) ∙ c .before .before .if1 .left))
 
 pub parts-spec : {M : Type 1} → statement M
 parts-spec = tie.close (tie.spec whole-requires returns fraction-requires share-requires returns-2)

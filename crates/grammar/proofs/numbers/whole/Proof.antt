@@ -31,7 +31,13 @@ is-digit-requires : tie.Need-is-digit-requires Inv-loop μ-loop
 is-digit-requires c κs = search needs
 
 returns-2 : tie.Need-returns-2 Inv-loop μ-loop
-returns-2 c = let l = c .before .before .before .before .loop in let b = sym (c .before .is-digit .ensures) ∙ not-true _ (c .if2 .taken) in (sym (l .inv .2 ∙ digit-none (c .before .before .before .before .before .before .before .args .word .now) (l .i) (c .before .before .before .loop-test .taken) (l .number) b), omega arith)
+returns-2 c =
+    let in-loop = c .before .before .before in
+    let at-loop = in-loop .before in
+    let start = at-loop .before .before .before in
+    let l = at-loop .loop in
+    let b = sym (c .before .is-digit .ensures) ∙ not-true _ (c .if2 .taken) in
+    (sym (l .inv .2 ∙ digit-none (start .args .word .now) (l .i) (in-loop .loop-test .taken) (l .number) b), omega arith)
 
 with-digit-requires : tie.Need-with-digit-requires Inv-loop μ-loop
 with-digit-requires c κs = (c .before .before .before .before .loop .inv .1, sym (c .before .is-digit .ensures) ∙ not-false _ (c .if2 .left))
@@ -43,7 +49,13 @@ loop-less : tie.Need-loop-less Inv-loop μ-loop
 loop-less c = omega (arith, c .before .before .before .before .loop-test .taken)
 
 loop-again : tie.Need-loop-again Inv-loop μ-loop
-loop-again c = let l = c .before .before .before .before .before .loop in let b = sym (c .before .before .is-digit .ensures) ∙ not-false _ (c .before .if2 .left) in (omega (arith, c .before .before .before .before .loop-test .taken), c .with-digit .ensures .1, rw (add-one, c .with-digit .ensures .0) (l .inv .2 ∙ digit-on (c .before .before .before .before .before .before .before .before .args .word .now) (l .i) (c .before .before .before .before .loop-test .taken) (l .number) b))
+loop-again c =
+    let in-loop = c .before .before .before .before in
+    let at-loop = in-loop .before in
+    let start = at-loop .before .before .before in
+    let l = at-loop .loop in
+    let b = sym (c .before .before .is-digit .ensures) ∙ not-false _ (c .before .if2 .left) in
+    (omega (arith, in-loop .loop-test .taken), c .with-digit .ensures .1, rw (add-one, c .with-digit .ensures .0) (l .inv .2 ∙ digit-on (start .args .word .now) (l .i) (in-loop .loop-test .taken) (l .number) b))
 
 returns-3 : tie.Need-returns-3 Inv-loop μ-loop
 returns-3 c = let l = c .before .loop in (sym (l .inv .2 ∙ digits-end (c .before .before .before .before .args .word .now) (l .i) (omega (arith, l .inv .0, c .loop-test .left)) (l .number)), l .inv .1)

@@ -34,35 +34,56 @@ reading-requires : tie.Need-reading-requires
 reading-requires c κs = search needs
 
 add-if2 : tie.Need-add-if2
-add-if2 c = omega (arith, c .before .before .before .before .before .pre .1)
+add-if2 c =
+    let after-if12 = c .before .before .before in
+    let start = after-if12 .before .before in
+    omega (arith, start .pre .1)
 
 mul-if2 : tie.Need-mul-if2
-mul-if2 c = omega (arith, c .before .before .before .before .before .pre .1)
+mul-if2 c =
+    let after-if12 = c .before .before .before in
+    let start = after-if12 .before .before in
+    omega (arith, start .pre .1)
 
 element-copy-out-if2 : tie.Need-element-copy-out-if2
-element-copy-out-if2 c = omega (arith, c .before .before .before .before .before .pre .1)
+element-copy-out-if2 c =
+    let after-if12 = c .before .before .before in
+    let start = after-if12 .before .before in
+    omega (arith, start .pre .1)
 
 returns-2 : tie.Need-returns-2
 returns-2 c =
-    let start = c .before .before .before .before .before .before .before in
-    let test = c .before .before .before .before .if1 in
+    let else1 = c .before .before .before .before in
+    let start = else1 .before .before .before in
+    let test = else1 .if1 in
     let reading = c .before .before .reading in
     let x = start .args in sym (below-least (x .table .now) (start .pre .0) (x .i) _ _ _ (test .left) _ (reading .ensures) (c .if2 .taken))
 
 add-result : tie.Need-add-result
-add-result c = omega (arith, c .before .before .before .before .before .before .before .pre .1)
+add-result c =
+    let else1 = c .before .before .before .before in
+    let start = else1 .before .before .before in
+    omega (arith, start .pre .1)
 
 mul-result : tie.Need-mul-result
-mul-result c = omega (arith, c .before .before .before .before .before .before .before .pre .1)
+mul-result c =
+    let else1 = c .before .before .before .before in
+    let start = else1 .before .before .before in
+    omega (arith, start .pre .1)
 
 element-copy-out-result : tie.Need-element-copy-out-result
-element-copy-out-result c = omega (arith, c .before .before .before .before .before .before .before .pre .1)
+element-copy-out-result c =
+    let else1 = c .before .before .before .before in
+    let start = else1 .before .before .before in
+    omega (arith, start .pre .1)
 
 returns-3 : tie.Need-returns-3
 returns-3 c =
-    let start = c .before .before .before .before .before .before .before .before in
-    let test = c .before .before .before .before .before .if1 in
-    let reading = c .before .before .before .reading in
+    let after-reading = c .before .before .before in
+    let else1 = after-reading .before .before in
+    let start = else1 .before .before .before in
+    let test = else1 .if1 in
+    let reading = after-reading .reading in
     let test2 = c .before .if2 in
     let x = start .args in up-to-most (x .table .now) (start .pre .0) (x .i) _ _ _ (test .left) _ (reading .ensures) (test2 .left)
 

@@ -28,7 +28,13 @@ shared-slice-read-if1 : tie.Need-shared-slice-read-if1 Inv-loop μ-loop
 shared-slice-read-if1 c = omega arith
 
 returns : tie.Need-returns Inv-loop μ-loop
-returns c = let l = c .before .before .before .loop in let x = c .before .before .before .before .before .args in let e = eq-eqb _ _ (c .if1 .taken) in record { low = l .inv .0; high = l .inv .1; words = l .inv .2 ∙ at-comment (x .line .now) (l .i) (c .before .before .loop-test .taken) (part (x .line .now) (x .at) (l .i)) e; stops = λ _. or-first _ _ e }
+returns c =
+    let at-loop = c .before .before .before in
+    let start = at-loop .before .before in
+    let l = at-loop .loop in
+    let x = start .args in
+    let e = eq-eqb _ _ (c .if1 .taken) in
+    record { low = l .inv .0; high = l .inv .1; words = l .inv .2 ∙ at-comment (x .line .now) (l .i) (c .before .before .loop-test .taken) (part (x .line .now) (x .at) (l .i)) e; stops = λ _. or-first _ _ e }
 
 shared-slice-read-is-blank : tie.Need-shared-slice-read-is-blank Inv-loop μ-loop
 shared-slice-read-is-blank c = omega (arith, c .before .before .before .loop-test .taken)
@@ -37,16 +43,38 @@ is-blank-requires : tie.Need-is-blank-requires Inv-loop μ-loop
 is-blank-requires c κs = search needs
 
 returns-2 : tie.Need-returns-2 Inv-loop μ-loop
-returns-2 c = let l = c .before .before .before .before .before .before .loop in let x = c .before .before .before .before .before .before .before .before .args in let b = sym (c .before .is-blank .ensures) ∙ c .if2 .taken in record { low = l .inv .0; high = l .inv .1; words = l .inv .2 ∙ at-blank (x .line .now) (l .i) (c .before .before .before .before .before .loop-test .taken) (part (x .line .now) (x .at) (l .i)) b; stops = λ _. or-second (eqb (getD (x .line .now) (l .i) 0) comment) _ b }
+returns-2 c =
+    let after-is-blank = c .before in
+    let in-loop = after-is-blank .before .before .before .before in
+    let at-loop = in-loop .before in
+    let start = at-loop .before .before in
+    let l = at-loop .loop in
+    let x = start .args in
+    let b = sym (after-is-blank .is-blank .ensures) ∙ c .if2 .taken in
+    record { low = l .inv .0; high = l .inv .1; words = l .inv .2 ∙ at-blank (x .line .now) (l .i) (in-loop .loop-test .taken) (part (x .line .now) (x .at) (l .i)) b; stops = λ _. or-second (eqb (getD (x .line .now) (l .i) 0) comment) _ b }
 
 add-i : tie.Need-add-i Inv-loop μ-loop
-add-i c = omega (arith, c .before .before .before .before .before .loop-test .taken)
+add-i c =
+    let after-is-blank = c .before in
+    let in-loop = after-is-blank .before .before .before .before in
+    omega (arith, in-loop .loop-test .taken)
 
 loop-less : tie.Need-loop-less Inv-loop μ-loop
-loop-less c = omega (arith, c .before .before .before .before .before .loop-test .taken)
+loop-less c =
+    let after-is-blank = c .before in
+    let in-loop = after-is-blank .before .before .before .before in
+    omega (arith, in-loop .loop-test .taken)
 
 loop-again : tie.Need-loop-again Inv-loop μ-loop
-loop-again c = let l = c .before .before .before .before .before .before .loop in let x = c .before .before .before .before .before .before .before .before .args in let b = sym (c .before .is-blank .ensures) ∙ c .if2 .left in (omega (arith, l .inv .0), omega (arith, c .before .before .before .before .before .loop-test .taken), rw add-one (l .inv .2 ∙ pass-on (x .line .now) (l .i) (c .before .before .before .before .before .loop-test .taken) (x .at) (l .inv .0) (ne-eqb _ _ (c .before .before .before .if1 .left)) b))
+loop-again c =
+    let else1 = c .before .before .before in
+    let in-loop = else1 .before .before in
+    let at-loop = in-loop .before in
+    let start = at-loop .before .before in
+    let l = at-loop .loop in
+    let x = start .args in
+    let b = sym (c .before .is-blank .ensures) ∙ c .if2 .left in
+    (omega (arith, l .inv .0), omega (arith, in-loop .loop-test .taken), rw add-one (l .inv .2 ∙ pass-on (x .line .now) (l .i) (in-loop .loop-test .taken) (x .at) (l .inv .0) (ne-eqb _ _ (else1 .if1 .left)) b))
 
 returns-3 : tie.Need-returns-3 Inv-loop μ-loop
 returns-3 c = let l = c .before .loop in let x = c .before .before .before .args in record { low = l .inv .0; high = l .inv .1; words = l .inv .2 ∙ at-end (x .line .now) (l .i) (part (x .line .now) (x .at) (l .i)) (omega (arith, l .inv .1, c .loop-test .left)); stops = λ h. absurd (omega (arith, h, c .loop-test .left)) }

@@ -37,7 +37,13 @@ loop-less : tie.Need-loop-less Inv-loop μ-loop
 loop-less c = omega arith
 
 loop-again : tie.Need-loop-again Inv-loop μ-loop
-loop-again c = let l = c .before .before .before .before .loop in let b = sym (c .before .is-blank .ensures) ∙ not-false _ (c .if1 .left) in (omega (arith, l .inv .0), omega (arith, c .before .before .before .loop-test .taken), rw add-one (skip-on (c .before .before .before .before .before .before .args .line .now) (l .i) (c .before .before .before .loop-test .taken) b ∙ l .inv .2))
+loop-again c =
+    let in-loop = c .before .before .before in
+    let at-loop = in-loop .before in
+    let start = at-loop .before .before in
+    let l = at-loop .loop in
+    let b = sym (c .before .is-blank .ensures) ∙ not-false _ (c .if1 .left) in
+    (omega (arith, l .inv .0), omega (arith, in-loop .loop-test .taken), rw add-one (skip-on (start .args .line .now) (l .i) (in-loop .loop-test .taken) b ∙ l .inv .2))
 
 returns-2 : tie.Need-returns-2 Inv-loop μ-loop
 returns-2 c = let l = c .before .loop in record { low = l .inv .0; high = l .inv .1; words = l .inv .2; stops = λ h. absurd (omega (arith, h, c .loop-test .left)) }

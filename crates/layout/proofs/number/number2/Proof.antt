@@ -35,7 +35,9 @@ add-result c = omega (arith, bytes-fit c)
 
 returns : tie.Need-returns
 returns c =
-    let a = c .before .before .before .before .before .args in
+    let after-wide = c .before .before in
+    let start = after-wide .before .before .before in
+    let a = start .args in
     omega (arith, number-two (a .bytes .now) (a .at))
 
 pub number2-spec : {M : Type 1} → statement M

@@ -36,8 +36,10 @@ same-length c = search needs
 returns-2 : tie.Need-returns-2
 unfolding added
 returns-2 c =
-    let test = c .before .before .before .before .before .if1 in
-    let test2 = c .before .before .before .before .if2 in
+    let then2 = c .before .before .before .before in
+    let else1 = then2 .before in
+    let test = else1 .if1 in
+    let test2 = then2 .if2 in
     let added-fans = c .before .before .added-fans in
     step-as (added-fans .ensures) (λ s. rw (ne-eqb _ aVersion (test .left), eq-eqb _ someFans (test2 .taken)))
 
@@ -50,9 +52,12 @@ same-length-2 c = search needs
 returns-3 : tie.Need-returns-3
 unfolding added
 returns-3 c =
-    let test = c .before .before .before .before .before .before .if1 in
-    let test2 = c .before .before .before .before .before .if2 in
-    let test3 = c .before .before .before .before .if3 in
+    let then3 = c .before .before .before .before in
+    let else2 = then3 .before in
+    let else1 = else2 .before in
+    let test = else1 .if1 in
+    let test2 = else2 .if2 in
+    let test3 = then3 .if3 in
     let added-board = c .before .before .added-board in
     step-as (added-board .ensures) (λ s. rw (ne-eqb _ aVersion (test .left), ne-eqb _ someFans (test2 .left), eq-eqb _ aBoard (test3 .taken)))
 
@@ -65,9 +70,12 @@ same-length-3 c = search needs
 returns-4 : tie.Need-returns-4
 unfolding added
 returns-4 c =
-    let test = c .before .before .before .before .before .before .if1 in
-    let test2 = c .before .before .before .before .before .if2 in
-    let test3 = c .before .before .before .before .if3 in
+    let else3 = c .before .before .before .before in
+    let else2 = else3 .before in
+    let else1 = else2 .before in
+    let test = else1 .if1 in
+    let test2 = else2 .if2 in
+    let test3 = else3 .if3 in
     let added-system = c .before .before .added-system in
     step-as (added-system .ensures) (λ s. rw (ne-eqb _ aVersion (test .left), ne-eqb _ someFans (test2 .left), ne-eqb _ aBoard (test3 .left)))
 

@@ -25,9 +25,11 @@ same-length c = search needs
 
 returns : tie.Need-returns
 returns c =
-    let test = c .before .before .before .before .if1 in
+    let then1 = c .before .before .before .before in
+    let start = then1 .before .before .before .before in
+    let test = then1 .if1 in
     let tell = c .before .before .tell in
-    let x = c .before .before .before .before .before .before .before .before .args in
+    let x = start .args in
     record {
       sane = tell .ensures .sane;
       few = tell .ensures .few;
@@ -57,14 +59,15 @@ plus-requires c κs = search needs
 
 returns-2 : tie.Need-returns-2
 returns-2 c =
-    let start = c .before .before .before .before .before in
+    let else1 = c .before in
+    let start = else1 .before .before .before .before in
     let sane = start .pre .0 in
     let more = c .plus .ensures in
     record {
       sane = record { counted = record { fans = more .lined (sane .counted .fans); boards = sane .counted .boards; switchboards = sane .counted .switchboards; systems = sane .counted .systems }; room = sane .room };
       few = omega arith;
       holds = λ s h.
-          some-left s h (length (s .survival) + getD (start .args .t3) ofNumber 0) mostFans manyFans _ _ (omega (arith, h .fans .parts .counted, c .before .if1 .left))
+          some-left s h (length (s .survival) + getD (start .args .t3) ofNumber 0) mostFans manyFans _ _ (omega (arith, h .fans .parts .counted, else1 .if1 .left))
           (record {
             lines = h .lines;
             version = h .version;

@@ -33,7 +33,9 @@ plus-requires c κs = search needs
 
 returns-2 : tie.Need-returns-2
 returns-2 c =
-    let sane = c .before .before .before .before .before .before .pre .0 in
+    let after-before2 = c .before .before .before in
+    let start = after-before2 .before .before .before in
+    let sane = start .pre .0 in
     let more = c .plus .ensures in
     record {
       sane = record { counted = record { fans = sane .counted .fans; boards = sane .counted .boards; switchboards = sane .counted .switchboards; systems = omega (arith, more .count, c .before .if1 .left) }; room = sane .room };

@@ -14,7 +14,8 @@ same-length c = search needs
 returns : tie.Need-returns
 returns c =
     let told = c .before .before in
-    let start = told .before .before .before .before .before in
+    let after-before2 = told .before .before in
+    let start = after-before2 .before .before .before in
     let counted = start .pre .counted in
     record {
       sane = record { counted = record { fans = counted .fans; boards = counted .boards; switchboards = counted .switchboards; systems = counted .systems }; room = told .plus .ensures .room };

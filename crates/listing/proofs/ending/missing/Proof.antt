@@ -22,9 +22,11 @@ same-length c = search needs
 
 returns-2 : tie.Need-returns-2
 returns-2 c =
-    let start = c .before .before .before .before .before .before .before in
-    let test = c .before .before .before .before .before .if1 in
-    let plus = c .before .before .plus in
+    let after-plus = c .before .before in
+    let else1 = after-plus .before .before .before in
+    let start = else1 .before .before in
+    let test = else1 .if1 in
+    let plus = after-plus .plus in
     rw (not-false (start .args .lacks) (test .left)) (plus .ensures)
 
 pub missing-spec : {M : Type 1} → statement M

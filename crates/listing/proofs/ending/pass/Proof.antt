@@ -25,10 +25,14 @@ same-length c = search needs
 
 returns-3 : tie.Need-returns-3
 returns-3 c =
-    let test = c .before .before .before .before .before .before .before .if1 in
-    let test2 = c .before .before .before .before .before .if2 in
-    let tell-board = c .before .before .tell-board in
-    let x = c .before .before .before .before .before .before .before .before .before .args in
+    let after-tell-board = c .before .before in
+    let else2 = after-tell-board .before .before .before in
+    let else1 = else2 .before .before in
+    let start = else1 .before .before in
+    let test = else1 .if1 in
+    let test2 = else2 .if2 in
+    let tell-board = after-tell-board .tell-board in
+    let x = start .args in
     let e = not-yet (x .g) (x .before .line) (x .line) (x .board) (test .left) (test2 .left) in
     record { told = rw e (tell-board .ensures); line = rw e }
 

@@ -28,10 +28,13 @@ same-length c = search needs
 
 returns : tie.Need-returns
 returns c =
-    let x = c .before .before .before .before .before .before .before .before .before .args in
-    let put = c .before .before .before .before .before .before .put-number in
+    let after-plus = c .before .before in
+    let after-put-number = after-plus .before .before .before .before in
+    let start = after-put-number .before .before .before in
+    let x = start .args in
+    let put = after-put-number .put-number in
     let a = put-added (omega (arith, decimal-short (x .board))) (put .ensures) in
-    rw (a .stands) at (c .before .before .plus .ensures)
+    rw (a .stands) at (after-plus .plus .ensures)
 
 pub tell-board-spec : {M : Type 1} → statement M
 tell-board-spec =

@@ -20,13 +20,22 @@ loop-holds : tie.Need-loop-holds Inv-loop μ-loop
 loop-holds c = (omega arith, passing-none _ _ _ _ _ (c .before .before .before .pre .0), refl)
 
 mul-pass : tie.Need-mul-pass Inv-loop μ-loop
-mul-pass c = omega (arith, c .before .before .before .before .before .before .pre .1 .few)
+mul-pass c =
+    let after-boards = c .before .before .before .before in
+    let start = after-boards .before .before in
+    omega (arith, start .pre .1 .few)
 
 array-read-pass : tie.Need-array-read-pass Inv-loop μ-loop
-array-read-pass c = omega (arith, c .before .before .before .before .before .before .pre .1 .few)
+array-read-pass c =
+    let after-boards = c .before .before .before .before in
+    let start = after-boards .before .before in
+    omega (arith, start .pre .1 .few)
 
 array-read-pass-2 : tie.Need-array-read-pass-2 Inv-loop μ-loop
-array-read-pass-2 c = omega (arith, c .before .before .before .before .before .before .pre .1 .few)
+array-read-pass-2 c =
+    let after-boards = c .before .before .before .before in
+    let start = after-boards .before .before in
+    omega (arith, start .pre .1 .few)
 
 pass-requires : tie.Need-pass-requires Inv-loop μ-loop
 pass-requires c κs =
@@ -41,12 +50,14 @@ loop-less c = search needs
 
 loop-again : tie.Need-loop-again Inv-loop μ-loop
 loop-again c =
-    let start = c .before .before .before .before .before .before .before .before .before .before in
-    let test = c .before .before .before .before .if1 in
+    let then1 = c .before .before .before .before in
+    let at-loop = then1 .before .before in
+    let start = at-loop .before .before .before .before in
+    let test = then1 .if1 in
     let pass = c .before .before .pass in
-    let x = c .before .before .before .before .before .before .before .before .before .before .args in
+    let x = start .args in
     let pre = start .pre .1 in
-    let l = c .before .before .before .before .before .before .loop in
+    let l = at-loop .loop in
     let t = test .taken in
     let n = x .fans .count in
     let b = length-take-le n (x .fans .boards) (omega (arith, pre .few, pre .boards)) in
@@ -60,9 +71,11 @@ same-length c = omega (arith, c .before .before .before .loop .inv .2)
 
 returns : tie.Need-returns Inv-loop μ-loop
 returns c =
-    let x = c .before .before .before .before .before .before .before .args in
-    let pre = c .before .before .before .before .before .before .before .pre .1 in
-    let l = c .before .before .before .loop in
+    let at-loop = c .before .before .before in
+    let start = at-loop .before .before .before .before in
+    let x = start .args in
+    let pre = start .pre .1 in
+    let l = at-loop .loop in
     let b = length-take-le (x .fans .count) (x .fans .boards) (omega (arith, pre .few, pre .boards)) in
     passing-all (l .inv .1) (omega (arith, b, c .before .if1 .left))
 

@@ -27,19 +27,27 @@ unfolding held
 loop-holds c = (omega arith, refl)
 
 shared-slice-read-change : tie.Need-shared-slice-read-change Inv-loop μ-loop
-shared-slice-read-change c = omega (arith, c .before .before .before .before .before .pre .0)
+shared-slice-read-change c =
+    let at-loop = c .before .before in
+    let start = at-loop .before .before .before in
+    omega (arith, start .pre .0)
 
 shared-slice-read-change-2 : tie.Need-shared-slice-read-change-2 Inv-loop μ-loop
-shared-slice-read-change-2 c = omega (arith, c .before .before .before .before .before .before .pre .1)
+shared-slice-read-change-2 c =
+    let at-loop = c .before .before .before in
+    let start = at-loop .before .before .before in
+    omega (arith, start .pre .1)
 
 change-requires : tie.Need-change-requires Inv-loop μ-loop
 change-requires c κs = search needs
 
 add-count : tie.Need-add-count Inv-loop μ-loop
 add-count c =
-    let x = c .before .before .before .before .before .before .before .args in
-    let l = c .before .before .before .before .loop in
-    omega (arith, l .inv .1, count-most (x .old .now) (x .new .now) (l .i), one-most (differs (x .old .now) (x .new .now) (l .i)) (c .change .ensures), c .before .before .before .before .before .before .before .pre .0, c .before .before .before .before .before .before .before .fits .k)
+    let at-loop = c .before .before .before .before in
+    let start = at-loop .before .before .before in
+    let x = start .args in
+    let l = at-loop .loop in
+    omega (arith, l .inv .1, count-most (x .old .now) (x .new .now) (l .i), one-most (differs (x .old .now) (x .new .now) (l .i)) (c .change .ensures), start .pre .0, start .fits .k)
 
 add-i : tie.Need-add-i Inv-loop μ-loop
 add-i c = search needs
@@ -49,8 +57,10 @@ loop-less c = omega arith
 
 loop-again : tie.Need-loop-again Inv-loop μ-loop
 loop-again c =
-    let x = c .before .before .before .before .before .before .before .args in
-    (omega arith, count-more (differs (x .old .now) (x .new .now)) (c .before .before .before .before .loop .i) (c .before .before .before .before .loop .inv .1) (c .change .ensures))
+    let at-loop = c .before .before .before .before in
+    let start = at-loop .before .before .before in
+    let x = start .args in
+    (omega arith, count-more (differs (x .old .now) (x .new .now)) (at-loop .loop .i) (at-loop .loop .inv .1) (c .change .ensures))
 
 returns : tie.Need-returns Inv-loop μ-loop
 returns c =

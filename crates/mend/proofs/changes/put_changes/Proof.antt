@@ -16,10 +16,16 @@ loop-holds : tie.Need-loop-holds Inv-loop μ-loop
 loop-holds c = putting-none (c .before .before .before .pre .1)
 
 shared-slice-read-put-change : tie.Need-shared-slice-read-put-change Inv-loop μ-loop
-shared-slice-read-put-change c = omega (arith, c .before .before .before .before .before .before .pre .0 .0)
+shared-slice-read-put-change c =
+    let at-loop = c .before .before in
+    let start = at-loop .before .before .before .before in
+    omega (arith, start .pre .0 .0)
 
 shared-slice-read-put-change-2 : tie.Need-shared-slice-read-put-change-2 Inv-loop μ-loop
-shared-slice-read-put-change-2 c = omega (arith, c .before .before .before .before .before .before .before .pre .0 .1)
+shared-slice-read-put-change-2 c =
+    let at-loop = c .before .before .before in
+    let start = at-loop .before .before .before .before in
+    omega (arith, start .pre .0 .1)
 
 put-change-requires : tie.Need-put-change-requires Inv-loop μ-loop
 put-change-requires c κs = putting-room (c .before .before .before .before .loop .inv) (c .before .before .before .loop-test .taken)
@@ -31,7 +37,11 @@ loop-less : tie.Need-loop-less Inv-loop μ-loop
 loop-less c = omega arith
 
 loop-again : tie.Need-loop-again Inv-loop μ-loop
-loop-again c = putting-more (c .before .before .before .before .before .before .before .loop .inv) (c .before .before .before .before .before .before .loop-test .taken) (c .before .before .put-change .ensures)
+loop-again c =
+    let after-put-change = c .before .before in
+    let in-loop = after-put-change .before .before .before .before in
+    let at-loop = in-loop .before in
+    putting-more (at-loop .loop .inv) (in-loop .loop-test .taken) (after-put-change .put-change .ensures)
 
 same-length : tie.Need-same-length Inv-loop μ-loop
 same-length c = c .before .loop .inv .long

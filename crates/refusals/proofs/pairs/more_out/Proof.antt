@@ -44,16 +44,22 @@ pair-out-requires c κs = search needs
 returns : tie.Need-returns Inv-loop μ-loop
 unfolding inRange8
 returns c =
-    let loop = c .before .before .before .before .before .loop in
-    let a = c .before .before .before .before .before .before .before .args in
+    let in-loop = c .before .before .before .before in
+    let at-loop = in-loop .before in
+    let start = at-loop .before .before in
+    let loop = at-loop .loop in
+    let a = start .args in
     sym
     (ap not
     (sym (loop .inv .1)
-    ∙ all-lost (a .more .now) (loop .i) (goodPair (a .n)) (c .before .before .before .before .loop-test .taken)
+    ∙ all-lost (a .more .now) (loop .i) (goodPair (a .n)) (in-loop .loop-test .taken)
     (not-true _ (sym (c .before .pair-out .ensures) ∙ c .if1 .taken))))
 
 add-i : tie.Need-add-i Inv-loop μ-loop
-add-i c = omega (arith, c .before .before .before .before .before .before .before .pre)
+add-i c =
+    let in-loop = c .before .before .before .before in
+    let start = in-loop .before .before .before in
+    omega (arith, start .pre)
 
 loop-less : tie.Need-loop-less Inv-loop μ-loop
 loop-less c = omega arith
@@ -61,10 +67,13 @@ loop-less c = omega arith
 loop-again : tie.Need-loop-again Inv-loop μ-loop
 unfolding inRange8
 loop-again c =
-    let loop = c .before .before .before .before .before .loop in
-    let a = c .before .before .before .before .before .before .before .args in (
+    let in-loop = c .before .before .before .before in
+    let at-loop = in-loop .before in
+    let start = at-loop .before .before in
+    let loop = at-loop .loop in
+    let a = start .args in (
       omega arith,
-      all-next (a .more .now) (loop .i) (goodPair (a .n)) (c .before .before .before .before .loop-test .taken)
+      all-next (a .more .now) (loop .i) (goodPair (a .n)) (in-loop .loop-test .taken)
           (not-false _ (sym (c .before .pair-out .ensures) ∙ c .if1 .left))
           ∙ loop .inv .1,
     )

@@ -37,9 +37,10 @@ loop-less c = search needs
 
 loop-again : tie.Need-loop-again Inv-loop μ-loop
 loop-again c =
-    let o = c .before .before .before .before .before .before in
-    let low = o .before .before .pre .low in
-    (omega arith, written-more (c .before .before .write .ensures) refl (omega arith) (c .before .before .before .end-value .ensures) (o .loop .inv .1))
+    let after-end-value = c .before .before .before in
+    let at-loop = after-end-value .before .before .before in
+    let low = at-loop .before .before .pre .low in
+    (omega arith, written-more (c .before .before .write .ensures) refl (omega arith) (after-end-value .end-value .ensures) (at-loop .loop .inv .1))
 
 same-length : tie.Need-same-length Inv-loop μ-loop
 same-length c = c .before .loop .inv .1 .kept .long

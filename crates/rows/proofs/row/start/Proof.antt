@@ -27,8 +27,10 @@ end-value-requires c κs = search needs
 
 write-requires : tie.Need-write-requires Inv-loop μ-loop
 write-requires c κs =
-    let pre = c .before .before .before .before .before .before .pre in
-    record { low = omega (arith, pre .0 .low); room = room-kept (c .before .before .before .before .loop .inv .1 .kept) (pre .0 .room) }
+    let at-loop = c .before .before .before .before in
+    let start = at-loop .before .before in
+    let pre = start .pre in
+    record { low = omega (arith, pre .0 .low); room = room-kept (at-loop .loop .inv .1 .kept) (pre .0 .room) }
 
 add-m : tie.Need-add-m Inv-loop μ-loop
 add-m c = search needs
@@ -38,10 +40,12 @@ loop-less c = search needs
 
 loop-again : tie.Need-loop-again Inv-loop μ-loop
 loop-again c =
-    let o = c .before .before .before .before .before .before .before in
-    let low = o .before .before .pre .0 .low in
-    let e = rw (c .before .before .before .before .before .works .ensures) at (c .before .before .before .end-value .ensures) in
-    (omega arith, written-more (c .before .before .write .ensures) (omega arith) (omega arith) e (o .loop .inv .1))
+    let after-end-value = c .before .before .before in
+    let after-works = after-end-value .before .before in
+    let at-loop = after-works .before .before in
+    let low = at-loop .before .before .pre .0 .low in
+    let e = rw (after-works .works .ensures) at (after-end-value .end-value .ensures) in
+    (omega arith, written-more (c .before .before .write .ensures) (omega arith) (omega arith) e (at-loop .loop .inv .1))
 
 same-length : tie.Need-same-length Inv-loop μ-loop
 same-length c = c .before .loop .inv .1 .kept .long

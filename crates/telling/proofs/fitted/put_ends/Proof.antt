@@ -27,7 +27,9 @@ same-length c = search needs
 
 returns-2 : tie.Need-returns-2
 returns-2 c =
-    let start = c .before .before .before .before .before .before .before .before .args in
+    let after-put-signed-pair-arg2 = c .before .before .before .before in
+    let at-start = after-put-signed-pair-arg2 .before .before .before .before in
+    let start = at-start .args in
     omega (arith, signed-pair-reach (text " lower ") (held (start .lower)) (text " upper ") (held (start .upper)) (c .before .before .put-signed-pair .ensures))
 
 pub put-ends-spec : {M : Type 1} → statement M

@@ -26,7 +26,9 @@ same-length c = search needs
 
 returns-2 : tie.Need-returns-2
 returns-2 c =
-    let start = c .before .before .before .before .before .before .before .before .args in
+    let after-put-pair-arg2 = c .before .before .before .before in
+    let at-start = after-put-pair-arg2 .before .before .before .before in
+    let start = at-start .args in
     omega (arith, pair-reach (text " low ") (start .low) (text " high ") (start .high) (c .before .before .put-pair .ensures))
 
 pub put-parts-spec : {M : Type 1} → statement M

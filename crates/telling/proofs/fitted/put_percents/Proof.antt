@@ -20,8 +20,10 @@ same-length c = search needs
 
 returns-2 : tie.Need-returns-2
 returns-2 c =
-    let start = c .before .before .before .before .before .before .args in
-    omega (arith, c .before .before .put-range .ensures .ends, range-short (whole (start .decimal)) (start .low) (start .high))
+    let after-put-range = c .before .before in
+    let at-start = after-put-range .before .before .before .before in
+    let start = at-start .args in
+    omega (arith, after-put-range .put-range .ensures .ends, range-short (whole (start .decimal)) (start .low) (start .high))
 
 pub put-percents-spec : {M : Type 1} → statement M
 put-percents-spec = tie.close (tie.spec sub-if1 returns put-range-requires same-length returns-2)

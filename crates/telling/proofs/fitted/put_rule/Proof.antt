@@ -19,8 +19,10 @@ same-length c = search needs
 
 returns-2 : tie.Need-returns-2
 returns-2 c =
-    let rule = c .before .before .before .before .before .before .args .rule in
-    omega (arith, c .before .before .put-rule .ensures .ends, rule-short (rule .kind) (rule .first) (rule .second))
+    let after-put-rule = c .before .before in
+    let start = after-put-rule .before .before .before .before in
+    let rule = start .args .rule in
+    omega (arith, after-put-rule .put-rule .ensures .ends, rule-short (rule .kind) (rule .first) (rule .second))
 
 pub put-rule-spec : {M : Type 1} → statement M
 put-rule-spec = tie.close (tie.spec sub-if1 returns put-rule-requires same-length returns-2)

@@ -19,8 +19,10 @@ same-length c = search needs
 
 returns-2 : tie.Need-returns-2
 returns-2 c =
-    let start = c .before .before .before .before .before .before .args in
-    omega (arith, c .before .before .put-stretch .ensures .ends, stretch-short (start .fans) (start .a) (start .b))
+    let after-put-stretch = c .before .before in
+    let at-start = after-put-stretch .before .before .before .before in
+    let start = at-start .args in
+    omega (arith, after-put-stretch .put-stretch .ensures .ends, stretch-short (start .fans) (start .a) (start .b))
 
 pub put-stretch-spec : {M : Type 1} → statement M
 put-stretch-spec = tie.close (tie.spec sub-if1 returns put-stretch-requires same-length returns-2)

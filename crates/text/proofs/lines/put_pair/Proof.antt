@@ -16,11 +16,14 @@ same-length c = search needs
 
 returns : tie.Need-returns
 returns c =
-    let start = c .before .before .before .before .before .before .before .before .before .before .before in
-    let first = c .before .before .before .before .before .before .put-named in
+    let after-put-named2 = c .before .before in
+    let after-put-named = after-put-named2 .before .before .before .before in
+    let after-put-named-arg = after-put-named .before in
+    let start = after-put-named-arg .before .before .before .before in
+    let first = after-put-named .put-named in
     let one = named-added (omega (arith, start .pre)) (first .ensures) in
     let reach = named-reach (start .args .first .now) (start .args .a) one in
-    added-more one (named-added (omega (arith, start .pre, first .kept, reach)) (c .before .before .put-named2 .ensures))
+    added-more one (named-added (omega (arith, start .pre, first .kept, reach)) (after-put-named2 .put-named2 .ensures))
 
 pub put-pair-spec : {M : Type 1} → statement M
 put-pair-spec = tie.close (tie.spec put-named-requires put-named-requires-2 same-length returns)

@@ -22,9 +22,11 @@ same-length c = search needs
 
 returns : tie.Need-returns
 returns c =
-    let start = c .before .before .before .before .before .before .before .before in
-    let is = not-negative (start .args .z) (start .fits .z) (c .before .before .before .before .if1 .taken) in
-    let digits = c .before .before .before .before .before .absolute .ensures ∙ ap natAbs (toZ-ofZ w64 _ (start .fits .z) ∙ is) in
+    let then1 = c .before .before .before .before in
+    let after-absolute = then1 .before in
+    let start = after-absolute .before .before .before in
+    let is = not-negative (start .args .z) (start .fits .z) (then1 .if1 .taken) in
+    let digits = after-absolute .absolute .ensures ∙ ap natAbs (toZ-ofZ w64 _ (start .fits .z) ∙ is) in
     rw is (rw digits at (named-added (omega (arith, start .pre)) (c .before .before .put-named .ensures)))
 
 put-requires : tie.Need-put-requires
@@ -44,16 +46,19 @@ same-length-2 c = search needs
 
 returns-2 : tie.Need-returns-2
 returns-2 c =
-    let named = c .before .before .before .before .before .before .before .before .before .before .before in
+    let after-put-number = c .before .before in
+    let after-put2 = after-put-number .before .before .before .before in
+    let after-out2 = after-put2 .before .before .before .before in
+    let named = after-out2 .before in
     let tested = named .before .before in
     let start = tested .before .before .before .before in
-    let sign = c .before .before .before .before .before .before .put2 in
+    let sign = after-put2 .put2 in
     let is = negative (start .args .z) (start .fits .z) (tested .if1 .left) in
     let digits = tested .before .absolute .ensures ∙ ap natAbs (toZ-ofZ w64 _ (start .fits .z) ∙ is) in
     let short = decimal-short (tested .before .absolute .result) in
     let one = put-added (omega (arith, start .pre)) (named .put .ensures) in
     let two = put-added (omega (arith, start .pre, named .put .kept, one .ends)) (sign .ensures) in
-    let three = put-added (omega (arith, start .pre, named .put .kept, sign .kept, one .ends, two .ends, short)) (c .before .before .put-number .ensures) in
+    let three = put-added (omega (arith, start .pre, named .put .kept, sign .kept, one .ends, two .ends, short)) (after-put-number .put-number .ensures) in
     rw is (added-more one (added-more two (rw digits at three)))
 
 pub put-signed-spec : {M : Type 1} → statement M

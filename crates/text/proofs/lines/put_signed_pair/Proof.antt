@@ -12,8 +12,10 @@ put-signed-requires c κs = search needs
 
 put-signed-requires-2 : tie.Need-put-signed-requires-2
 put-signed-requires-2 c κs =
-    let start = c .before .before .before .before .before .before .before .before in
-    let first = c .before .before .before .put-signed in
+    let after-put-signed = c .before .before .before in
+    let after-put-signed-arg = after-put-signed .before in
+    let start = after-put-signed-arg .before .before .before .before in
+    let first = after-put-signed .put-signed in
     let one = rw (toZ-ofZ w64 (start .args .a) (start .fits .a)) at (first .ensures) in
     omega (arith, start .pre, first .kept, signed-reach (start .args .first .now) (start .args .a) one)
 
@@ -22,9 +24,12 @@ same-length c = search needs
 
 returns : tie.Need-returns
 returns c =
-    let start = c .before .before .before .before .before .before .before .before .before .before .before in
-    let one = rw (toZ-ofZ w64 (start .args .a) (start .fits .a)) at (c .before .before .before .before .before .before .put-signed .ensures) in
-    added-more one (rw (toZ-ofZ w64 (start .args .b) (start .fits .b)) at (c .before .before .put-signed2 .ensures))
+    let after-put-signed2 = c .before .before in
+    let after-put-signed = after-put-signed2 .before .before .before .before in
+    let after-put-signed-arg = after-put-signed .before in
+    let start = after-put-signed-arg .before .before .before .before in
+    let one = rw (toZ-ofZ w64 (start .args .a) (start .fits .a)) at (after-put-signed .put-signed .ensures) in
+    added-more one (rw (toZ-ofZ w64 (start .args .b) (start .fits .b)) at (after-put-signed2 .put-signed2 .ensures))
 
 pub put-signed-pair-spec : {M : Type 1} → statement M
 put-signed-pair-spec =

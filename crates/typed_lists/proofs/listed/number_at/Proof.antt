@@ -70,10 +70,12 @@ element-copy-out-result-2 c = search needs
 
 returns-4 : tie.Need-returns-4
 returns-4 c =
-    let test = c .before .before .before .if1 in
+    let else1 = c .before .before .before in
+    let start = else1 .before .before in
+    let test = else1 .if1 in
     let test2 = c .before .before .if2 in
     let test3 = c .before .if3 in
-    let x = c .before .before .before .before .before .args in
+    let x = start .args in
     let j = x .j in
     let all = drop (j / perSystem * perListed) (x .listed .now) in
     let at = getD-drop (j / perSystem * perListed) (x .listed .now) in

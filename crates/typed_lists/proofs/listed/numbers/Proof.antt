@@ -28,31 +28,47 @@ mul-if1 : tie.Need-mul-if1 Inv-loop μ-loop
 mul-if1 c = omega (arith, c .before .before .before .pre)
 
 number-at-requires : tie.Need-number-at-requires Inv-loop μ-loop
-number-at-requires c κs = omega (arith, c .before .before .before .before .before .pre, c .before .if1 .taken)
+number-at-requires c κs =
+    let then1 = c .before in
+    let start = then1 .before .before .before .before in
+    omega (arith, start .pre, then1 .if1 .taken)
 
 mul-all : tie.Need-mul-all Inv-loop μ-loop
-mul-all c = omega (arith, c .before .before .before .before .before .before .pre, c .before .before .if1 .taken)
+mul-all c =
+    let then1 = c .before .before in
+    let start = then1 .before .before .before .before in
+    omega (arith, start .pre, then1 .if1 .taken)
 
 array-write-all : tie.Need-array-write-all Inv-loop μ-loop
-array-write-all c = omega (arith, c .before .before .before .before .before .before .pre, c .before .before .if1 .taken)
+array-write-all c =
+    let then1 = c .before .before in
+    let start = then1 .before .before .before .before in
+    omega (arith, start .pre, then1 .if1 .taken)
 
 add-j : tie.Need-add-j Inv-loop μ-loop
-add-j c = omega (arith, c .before .before .before .before .before .before .pre, c .before .before .if1 .taken)
+add-j c =
+    let then1 = c .before .before in
+    let start = then1 .before .before .before .before in
+    omega (arith, start .pre, then1 .if1 .taken)
 
 loop-less : tie.Need-loop-less Inv-loop μ-loop
 loop-less c = omega (arith, c .before .before .if1 .taken)
 
 loop-again : tie.Need-loop-again Inv-loop μ-loop
-loop-again c = (
-  omega (arith, c .before .before .if1 .taken),
-  λ l h.
-      let t = c .before .before .if1 .taken in
-      let x = c .before .before .before .before .before .before .args in
-      stored-next (numbersOf (x .fans) l) (c .before .before .before .before .loop .inv .1 l h) _
-      (omega (arith, c .before .before .before .before .before .before .pre, t))
-      (omega (arith, count-fives h (x .fans), t))
-      (c .number-at .ensures ∙ typed-at h (x .fans) _ t),
-)
+loop-again c =
+    let then1 = c .before .before in
+    let at-loop = then1 .before .before in
+    let start = at-loop .before .before in
+    (
+      omega (arith, then1 .if1 .taken),
+      λ l h.
+          let t = then1 .if1 .taken in
+          let x = start .args in
+          stored-next (numbersOf (x .fans) l) (at-loop .loop .inv .1 l h) _
+          (omega (arith, start .pre, t))
+          (omega (arith, count-fives h (x .fans), t))
+          (c .number-at .ensures ∙ typed-at h (x .fans) _ t),
+    )
 
 returns : tie.Need-returns Inv-loop μ-loop
 returns c = λ l h.

@@ -57,7 +57,10 @@ loop-again c =
     )
 
 add-t17 : tie.Need-add-t17 Inv-loop μ-loop
-add-t17 c = omega (arith, c .before .before .before .before .before .pre .0)
+add-t17 c =
+    let after-numbers = c .before .before .before in
+    let start = after-numbers .before .before in
+    omega (arith, start .pre .0)
 
 returns : tie.Need-returns Inv-loop μ-loop
 returns c =

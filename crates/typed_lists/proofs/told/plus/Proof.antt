@@ -11,7 +11,10 @@ returns c =
     told-full _ (start .pre) (c .if1 .taken)
 
 put-fault-requires : tie.Need-put-fault-requires
-put-fault-requires c κs = omega (arith, c .before .if1 .left, c .before .before .before .before .before .pre)
+put-fault-requires c κs =
+    let else1 = c .before in
+    let start = else1 .before .before .before .before in
+    omega (arith, else1 .if1 .left, start .pre)
 
 add-t11 : tie.Need-add-t11
 add-t11 c = search needs
@@ -21,9 +24,11 @@ same-length c = search needs
 
 returns-2 : tie.Need-returns-2
 returns-2 c =
-    let test = c .before .before .before .before .before .if1 in
-    let put-fault = c .before .before .before .put-fault in
-    let start = c .before .before .before .before .before .before .before .before .before in
+    let after-put-fault = c .before .before .before in
+    let else1 = after-put-fault .before .before in
+    let start = else1 .before .before .before .before in
+    let test = else1 .if1 in
+    let put-fault = after-put-fault .put-fault in
     told-more _ _ (test .left) (put-fault .ensures) (omega (arith, put-fault .kept)) (start .pre)
 
 pub plus-spec : {M : Type 1} → statement M

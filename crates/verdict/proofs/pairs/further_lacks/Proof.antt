@@ -44,30 +44,40 @@ shared-slice-read-lacks-2 c = omega arith
 
 lacks-requires : tie.Need-lacks-requires Inv-loop μ-loop
 lacks-requires c κs =
-    let loop = c .before .before .before .loop in
-    let top = c .before .before .before .before .before in
+    let at-loop = c .before .before .before in
+    let top = at-loop .before .before in
+    let loop = at-loop .loop in
     alone (rw (pairs-step (top .args .more .now) (loop .i) (c .before .before .loop-test .taken)) at (loop .inv .2))
 
 returns : tie.Need-returns Inv-loop μ-loop
 returns c =
-    let loop = c .before .before .before .before .before .loop in
-    let a = c .before .before .before .before .before .before .before .args in
+    let in-loop = c .before .before .before .before in
+    let at-loop = in-loop .before in
+    let start = at-loop .before .before in
+    let loop = at-loop .loop in
+    let a = start .args in
     sym
     (sym (loop .inv .1)
-    ∙ any-found (a .more .now) (loop .i) (lackingFrom (a .n) (a .w) (a .a)) (c .before .before .before .before .loop-test .taken)
+    ∙ any-found (a .more .now) (loop .i) (lackingFrom (a .n) (a .w) (a .a)) (in-loop .loop-test .taken)
     (sym (c .before .lacks .ensures) ∙ c .if1 .taken))
 
 add-i : tie.Need-add-i Inv-loop μ-loop
-add-i c = omega (arith, c .before .before .before .before .before .before .before .pre .0)
+add-i c =
+    let in-loop = c .before .before .before .before in
+    let start = in-loop .before .before .before in
+    omega (arith, start .pre .0)
 
 loop-less : tie.Need-loop-less Inv-loop μ-loop
 loop-less c = omega arith
 
 loop-again : tie.Need-loop-again Inv-loop μ-loop
 loop-again c =
-    let loop = c .before .before .before .before .before .loop in
-    let a = c .before .before .before .before .before .before .before .args in
-    let more = c .before .before .before .before .loop-test .taken in (
+    let in-loop = c .before .before .before .before in
+    let at-loop = in-loop .before in
+    let start = at-loop .before .before in
+    let loop = at-loop .loop in
+    let a = start .args in
+    let more = in-loop .loop-test .taken in (
       omega arith,
       any-next (a .more .now) (loop .i) (lackingFrom (a .n) (a .w) (a .a)) more (sym (c .before .lacks .ensures) ∙ c .if1 .left) ∙ loop .inv .1,
       rest (rw (pairs-step (a .more .now) (loop .i) more) at (loop .inv .2)),

@@ -22,36 +22,56 @@ failed-requires : tie.Need-failed-requires
 failed-requires c κs = omega (arith, c .before .before .before .pre .low)
 
 add-failing : tie.Need-add-failing
-add-failing c = rw (c .before .failed .ensures) (omega (arith, c .before .before .before .before .before .pre .low))
+add-failing c =
+    let after-failed = c .before in
+    let start = after-failed .before .before .before .before in
+    rw (after-failed .failed .ensures) (omega (arith, start .pre .low))
 
 flag-requires : tie.Need-flag-requires
 flag-requires c κs = search needs
 
 mul-table : tie.Need-mul-table
-mul-table c = rw (c .before .before .before .before .worked .ensures) (omega (arith, c .before .before .before .before .before .before .pre .low))
+mul-table c =
+    let after-worked = c .before .before .before .before in
+    let start = after-worked .before .before in
+    rw (after-worked .worked .ensures) (omega (arith, start .pre .low))
 
 slice-write-table : tie.Need-slice-write-table
-slice-write-table c = let p = c .before .before .before .before .before .before .pre in rw (c .before .before .before .before .worked .ensures) (omega (arith, p .low, p .room))
+slice-write-table c =
+    let after-worked = c .before .before .before .before in
+    let start = after-worked .before .before in
+    let p = start .pre in
+    rw (after-worked .worked .ensures) (omega (arith, p .low, p .room))
 
 flag-requires-2 : tie.Need-flag-requires-2
 flag-requires-2 c κs = search needs
 
 mul-table-2 : tie.Need-mul-table-2
-mul-table-2 c = rw (c .before .before .before .failed .ensures) (omega (arith, c .before .before .before .before .before .before .before .pre .low))
+mul-table-2 c =
+    let after-failed = c .before .before .before in
+    let start = after-failed .before .before .before .before in
+    rw (after-failed .failed .ensures) (omega (arith, start .pre .low))
 
 slice-write-table-2 : tie.Need-slice-write-table-2
-slice-write-table-2 c = let p = c .before .before .before .before .before .before .before .pre in rw (c .before .before .before .failed .ensures) (simp length-set (omega (arith, p .low, p .room)))
+slice-write-table-2 c =
+    let after-failed = c .before .before .before in
+    let start = after-failed .before .before .before .before in
+    let p = start .pre in
+    rw (after-failed .failed .ensures) (simp length-set (omega (arith, p .low, p .room)))
 
 same-length : tie.Need-same-length
 same-length c = search needs
 
 returns : tie.Need-returns
 returns c =
-    let p = c .before .before .before .before .before .before .before .pre in
-    let a = c .before .before .before .before .before .before .before .args in
+    let after-failed = c .before .before .before in
+    let after-worked = after-failed .before .before in
+    let start = after-worked .before .before in
+    let p = start .pre in
+    let a = start .args in
     let x = a .m .bits in
     let s = two (a .table .now) (marks + 2 * x) _ (marks + (2 * x + 1)) _ (omega (arith, p .low)) (omega (arith, p .low)) (λ e. omega arith) (p .room) in
-    rw (c .before .before .before .before .before .worked .ensures, c .before .before .before .failed .ensures)
+    rw (after-worked .worked .ensures, after-failed .failed .ensures)
     (record { first = s .first ∙ c .before .flag .ensures; second = s .second ∙ c .flag2 .ensures; other = s .other; kept = s .kept })
 
 pub mark-spec : {M : Type 1} → statement M

@@ -16,34 +16,67 @@ slice-read-if1 : tie.Need-slice-read-if1
 slice-read-if1 c = omega (arith, small (c .before .before .before .pre), c .before .before .before .pre .by .room)
 
 mark-requires : tie.Need-mark-requires
-mark-requires c κs = markable (c .before .before .before .before .before .pre)
+mark-requires c κs =
+    let then1 = c .before in
+    let start = then1 .before .before .before .before in
+    markable (start .pre)
 
 same-length : tie.Need-same-length
 same-length c = c .before .before .mark .ensures .kept .long
 
 returns : tie.Need-returns
-returns c = placed-dead (c .before .before .before .before .before .before .before .before .pre) (c .before .before .before .before .if1 .taken) (c .before .before .mark .ensures)
+returns c =
+    let then1 = c .before .before .before .before in
+    let start = then1 .before .before .before .before in
+    placed-dead (start .pre) (then1 .if1 .taken) (c .before .before .mark .ensures)
 
 dies-requires : tie.Need-dies-requires
 dies-requires c κs = record { windows = c .before .before .before .before .pre .by .windows; small = omega (arith, small (c .before .before .before .before .pre)) }
 
 mark-requires-2 : tie.Need-mark-requires-2
-mark-requires-2 c κs = markable (c .before .before .before .before .before .before .pre)
+mark-requires-2 c κs =
+    let else1 = c .before .before in
+    let start = else1 .before .before .before .before in
+    markable (start .pre)
 
 older-requires : tie.Need-older-requires
-older-requires c κs = (omega (arith, small (c .before .before .before .before .before .before .before .before .before .pre)), omega (arith, c .before .before .before .before .before .before .before .before .before .pre .by .most))
+older-requires c κs =
+    let after-dies = c .before .before .before .before in
+    let else1 = after-dies .before in
+    let start = else1 .before .before .before .before in
+    (omega (arith, small (start .pre)), omega (arith, start .pre .by .most))
 
 list-of-requires : tie.Need-list-of-requires
-list-of-requires c κs = rw (c .older .ensures) (judged-older (c .before .before .before .before .before .before .before .before .before .before .pre))
+list-of-requires c κs =
+    let after-mark2 = c .before .before .before in
+    let else1 = after-mark2 .before .before .before in
+    let start = else1 .before .before .before .before in
+    rw (c .older .ensures) (judged-older (start .pre))
 
 append-requires : tie.Need-append-requires
-append-requires c κs = rw (c .before .list-of .ensures, c .before .before .older .ensures) (append-ready (c .before .before .before .before .before .before .before .before .before .before .before .before .pre) (c .before .before .before .before .before .before .before .before .if1 .left) (c .before .before .before .before .before .before .before .dies .ensures) (c .before .before .before .before .before .mark2 .ensures))
+append-requires c κs =
+    let after-older = c .before .before in
+    let after-mark2 = after-older .before .before .before in
+    let after-dies = after-mark2 .before .before in
+    let else1 = after-dies .before in
+    let start = else1 .before .before .before .before in
+    rw (c .before .list-of .ensures, after-older .older .ensures) (append-ready (start .pre) (else1 .if1 .left) (after-dies .dies .ensures) (after-mark2 .mark2 .ensures))
 
 same-length-2 : tie.Need-same-length-2
-same-length-2 c = c .before .before .append .ensures .kept .long ∙ c .before .before .before .before .before .before .before .before .mark2 .ensures .kept .long
+same-length-2 c =
+    let after-list-of = c .before .before .before .before in
+    let after-mark2 = after-list-of .before .before .before .before in
+    c .before .before .append .ensures .kept .long ∙ after-mark2 .mark2 .ensures .kept .long
 
 returns-2 : tie.Need-returns-2
-returns-2 c = placed-living (c .before .before .before .before .before .before .before .before .before .before .before .before .before .before .before .pre) (c .before .before .before .before .before .before .before .before .before .before .before .if1 .left) (c .before .before .before .before .before .before .before .before .before .before .dies .ensures) (c .before .before .before .before .before .before .before .before .mark2 .ensures) (rw (c .before .before .before .before .list-of .ensures, c .before .before .before .before .before .older .ensures) at (c .before .before .append .ensures))
+returns-2 c =
+    let after-list-of = c .before .before .before .before in
+    let after-older = after-list-of .before in
+    let after-mark2 = after-older .before .before .before in
+    let after-dies = after-mark2 .before .before in
+    let else1 = after-dies .before in
+    let start = else1 .before .before .before .before in
+    placed-living (start .pre) (else1 .if1 .left) (after-dies .dies .ensures) (after-mark2 .mark2 .ensures) (rw (after-list-of .list-of .ensures, after-older .older .ensures) at (c .before .before .append .ensures))
 
 pub place-spec : {M : Type 1} → statement M
 place-spec =

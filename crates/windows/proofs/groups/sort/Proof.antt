@@ -38,8 +38,10 @@ loop-holds c =
 
 place-requires : tie.Need-place-requires Inv-loop μ-loop
 place-requires c κs =
-    let pre = c .before .before .before .before .before .pre in
-    let v = c .before .before .loop .inv .1 in
+    let at-loop = c .before .before in
+    let start = at-loop .before .before .before in
+    let pre = start .pre in
+    let v = at-loop .loop .inv .1 in
     record { by = sortable-kept (kept-trans (begun pre .kept) (v .kept)) pre; low = c .before .loop-test .taken; lists = v .lists; marked = v .marked }
 
 add-x : tie.Need-add-x Inv-loop μ-loop
@@ -50,8 +52,10 @@ loop-less c = search needs
 
 loop-again : tie.Need-loop-again Inv-loop μ-loop
 loop-again c =
-    let v = c .before .before .before .before .before .loop .inv .1 in
-    let d = c .before .before .place .ensures in
+    let after-place = c .before .before in
+    let at-loop = after-place .before .before .before in
+    let v = at-loop .loop .inv .1 in
+    let d = after-place .place .ensures in
     (omega arith, record { lists = d .lists; marked = d .marked; places = λ k l. d .places k l ∙ v .places k l; kept = kept-trans (v .kept) (d .kept) })
 
 same-length : tie.Need-same-length Inv-loop μ-loop

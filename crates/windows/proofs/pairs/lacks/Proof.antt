@@ -49,9 +49,13 @@ lacks-requires-2 c κs = short-next _ _ (c .before .before .loop-test .taken) (c
 
 returns-2 : tie.Need-returns-2 Inv-loop μ-loop
 returns-2 c =
+    let in-loop = c .before .before .before .before in
+    let at-loop = in-loop .before in
+    let else1 = at-loop .before in
+    let after-lacks = else1 .before in
     let e = sym (c .before .lacks2 .ensures) ∙ c .if2 .taken in
-    let first = sym (c .before .before .before .before .before .before .before .lacks .ensures) ∙ c .before .before .before .before .before .before .if1 .left in
-    sym (any-found _ _ _ (c .before .before .before .before .loop-test .taken) e) ∙ c .before .before .before .before .before .loop .inv .2 ∙ sym (lacks-further _ _ _ _ first)
+    let first = sym (after-lacks .lacks .ensures) ∙ else1 .if1 .left in
+    sym (any-found _ _ _ (in-loop .loop-test .taken) e) ∙ at-loop .loop .inv .2 ∙ sym (lacks-further _ _ _ _ first)
 
 add-i : tie.Need-add-i Inv-loop μ-loop
 add-i c = search needs
@@ -61,8 +65,10 @@ loop-less c = search needs
 
 loop-again : tie.Need-loop-again Inv-loop μ-loop
 loop-again c =
-    let v = c .before .before .before .before .before .loop .inv in
-    let l = c .before .before .before .before .loop-test .taken in
+    let in-loop = c .before .before .before .before in
+    let at-loop = in-loop .before in
+    let v = at-loop .loop .inv in
+    let l = in-loop .loop-test .taken in
     let e = sym (c .before .lacks2 .ensures) ∙ c .if2 .left in
     (omega arith, short-next _ _ l (v .1) .1, any-next _ _ _ l e ∙ v .2)
 

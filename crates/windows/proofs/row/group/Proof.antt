@@ -74,12 +74,13 @@ loop-less c = search needs
 
 loop-again : tie.Need-loop-again Inv-loop μ-loop
 loop-again c =
-    let tested = c .before .before .before .before .before in
+    let after-both = c .before .before in
+    let tested = after-both .before .before .before in
     let at = tested .before in
     let h = start at .pre in
     let v = at .loop .inv in
     let l = rw (v .2) at (tested .loop-test .taken) in
-    (omega arith, v .1, v .2, partly-more h l (v .3) (rw (begin at .list-at .ensures, entry-same h l (v .3)) at (c .before .before .both .ensures)))
+    (omega arith, v .1, v .2, partly-more h l (v .3) (rw (begin at .list-at .ensures, entry-same h l (v .3)) at (after-both .both .ensures)))
 
 same-length : tie.Need-same-length Inv-loop μ-loop
 same-length c = c .before .loop .inv .3 .kept .long

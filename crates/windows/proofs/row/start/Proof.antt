@@ -38,10 +38,12 @@ loop-less c = search needs
 
 loop-again : tie.Need-loop-again Inv-loop μ-loop
 loop-again c =
-    let o = c .before .before .before .before .before .before .before in
-    let low = o .before .before .pre .low in
-    let all = rw (c .before .before .before .before .before .works .ensures) at (c .before .before .before .end-value .ensures) in
-    (omega arith, written-more (c .before .before .write .ensures) (omega arith) (omega arith) all (o .loop .inv .1))
+    let after-end-value = c .before .before .before in
+    let after-works = after-end-value .before .before in
+    let at-loop = after-works .before .before in
+    let low = at-loop .before .before .pre .low in
+    let all = rw (after-works .works .ensures) at (after-end-value .end-value .ensures) in
+    (omega arith, written-more (c .before .before .write .ensures) (omega arith) (omega arith) all (at-loop .loop .inv .1))
 
 same-length : tie.Need-same-length Inv-loop μ-loop
 same-length c = c .before .loop .inv .1 .kept .long

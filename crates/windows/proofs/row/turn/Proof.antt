@@ -21,7 +21,9 @@ abbrev cut : tie.After-chance → tie.After-trim-all
 cut c = c .before .before .before
 
 abbrev start : tie.After-trim-all → tie.Start
-start c = c .before .before .before .before .before
+start c =
+    let after-trim-all-arg = c .before in
+    after-trim-all-arg .before .before .before .before
 
 add-left : tie.Need-add-left
 add-left c = search needs

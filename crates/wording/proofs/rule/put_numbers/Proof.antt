@@ -20,8 +20,10 @@ slice-aggregate-put-pair-2 c = search needs
 
 put-pair-requires : tie.Need-put-pair-requires
 put-pair-requires c κs =
-    let start = c .before .before .before .before .before .before .before .before .before in
-    let kind = c .before .before .before .before .before .put-named in
+    let after-out = c .before .before .before .before in
+    let after-put-named = after-out .before in
+    let start = after-put-named .before .before .before .before in
+    let kind = after-put-named .put-named in
     let one = named-added (omega (arith, start .pre)) (kind .ensures) in
     omega (arith, start .pre, kind .kept, named-reach (text "kind ") (start .args .kind) one)
 
@@ -30,8 +32,10 @@ same-length c = search needs
 
 returns : tie.Need-returns
 returns c =
-    let start = c .before .before .before .before .before .before .before .before .before .before .before .before in
-    let put-named = c .before .before .before .before .before .before .before .before .put-named in
+    let after-put-pair-arg2 = c .before .before .before .before in
+    let after-put-named = after-put-pair-arg2 .before .before .before .before in
+    let start = after-put-named .before .before .before .before in
+    let put-named = after-put-named .put-named in
     let put-pair = c .before .before .put-pair in
     added-more (named-added (omega (arith, start .pre)) (put-named .ensures)) (put-pair .ensures)
 

@@ -98,65 +98,91 @@ same-length c = search needs
 
 returns : tie.Need-returns
 unfolding ruleText
-returns c = rw (c .before .before .before .before .before .before .match .keys1) (c .before .before .put-alone .ensures)
+returns c =
+    let after-put-alone = c .before .before in
+    let at-match-keys1 = after-put-alone .before .before .before .before in
+    rw (at-match-keys1 .match .keys1) (after-put-alone .put-alone .ensures)
 
 same-length-2 : tie.Need-same-length-2
 same-length-2 c = search needs
 
 returns-2 : tie.Need-returns-2
 unfolding ruleText
-returns-2 c = rw (c .before .before .before .before .before .before .match .keys2) (c .before .before .put-alone2 .ensures)
+returns-2 c =
+    let after-put-alone2 = c .before .before in
+    let at-match-keys2 = after-put-alone2 .before .before .before .before in
+    rw (at-match-keys2 .match .keys2) (after-put-alone2 .put-alone2 .ensures)
 
 same-length-3 : tie.Need-same-length-3
 same-length-3 c = search needs
 
 returns-3 : tie.Need-returns-3
 unfolding ruleText
-returns-3 c = rw (c .before .before .before .before .before .before .before .match .keys3) (c .before .before .put-two .ensures)
+returns-3 c =
+    let after-put-two-arg3 = c .before .before .before .before in
+    let at-match-keys3 = after-put-two-arg3 .before .before .before in
+    rw (at-match-keys3 .match .keys3) (c .before .before .put-two .ensures)
 
 same-length-4 : tie.Need-same-length-4
 same-length-4 c = search needs
 
 returns-4 : tie.Need-returns-4
 unfolding ruleText
-returns-4 c = rw (c .before .before .before .before .before .before .match .keys4) (c .before .before .put-alone3 .ensures)
+returns-4 c =
+    let after-put-alone3 = c .before .before in
+    let at-match-keys4 = after-put-alone3 .before .before .before .before in
+    rw (at-match-keys4 .match .keys4) (after-put-alone3 .put-alone3 .ensures)
 
 same-length-5 : tie.Need-same-length-5
 same-length-5 c = search needs
 
 returns-5 : tie.Need-returns-5
 unfolding ruleText
-returns-5 c = rw (c .before .before .before .before .before .before .match .keys5) (c .before .before .put-alone4 .ensures)
+returns-5 c =
+    let after-put-alone4 = c .before .before in
+    let at-match-keys5 = after-put-alone4 .before .before .before .before in
+    rw (at-match-keys5 .match .keys5) (after-put-alone4 .put-alone4 .ensures)
 
 same-length-6 : tie.Need-same-length-6
 same-length-6 c = search needs
 
 returns-6 : tie.Need-returns-6
 unfolding ruleText
-returns-6 c = rw (c .before .before .before .before .before .before .before .match .keys6) (c .before .before .put-two2 .ensures)
+returns-6 c =
+    let after-put-two-arg7 = c .before .before .before .before in
+    let at-match-keys6 = after-put-two-arg7 .before .before .before in
+    rw (at-match-keys6 .match .keys6) (c .before .before .put-two2 .ensures)
 
 same-length-7 : tie.Need-same-length-7
 same-length-7 c = search needs
 
 returns-7 : tie.Need-returns-7
 unfolding ruleText
-returns-7 c = rw (c .before .before .before .before .before .before .before .match .keys7) (c .before .before .put-two3 .ensures)
+returns-7 c =
+    let after-put-two-arg11 = c .before .before .before .before in
+    let at-match-keys7 = after-put-two-arg11 .before .before .before in
+    rw (at-match-keys7 .match .keys7) (c .before .before .put-two3 .ensures)
 
 same-length-8 : tie.Need-same-length-8
 same-length-8 c = search needs
 
 returns-8 : tie.Need-returns-8
 unfolding ruleText
-returns-8 c = rw (c .before .before .before .before .before .before .before .match .keys8) (c .before .before .put-two4 .ensures)
+returns-8 c =
+    let after-put-two-arg15 = c .before .before .before .before in
+    let at-match-keys8 = after-put-two-arg15 .before .before .before in
+    rw (at-match-keys8 .match .keys8) (c .before .before .put-two4 .ensures)
 
 same-length-9 : tie.Need-same-length-9
 same-length-9 c = search needs
 
 returns-9 : tie.Need-returns-9
 returns-9 c =
-    let match = c .before .before .before .before .match in
+    let at-match-rest = c .before .before .before .before in
+    let start = at-match-rest .before .before in
+    let match = at-match-rest .match in
     let put-numbers = c .before .before .put-numbers in
-    let a = c .before .before .before .before .before .before .args in
+    let a = start .args in
     let no = match .rest in
     let far : 1 ≤ a .kind → 9 ≤ a .kind =
     λ h.

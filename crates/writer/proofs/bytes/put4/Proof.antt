@@ -29,9 +29,11 @@ same-length c = search needs
 
 returns : tie.Need-returns
 returns c =
-    let first = c .before .before .before .before .before .before in
-    let a = first .before .before .before .args in
-    laid-next _ _ _ _ _ (first .put2 .ensures) (c .before .before .put22 .ensures) (omega (arith, bytes-length 2 (a .x % 65536))) (omega arith)
+    let after-put22 = c .before .before in
+    let first = after-put22 .before .before .before .before in
+    let start = first .before .before .before in
+    let a = start .args in
+    laid-next _ _ _ _ _ (first .put2 .ensures) (after-put22 .put22 .ensures) (omega (arith, bytes-length 2 (a .x % 65536))) (omega arith)
     ∙ ap (λ bytes. laid (a .at) bytes (a .room .now)) (sym (bytes-four (a .x)))
 
 pub put4-spec : {M : Type 1} → statement M

@@ -36,8 +36,9 @@ loop-less c = omega arith
 
 loop-again : tie.Need-loop-again Inv-loop μ-loop
 loop-again c =
-    let turn = c .before .before .before .before .before in
-    laying-more (turn .before .loop .inv) (turn .loop-test .taken) refl (c .before .before .put1 .ensures)
+    let after-put1 = c .before .before in
+    let turn = after-put1 .before .before .before in
+    laying-more (turn .before .loop .inv) (turn .loop-test .taken) refl (after-put1 .put1 .ensures)
 
 same-length : tie.Need-same-length Inv-loop μ-loop
 same-length c = c .before .loop .inv .long

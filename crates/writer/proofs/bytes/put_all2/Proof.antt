@@ -39,8 +39,9 @@ loop-less c = omega arith
 
 loop-again : tie.Need-loop-again Inv-loop μ-loop
 loop-again c =
-    let turn = c .before .before .before .before .before in
-    laying-more (turn .before .loop .inv) (turn .loop-test .taken) refl (c .before .before .put2 .ensures)
+    let after-put2 = c .before .before in
+    let turn = after-put2 .before .before .before in
+    laying-more (turn .before .loop .inv) (turn .loop-test .taken) refl (after-put2 .put2 .ensures)
 
 same-length : tie.Need-same-length Inv-loop μ-loop
 same-length c = c .before .loop .inv .long

@@ -30,11 +30,15 @@ add-t14 c = search needs
 
 returns : tie.Need-returns
 returns c =
-    let three = c .before .before .before .before .before .before .before .one-if .ensures .0 in
-    let four = c .before .before .before .before .before .one-if2 .ensures .0 in
-    let five = c .before .before .before .one-if3 .ensures .0 in
+    let after-one-if3 = c .before .before .before in
+    let after-one-if2 = after-one-if3 .before .before in
+    let after-one-if = after-one-if2 .before .before in
+    let start = after-one-if .before in
+    let three = after-one-if .one-if .ensures .0 in
+    let four = after-one-if2 .one-if2 .ensures .0 in
+    let five = after-one-if3 .one-if3 .ensures .0 in
     let six = c .before .one-if4 .ensures .0 in
-    let t = c .before .before .before .before .before .before .before .before .args .self in
+    let t = start .args .self in
     λ i. record { three = t .three + three i; four = t .four + four i; five = t .five + five i; six = t .six + six i }
 
 pub plus-spec : {M : Type 1} → statement M

@@ -11,18 +11,21 @@ enum-known-answer c = search needs
 
 plus-requires : tie.Need-plus-requires
 plus-requires c κs =
-    let start = c .before .before .before .before .before .before in
+    let after-lowest = c .before .before .before .before in
+    let start = after-lowest .before .before in
     let fair = rw (c .before .answer .given .1) at (start .pre .1 .1) in
     (start .pre .0 .lowest, record { low = omega (arith, fair); unit = start .pre .1 .0 })
 
 sub-plus : tie.Need-sub-plus
 sub-plus c =
-    let start = c .before .before .before .before .before .before .before in
+    let after-widths = c .before .before .before .before in
+    let start = after-widths .before .before .before in
     omega (arith, rw (c .before .before .answer .given .1) at (start .pre .1 .1))
 
 plus-requires-2 : tie.Need-plus-requires-2
 plus-requires-2 c κs =
-    let start = c .before .before .before .before .before .before .before in
+    let after-widths = c .before .before .before .before in
+    let start = after-widths .before .before .before in
     (start .pre .0 .widths, omega (arith, rw (c .before .before .answer .given .1) at (start .pre .1 .1)))
 
 add-t17 : tie.Need-add-t17
@@ -37,16 +40,21 @@ plus-requires-3 c κs = search needs
 returns : tie.Need-returns
 unfolding tallyPlus
 returns c =
-    let t = c .before .before .before .before .before .before .before .before .before .args .self in
+    let after-answer = c .before .before .before .before in
+    let after-refused = after-answer .before .before .before .before in
+    let start = after-refused .before in
+    let t = start .args .self in
     let lowest = c .before .before .plus .ensures in
     let widths = c .before .plus2 .ensures in
-    rw (c .before .before .before .before .answer .given .1)
+    rw (after-answer .answer .given .1)
     (λ i. record { answered = t .answered + 1; refused = t .refused; lowest = lowest i; widths = widths i })
 
 returns-2 : tie.Need-returns-2
 unfolding tallyPlus
 returns-2 c =
-    let t = c .before .before .before .before .before .before .before .args .self in
+    let after-widths = c .before .before .before .before in
+    let start = after-widths .before .before .before in
+    let t = start .args .self in
     let refused = c .plus3 .ensures in
     rw (c .before .before .answer2 .given .1) (λ i. record { answered = t .answered; refused = refused i; lowest = t .lowest; widths = t .widths })
 
