@@ -95,8 +95,8 @@ fn added_board(listing: Listing, first: &[u8], set: [u64; SETS], out: &mut [u8])
 // A system.
 fn added_system(listing: Listing, first: &[u8], set: [u64; SETS], out: &mut [u8]) -> Listing
     requires { ⌜ Sane listing (now out) × Within set ⌝ }
-    ensures { λ r. ⌜ Steps 0 listing (now (out .entry)) r (now (out .exit)) (λ s. addedSystem s (now (first .entry)) set)
-        ⌝ }
+    ensures { λ r.
+        ⌜ Steps 0 listing (now (out .entry)) r (now (out .exit)) (λ s. addedSystem s (now (first .entry)) set) ⌝ }
 {
     let before = listing.systems;
     if before.count + 1 > limit::SYSTEMS {
