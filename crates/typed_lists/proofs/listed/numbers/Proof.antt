@@ -58,8 +58,7 @@ loop-again : tie.Need-loop-again Inv-loop μ-loop
 loop-again c =
     let then1 = c .before .before in
     let at-loop = then1 .before .before in
-    let start = at-loop .before .before in
-    (
+    let start = at-loop .before .before in (
       omega (arith, then1 .if1 .taken),
       λ l h.
           let t = then1 .if1 .taken in
