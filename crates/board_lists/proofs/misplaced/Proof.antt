@@ -31,8 +31,11 @@ some-above-requires c κs = search needs
 
 returns-2 : tie.Need-returns-2
 returns-2 c =
-    let has = sym (c .before .before .before .before .has-boards .ensures) ∙ c .before .before .before .if1 .taken in
-    let a = c .before .before .before .before .before .before .args in
+    let then1 = c .before .before .before in
+    let after-has-boards = then1 .before in
+    let start = after-has-boards .before .before in
+    let has = sym (after-has-boards .has-boards .ensures) ∙ then1 .if1 .taken in
+    let a = start .args in
     c .some-above .ensures
     ∙ sym (misplaced-above (a .version) (a .g) (a .n) (a .boards .now) (take (a .upto - a .from) (drop (a .from) (a .boards .now))) has (c .before .before .if2 .left))
 

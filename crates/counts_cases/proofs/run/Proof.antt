@@ -51,7 +51,9 @@ loop-less c = omega arith
 
 loop-again : tie.Need-loop-again Inv-loop μ-loop
 loop-again c =
-    let l = c .before .before .before .before .before .before .before .loop in
+    let else2 = c .before .before .before .before in
+    let at-loop = else2 .before .before .before in
+    let l = at-loop .loop in
     case-passed (l .inv) (omega arith) (omega arith) (omega arith)
 
 same-length-2 : tie.Need-same-length-2 Inv-loop μ-loop

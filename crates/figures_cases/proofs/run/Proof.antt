@@ -39,10 +39,17 @@ returns-2 : tie.Need-returns-2 Inv-loop μ-loop
 returns-2 c = run-written (c .before .before .before .before .loop .inv)
 
 run-case-requires : tie.Need-run-case-requires Inv-loop μ-loop
-run-case-requires c κs = (c .before .before .before .sizes-at .ensures (not-false _ (c .before .if2 .left)), c .before .before .before .before .before .loop .inv .within)
+run-case-requires c κs =
+    let after-sizes-at = c .before .before .before in
+    let at-loop = after-sizes-at .before .before in
+    (after-sizes-at .sizes-at .ensures (not-false _ (c .before .if2 .left)), at-loop .loop .inv .within)
 
 add-at : tie.Need-add-at Inv-loop μ-loop
-add-at c = omega (arith, c .before .before .before .before .before .before .before .sizes-at .ensures (not-false _ (c .before .before .before .before .before .if2 .left)))
+add-at c =
+    let after-run-case = c .before .before .before in
+    let else2 = after-run-case .before .before in
+    let after-sizes-at = else2 .before .before in
+    omega (arith, after-sizes-at .sizes-at .ensures (not-false _ (else2 .if2 .left)))
 
 add-done : tie.Need-add-done Inv-loop μ-loop
 add-done c = omega arith
@@ -52,9 +59,13 @@ loop-less c = omega arith
 
 loop-again : tie.Need-loop-again Inv-loop μ-loop
 loop-again c =
-    let l = c .before .before .before .before .before .before .before .before .before .loop in
-    let case = c .before .before .before .run-case in
-    let whole = c .before .before .before .before .before .before .before .sizes-at .ensures (not-false _ (c .before .before .before .before .before .if2 .left)) in
+    let after-run-case = c .before .before .before in
+    let else2 = after-run-case .before .before in
+    let after-sizes-at = else2 .before .before in
+    let at-loop = after-sizes-at .before .before in
+    let l = at-loop .loop in
+    let case = after-run-case .run-case in
+    let whole = after-sizes-at .sizes-at .ensures (not-false _ (else2 .if2 .left)) in
     case-passed (l .inv) (omega (arith, whole .ends, whole .long)) (omega (arith, case .kept)) (case .ensures)
 
 same-length-2 : tie.Need-same-length-2 Inv-loop μ-loop

@@ -30,8 +30,10 @@ same-length-2 c = search needs
 
 returns : tie.Need-returns
 returns c =
-    let counted = c .before .before .before .before .before in
-    let e = rw (counted .before .before .before .rule-of .ensures) at (counted .counts .ensures) in
+    let after-table = c .before .before .before .before in
+    let counted = after-table .before in
+    let after-rule-of = counted .before .before .before in
+    let e = rw (after-rule-of .rule-of .ensures) at (counted .counts .ensures) in
     record { number = c .number-of .ensures ∙ number-is (counted .counts .result) (e .answered); table = e .cleared; room = e .written }
 
 pub foambeetle-counts-spec : {M : Type 1} → statement M

@@ -21,7 +21,9 @@ same-length c = search needs
 
 returns : tie.Need-returns
 returns c =
-    let e = rw (c .before .before .before .before .before .rule-of .ensures) at (c .before .before .before .figures .ensures) in
+    let after-figures = c .before .before .before in
+    let after-rule-of = after-figures .before .before in
+    let e = rw (after-rule-of .rule-of .ensures) at (after-figures .figures .ensures) in
     record { answer = c .pack .ensures ∙ ap packed (figures-are e); table = e .table }
 
 pub foambeetle-figures-spec : {M : Type 1} → statement M

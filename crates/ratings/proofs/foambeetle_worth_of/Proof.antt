@@ -20,9 +20,13 @@ same-length c = search needs
 
 returns : tie.Need-returns
 returns c =
-    let e = rw (c .before .before .before .before .before .before .rule-of .ensures) at (c .before .before .before .before .worth .ensures) in
+    let after-worth = c .before .before .before .before in
+    let after-rule-of = after-worth .before .before in
+    let known3 = after-rule-of .before .before .before .before in
+    let start = known3 .before .before .before in
+    let e = rw (after-rule-of .rule-of .ensures) at (after-worth .worth .ensures) in
     let told = c .tell .ensures in
-    let x = c .before .before .before .before .before .before .before .before .before .before .before .before .before .args in
+    let x = start .args in
     record { number = told .0 ∙ ap numberOf (worth-is e); table = e .outcome .table; ends = told .1 ∙ ap (λ w. endsAfter w (x .ends .now)) (worth-is e) }
 
 pub foambeetle-worth-of-spec : {M : Type 1} → statement M

@@ -45,13 +45,19 @@ fulls-requires c κs = search needs
 
 array-share-prefix-weights : tie.Need-array-share-prefix-weights
 array-share-prefix-weights c =
-    let filling = c .before .before .before .before .before .shorts in
-    fits-again _ _ (array-borrow-prefix-weights (c .before .before .before .before .before .before .before)) (filling .last .1 .1 .0) (filling .kept .1 .1 .0)
+    let after-weights2 = c .before .before .before .before in
+    let after-shorts = after-weights2 .before in
+    let after-weights-room = after-shorts .before .before in
+    let filling = after-shorts .shorts in
+    fits-again _ _ (array-borrow-prefix-weights after-weights-room) (filling .last .1 .1 .0) (filling .kept .1 .1 .0)
 
 slice-aggregate-asked : tie.Need-slice-aggregate-asked
 slice-aggregate-asked c =
-    let filling = c .before .before .before .before .before .before .shorts in
-    lent-again _ _ (array-borrow-prefix-weights (c .before .before .before .before .before .before .before .before)) (filling .last .1 .1 .0) (filling .kept .1 .1 .0)
+    let after-more-room = c .before .before .before .before in
+    let after-shorts = after-more-room .before .before in
+    let after-weights-room = after-shorts .before .before in
+    let filling = after-shorts .shorts in
+    lent-again _ _ (array-borrow-prefix-weights after-weights-room) (filling .last .1 .1 .0) (filling .kept .1 .1 .0)
 
 array-share-prefix-more : tie.Need-array-share-prefix-more
 array-share-prefix-more c =
@@ -60,8 +66,10 @@ array-share-prefix-more c =
 
 slice-aggregate-asked-2 : tie.Need-slice-aggregate-asked-2
 slice-aggregate-asked-2 c =
-    let filling = c .before .before .before .fulls in
-    lent-again _ _ (array-borrow-prefix-more (c .before .before .before .before .before)) (filling .last .1 .1 .0) (filling .kept .1 .1 .0)
+    let after-fulls = c .before .before .before in
+    let after-more-room = after-fulls .before .before in
+    let filling = after-fulls .fulls in
+    lent-again _ _ (array-borrow-prefix-more after-more-room) (filling .last .1 .1 .0) (filling .kept .1 .1 .0)
 
 asked-requires : tie.Need-asked-requires
 asked-requires c κs = search needs

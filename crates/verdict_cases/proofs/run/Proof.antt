@@ -44,10 +44,16 @@ list-size-requires : tie.Need-list-size-requires Inv-loop μ-loop
 list-size-requires c κs = omega arith
 
 same-length-2 : tie.Need-same-length-2 Inv-loop μ-loop
-same-length-2 c = c .before .before .before .before .before .loop .inv .kept
+same-length-2 c =
+    let in-loop = c .before .before .before .before in
+    let at-loop = in-loop .before in
+    at-loop .loop .inv .kept
 
 returns-3 : tie.Need-returns-3 Inv-loop μ-loop
-returns-3 c = run-written (c .before .before .before .before .before .loop .inv)
+returns-3 c =
+    let in-loop = c .before .before .before .before in
+    let at-loop = in-loop .before in
+    run-written (at-loop .loop .inv)
 
 judged-requires : tie.Need-judged-requires Inv-loop μ-loop
 judged-requires c κs = omega (arith, c .before .list-size .ensures .ends (omega arith))
@@ -59,7 +65,10 @@ add-at : tie.Need-add-at Inv-loop μ-loop
 add-at c = omega arith
 
 add-at-2 : tie.Need-add-at-2 Inv-loop μ-loop
-add-at-2 c = omega (arith, c .before .before .before .before .before .before .list-size .ensures .ends (omega arith))
+add-at-2 c =
+    let after-judged = c .before .before .before .before in
+    let after-list-size = after-judged .before .before in
+    omega (arith, after-list-size .list-size .ensures .ends (omega arith))
 
 add-done : tie.Need-add-done Inv-loop μ-loop
 add-done c = omega arith
@@ -69,8 +78,11 @@ loop-less c = omega arith
 
 loop-again : tie.Need-loop-again Inv-loop μ-loop
 loop-again c =
-    let l = c .before .before .before .before .before .before .before .before .before .before .loop in
-    let ends = c .before .before .before .before .before .before .list-size .ensures .ends (omega arith) in
+    let after-judged = c .before .before .before .before in
+    let after-list-size = after-judged .before .before in
+    let at-loop = after-list-size .before .before .before .before in
+    let l = at-loop .loop in
+    let ends = after-list-size .list-size .ensures .ends (omega arith) in
     case-passed (l .inv) (omega (arith, ends)) (omega arith) (omega arith)
 
 same-length-3 : tie.Need-same-length-3 Inv-loop μ-loop

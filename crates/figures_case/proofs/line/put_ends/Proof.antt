@@ -28,7 +28,8 @@ same-length c = search needs
 
 returns-2 : tie.Need-returns-2
 returns-2 c =
-    let start = c .before .before .before .before .before .before .before .before in
+    let after-put-signed-pair-arg2 = c .before .before .before .before in
+    let start = after-put-signed-pair-arg2 .before .before .before .before in
     let pair = c .before .before .put-signed-pair in
     let lower = toZ-ofZ w64 (start .args .lower) (start .fits .lower) in
     let upper = toZ-ofZ w64 (start .args .upper) (start .fits .upper) in

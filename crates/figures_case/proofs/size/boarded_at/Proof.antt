@@ -69,16 +69,19 @@ fits-requires : tie.Need-fits-requires
 fits-requires c κs = search needs
 
 returns-3 : tie.Need-returns-3
-returns-3 c = λ e. record {
-  fans = c .before .before .before .before .before .before .pre .1 .0;
-  weights = c .before .before .before .before .before .before .pre .1 .1 .0;
-  more = c .before .before .before .before .before .before .pre .1 .1 .1 .0;
-  boards = c .before .before .before .if1 .left;
-  g = c .before .if2 .left;
-  room = c .before .before .before .before .before .before .pre .1 .1 .1 .1;
-  long = refl;
-  ends = c .fits2 .ensures e;
-}
+returns-3 c =
+    let else1 = c .before .before .before in
+    let start = else1 .before .before .before in
+    λ e. record {
+      fans = start .pre .1 .0;
+      weights = start .pre .1 .1 .0;
+      more = start .pre .1 .1 .1 .0;
+      boards = else1 .if1 .left;
+      g = c .before .if2 .left;
+      room = start .pre .1 .1 .1 .1;
+      long = refl;
+      ends = c .fits2 .ensures e;
+    }
 
 pub boarded-at-spec : {M : Type 1} → statement M
 boarded-at-spec =
