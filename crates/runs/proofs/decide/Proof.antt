@@ -46,7 +46,8 @@ loop-less c = search needs
 loop-again : tie.Need-loop-again Inv-loop μ-loop
 loop-again c =
     let after-write = c .before .before in
-    let at-loop = after-write .before .before .before in
+    let in-loop = after-write .before .before in
+    let at-loop = in-loop .before in
     let after-end-value = at-loop .before in
     let after-works = after-end-value .before in
     let after-lesser = after-works .before in
@@ -60,7 +61,7 @@ loop-again c =
     let write = after-write .write in
     let short : args .free .lead + args .free .run < args .k = omega (arith, pre .free .none, pre .free .alive) in
     let all = rw (works .ensures ∙ lt-ltb _ _ short) at (value .ensures) in
-    (omega arith, written-more (write .ensures) (omega arith) (omega (arith, lesser .ensures, pre .size)) all (loop .inv .1))
+    (omega (arith, in-loop .loop-test .taken), written-more (write .ensures) (omega (arith, in-loop .loop-test .taken)) (omega (arith, lesser .ensures, pre .size)) all (loop .inv .1))
 
 same-length : tie.Need-same-length Inv-loop μ-loop
 same-length c = search needs

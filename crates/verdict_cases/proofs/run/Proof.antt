@@ -68,7 +68,10 @@ add-at-2 : tie.Need-add-at-2 Inv-loop μ-loop
 add-at-2 c =
     let after-judged = c .before .before .before .before in
     let after-list-size = after-judged .before .before in
-    omega (arith, after-list-size .list-size .ensures .ends (omega arith))
+    let at-loop = after-list-size .before .before .before .before in
+    let after-whole = at-loop .before .before .before in
+    let start = after-whole .before .before .before in
+    omega (arith, after-list-size .list-size .ensures .ends (omega arith), start .good .0 .0)
 
 add-done : tie.Need-add-done Inv-loop μ-loop
 add-done c = omega arith
