@@ -91,7 +91,8 @@ put-all1-requires : tie.Need-put-all1-requires
 put-all1-requires c κs =
     let after-put-all2 = c .before .before .before .before in
     let after-room2 = after-put-all2 .before .before .before .before in
-    let after-header-length = after-room2 .before .before in
+    let after-put-all4 = after-room2 .before in
+    let after-header-length = after-put-all4 .before in
     let after-put-header = after-header-length .before .before .before .before in
     let after-boards-read = after-put-header .before .before .before in
     let known3 = after-boards-read .before .before .before .before in
@@ -101,7 +102,7 @@ put-all1-requires c κs =
     let w = s .0 in
     let placed = fans-typed (x .version) (length (x .survival .now)) (x .boards .now) (x .switchboards .now) (w .counted) (w .placed) in
     let read = ap length (after-boards-read .boards-read .ensures ∙ whole-read (x .version) _ (x .boards .now) (x .switchboards .now) (w .counted) (w .placed)) in
-    omega (arith, c .boards-offset .ensures .0, s .1)
+    omega (arith, c .boards-offset .ensures .0, s .1, placed, read, after-put-all2 .put-all2 .kept, after-put-all4 .put-all4 .kept, after-put-header .put-header .kept)
 
 board-survival-offset-requires : tie.Need-board-survival-offset-requires
 board-survival-offset-requires c κs =
@@ -148,15 +149,29 @@ put-all2-requires-2 : tie.Need-put-all2-requires-2
 put-all2-requires-2 c κs =
     let after-put-all42 = c .before .before .before .before in
     let after-room4 = after-put-all42 .before .before .before .before in
-    let after-put-all1-arg = after-room4 .before .before .before in
-    let after-weights-offset = after-put-all1-arg .before .before .before .before in
+    let after-put-all1 = after-room4 .before in
+    let after-put-all1-arg = after-put-all1 .before .before in
+    let after-put-all2 = after-put-all1-arg .before .before .before in
+    let after-weights-offset = after-put-all2 .before in
     let after-put-all4 = after-weights-offset .before .before .before .before in
     let after-room = after-put-all4 .before .before .before .before in
-    let after-numbers-read = after-room .before .before .before in
+    let after-put-header = after-room .before in
+    let after-numbers-read = after-put-header .before .before in
     let known4 = after-numbers-read .before .before .before .before in
     let start = known4 .before .before .before .before in
     let s = sound _ _ (start .pre) in
-    omega (arith, c .systems-offset .ensures .0, ap length (after-numbers-read .numbers-read .ensures), s .0 .whole, s .1)
+    omega (
+      arith,
+      c .systems-offset .ensures .0,
+      ap length (after-numbers-read .numbers-read .ensures),
+      s .0 .whole,
+      s .1,
+      after-put-all42 .put-all42 .kept,
+      after-put-all1 .put-all1 .kept,
+      after-put-all2 .put-all2 .kept,
+      after-put-all4 .put-all4 .kept,
+      after-put-header .put-header .kept,
+    )
 
 same-length : tie.Need-same-length
 same-length c = search needs
