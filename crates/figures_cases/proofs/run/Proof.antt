@@ -49,7 +49,10 @@ add-at c =
     let after-run-case = c .before .before .before in
     let else2 = after-run-case .before .before in
     let after-sizes-at = else2 .before .before in
-    omega (arith, after-sizes-at .sizes-at .ensures (not-false _ (else2 .if2 .left)))
+    let after-word = after-sizes-at .before .before .before in
+    let after-whole = after-word .before .before in
+    let start = after-whole .before .before .before in
+    omega (arith, after-sizes-at .sizes-at .ensures (not-false _ (else2 .if2 .left)), start .good .0 .0)
 
 add-done : tie.Need-add-done Inv-loop μ-loop
 add-done c = omega arith
