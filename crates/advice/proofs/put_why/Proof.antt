@@ -65,7 +65,8 @@ unfolding forms
 returns-7 c =
     let past19 = c .before .before .before .before in
     let past9 = past19 .before .before .before .before in
-    let start = past9 .before .before .before .before .before in
+    let else1 = past9 .before .before in
+    let start = else1 .before .before .before in
     none-worded _ _ (start .args .why) (omega (arith, c .if6 .left, c .before .before .if5 .left)) (start .pre)
 
 pub put-why-spec : {M : Type 1} → statement M

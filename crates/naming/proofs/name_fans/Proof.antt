@@ -23,7 +23,10 @@ rest-is word at = take-all (length word - at) (drop at word) (omega (arith, leng
 
 module _ (c : tie.After-up-to Inv-loop μ-loop) where
   abbrev word : List ℕ
-  word = c .before .before .before .before .before .args .word .now
+  word =
+      let at-loop = c .before .before .before in
+      let start = at-loop .before .before in
+      start .args .word .now
 
   abbrev at : ℕ
   at = c .before .before .before .loop .at

@@ -16,23 +16,40 @@ use Rattle.naming.proofs.name_part.Statement.{statement}
 use Rattle.naming.proofs.name_part.Tie as tie
 
 -- what was read
-first-is : (c : tie.After-number-of) → c .number-of .result ≡ firstIn (c .before .before .before .before .before .args .part .now)
-first-is c = c .number-of .ensures ∙ ap (λ k. numberIn (take k (c .before .before .before .before .before .args .part .now))) (c .before .before .up-to .ensures .0)
+first-is : (c : tie.After-number-of) →
+    let after-up-to = c .before .before in
+    let start = after-up-to .before .before .before in
+    c .number-of .result ≡ firstIn (start .args .part .now)
+first-is c =
+    let after-up-to = c .before .before in
+    let start = after-up-to .before .before .before in
+    c .number-of .ensures ∙ ap (λ k. numberIn (take k (start .args .part .now))) (after-up-to .up-to .ensures .0)
 
 -- what the two tests ask
-first-in : (c : tie.Else2) → within 1 (firstIn (c .before .before .before .before .before .before .before .before .args .part .now)) (c .before .before .before .before .before .before .before .before .args .n) ≡ true
+first-in : (c : tie.Else2) →
+    let after-number-of-arg = c .before .before .before .before in
+    let start = after-number-of-arg .before .before .before .before in
+    within 1 (firstIn (start .args .part .now)) (start .args .n) ≡ true
 first-in c =
     let tested = c .before in
     let read = tested .before .before in
-    let x = read .before .before .before .before .before .args in
+    let after-up-to = read .before .before in
+    let start = after-up-to .before .before .before in
+    let x = start .args in
     rw (first-is read) at (not-false (within 1 (read .number-of .result) (x .n)) (sym (tested .outside .ensures) ∙ c .if2 .left))
 
-last-in : (c : tie.Else3) → within (firstIn (c .before .before .before .before .before .before .before .before .before .before .args .part .now)) (lastIn (c .before .before .before .before .before .before .before .before .before .before .args .part .now)) (c .before .before .before .before .before .before .before .before .before .before .args .n) ≡ true
+last-in : (c : tie.Else3) →
+    let after-last-of = c .before .before .before .before in
+    let after-up-to = after-last-of .before .before .before in
+    let start = after-up-to .before .before .before in
+    within (firstIn (start .args .part .now)) (lastIn (start .args .part .now)) (start .args .n) ≡ true
 last-in c =
     let tested = c .before in
     let found = tested .before .before .before in
     let read = found .before in
-    let x = read .before .before .before .before .before .args in
+    let after-up-to = read .before .before in
+    let start = after-up-to .before .before .before in
+    let x = start .args in
     rw (first-is read, found .last-of .ensures) at (not-false (within (read .number-of .result) (found .last-of .result) (x .n)) (sym (tested .outside2 .ensures) ∙ c .if3 .left))
 
 returns : tie.Need-returns
@@ -83,7 +100,8 @@ fail-range-requires c κs =
     let passed = c .before .before in
     let found = passed .before .before in
     let read = found .before in
-    let start = read .before .before .before .before .before in
+    let after-up-to = read .before .before in
+    let start = after-up-to .before .before .before in
     let part = start .args .part .now in
     let low = within-true 1 (firstIn part) (start .args .n) (first-in passed) in
     let high = within-true (firstIn part) (lastIn part) (start .args .n) (last-in c) in

@@ -13,8 +13,9 @@ put-requires c κs = search needs
 
 put-refused-requires : tie.Need-put-refused-requires
 put-refused-requires c κs =
-    let start = c .before .before .before .before .before .before .before in
-    let file = c .before .before .before .put in
+    let after-put = c .before .before .before in
+    let start = after-put .before .before .before .before in
+    let file = after-put .put in
     omega (arith, start .pre, file .kept, put-added (omega (arith, start .pre)) (file .ensures) .ends)
 
 same-length : tie.Need-same-length
@@ -22,9 +23,11 @@ same-length c = search needs
 
 returns : tie.Need-returns
 returns c =
-    let start = c .before .before .before .before .before .before .before .before .before .before in
-    let file = put-added (omega (arith, start .pre)) (c .before .before .before .before .before .before .put .ensures) in
-    added-more file (c .before .before .put-refused .ensures)
+    let after-put-refused = c .before .before in
+    let after-put = after-put-refused .before .before .before .before in
+    let start = after-put .before .before .before .before in
+    let file = put-added (omega (arith, start .pre)) (after-put .put .ensures) in
+    added-more file (after-put-refused .put-refused .ensures)
 
 pub put-refused-file-spec : {M : Type 1} → statement M
 put-refused-file-spec =

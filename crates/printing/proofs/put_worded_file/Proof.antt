@@ -17,7 +17,8 @@ put-requires c κs = search needs
 put-worded-requires : tie.Need-put-worded-requires
 put-worded-requires c κs =
     let word = c .before .before .before in
-    let start = word .before .before .before .before .before .before in
+    let after-file-why = word .before .before .before in
+    let start = after-file-why .before .before .before in
     let one = put-added (omega (arith, start .pre)) (word .put .ensures) in
     omega (arith, start .pre, word .put .kept, one .ends)
 

@@ -63,7 +63,8 @@ paired c = let x = entry (ends c) .args in pair-reach (text "system ") (x .s) (t
 
 put-signed-pair-requires : tie.Need-put-signed-pair-requires
 put-signed-pair-requires c κs =
-    let at = c .before .before .before .before .before in
+    let after-out = c .before .before .before .before in
+    let at = after-out .before in
     omega (arith, entry (ends at) .pre .1, at .put-pair .kept, paired at)
 
 slice-aggregate-put : tie.Need-slice-aggregate-put
@@ -73,7 +74,9 @@ put-requires : tie.Need-put-requires
 put-requires c κs =
     let last = c .before .before .before .before in
     let at = pair last in
-    let lower = at .before .before .before .before .before .less .result in
+    let after-less2 = at .before .before .before .before in
+    let after-less = after-less2 .before in
+    let lower = after-less .less .result in
     let reach = signed-pair-reach (text " lower ") (held lower) (text " upper ") (held (ends at .less2 .result)) (last .put-signed-pair .ensures) in
     omega (arith, entry (ends at) .pre .1, at .put-pair .kept, paired at, last .put-signed-pair .kept, reach)
 

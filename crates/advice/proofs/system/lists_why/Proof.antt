@@ -33,7 +33,8 @@ returns-2 c =
 rated-why-requires : tie.Need-rated-why-requires
 rated-why-requires c κs =
     let asked = c .before in
-    let start = asked .before .before .before .before .before in
+    let else1 = asked .before in
+    let start = else1 .before .before .before .before in
     (sym (asked .stretch-out .ensures) ∙ c .if2 .left, (start .pre .0, start .pre .1))
 
 returns-3 : tie.Need-returns-3

@@ -58,7 +58,8 @@ returns-2 c =
 sub-range-why : tie.Need-sub-range-why
 sub-range-why c =
     let weighed = c .before .before in
-    let start = weighed .before .before .before .before .before in
+    let else1 = weighed .before in
+    let start = else1 .before .before .before .before in
     omega (arith, in-stretch (start .args .system .a) (start .args .system .b) (length (start .args .survival .now)) (start .pre .0))
 
 range-why-requires : tie.Need-range-why-requires

@@ -48,11 +48,13 @@ slice-aggregate-lists-why-3 c = sym (length-take-le _ _ (array-share-prefix-swit
 
 lists-why-requires : tie.Need-lists-why-requires
 lists-why-requires c κs =
+    let system = c .before .before .before in
+    let after-survival-in = system .before .before .before in
+    let start = after-survival-in .before .before in
     let fans = slice-aggregate-lists-why (c .before .before) in
     let weights = slice-aggregate-lists-why-2 (c .before) in
     let boards = slice-aggregate-lists-why-3 c in
-    let system = c .before .before .before in
-    let h = system .before .before .before .before .before .pre .headed in
+    let h = start .pre .headed in
     (sym weights ∙ fans, (omega (arith, fans, few-fans h), omega (arith, boards, few-boards h)))
 
 returns : tie.Need-returns

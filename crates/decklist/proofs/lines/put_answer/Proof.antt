@@ -18,7 +18,8 @@ put-pair-requires c κs = search needs
 put-end-requires : tie.Need-put-end-requires
 put-end-requires c κs =
     let pair = c .before .before .before in
-    let start = pair .before .before .before .before .before in
+    let after-put-pair-arg = pair .before .before .before in
+    let start = after-put-pair-arg .before .before in
     (start .pre .0, omega (arith, start .pre .1, pair .put-pair .kept, pair-reach (text " low ") _ (text " high ") _ (pair .put-pair .ensures)))
 
 same-length : tie.Need-same-length

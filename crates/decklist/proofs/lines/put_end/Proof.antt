@@ -19,9 +19,11 @@ same-length c = search needs
 
 returns : tie.Need-returns
 returns c =
-    let start = c .before .before .before .before .before .before .before in
-    let unasked = not-true (start .args .percent) (c .before .before .before .before .before .if1 .taken) in
-    rw unasked (put-added (omega (arith, start .pre .1)) (c .before .before .put .ensures))
+    let after-put = c .before .before in
+    let then1 = after-put .before .before .before in
+    let start = then1 .before .before in
+    let unasked = not-true (start .args .percent) (then1 .if1 .taken) in
+    rw unasked (put-added (omega (arith, start .pre .1)) (after-put .put .ensures))
 
 put-range-requires : tie.Need-put-range-requires
 put-range-requires c κs = search needs
@@ -31,8 +33,9 @@ slice-aggregate-put-2 c = search needs
 
 put-requires-2 : tie.Need-put-requires-2
 put-requires-2 c κs =
-    let start = c .before .before .before .before .before .before .before .before in
-    let range = c .before .before .before .before .put-range in
+    let after-put-range = c .before .before .before .before in
+    let start = after-put-range .before .before .before .before in
+    let range = after-put-range .put-range in
     omega (arith, start .pre .1, range .kept, range .ensures .ends, range-short (whole (start .args .decimal)) (start .args .low) (start .args .high))
 
 same-length-2 : tie.Need-same-length-2
@@ -40,10 +43,13 @@ same-length-2 c = search needs
 
 returns-2 : tie.Need-returns-2
 returns-2 c =
-    let start = c .before .before .before .before .before .before .before .before .before .before .before in
-    let range = c .before .before .before .before .before .before .before .put-range in
+    let after-put-arg3 = c .before .before .before .before in
+    let after-put-range = after-put-arg3 .before .before .before in
+    let else1 = after-put-range .before .before in
+    let start = else1 .before .before in
+    let range = after-put-range .put-range in
     let room = range-short (whole (start .args .decimal)) (start .args .low) (start .args .high) in
-    let asked = not-false (start .args .percent) (c .before .before .before .before .before .before .before .before .before .if1 .left) in
+    let asked = not-false (start .args .percent) (else1 .if1 .left) in
     rw asked
     (added-more (range .ensures) (put-added (omega (arith, start .pre .1, range .kept, range .ensures .ends, room)) (c .before .before .put2 .ensures)))
 

@@ -20,8 +20,10 @@ slice-aggregate-put c = search needs
 
 put-requires : tie.Need-put-requires
 put-requires c κs =
-    let start = c .before .before .before .before .before .before .before .before .before in
-    let pair = c .before .before .before .before .put-pair in
+    let after-put-pair = c .before .before .before .before in
+    let after-put-pair-arg = after-put-pair .before .before .before in
+    let start = after-put-pair-arg .before .before in
+    let pair = after-put-pair .put-pair in
     omega (arith, start .pre, pair .kept, pair-reach (text "deck ") (start .args .n) (text " systems ") (start .args .m) (pair .ensures))
 
 same-length : tie.Need-same-length
@@ -29,8 +31,11 @@ same-length c = search needs
 
 returns : tie.Need-returns
 returns c =
-    let start = c .before .before .before .before .before .before .before .before .before .before .before .before in
-    let pair = c .before .before .before .before .before .before .before .put-pair in
+    let after-put-arg = c .before .before .before .before in
+    let after-put-pair = after-put-arg .before .before .before in
+    let after-put-pair-arg = after-put-pair .before .before .before in
+    let start = after-put-pair-arg .before .before in
+    let pair = after-put-pair .put-pair in
     let reach = pair-reach (text "deck ") (start .args .n) (text " systems ") (start .args .m) (pair .ensures) in
     added-more (pair .ensures) (put-added (omega (arith, start .pre, pair .kept, reach)) (c .before .before .put .ensures))
 

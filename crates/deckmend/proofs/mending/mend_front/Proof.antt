@@ -25,27 +25,41 @@ slice-aggregate-put-changes c = search needs
 
 put-changes-requires : tie.Need-put-changes-requires
 put-changes-requires c κs =
-    let start = c .before .before .before .before .before .before .before .before .before .before .before .before .before .before .before in
+    let after-mending = c .before .before .before in
+    let after-file = after-mending .before .before .before .before in
+    let after-mend = after-file .before in
+    let after-buffer = after-mend .before .before .before .before in
+    let start = after-buffer .before .before .before in
     let x = start .args in
-    let few = mended-few (x .input .now) (x .filled) (x .rest) (c .before .before .before .before .before .before .before .before .mend .ensures) (start .pre .0 .0) (omega (arith, c .before .before .before .before .before .before .before .before .before .before .before .before .buffer .given)) (start .pre .1 .0) (omega arith) (c .before .before .before .mending .given .1) in
-    (omega (arith, few .0, c .before .before .before .before .before .before .before .before .mend .kept), omega (arith, few .0, start .pre .1 .1))
+    let few = mended-few (x .input .now) (x .filled) (x .rest) (after-mend .mend .ensures) (start .pre .0 .0) (omega (arith, after-buffer .buffer .given)) (start .pre .1 .0) (omega arith) (after-mending .mending .given .1) in
+    (omega (arith, few .0, after-mend .mend .kept), omega (arith, few .0, start .pre .1 .1))
 
 slice-aggregate-put-end : tie.Need-slice-aggregate-put-end
 slice-aggregate-put-end c = search needs
 
 add-put-end : tie.Need-add-put-end
 add-put-end c =
-    let start = c .before .before .before .before .before .before .before .before .before .before .before .before .before .before .before .before .before .before .before in
+    let after-put-changes = c .before .before .before in
+    let after-mending = after-put-changes .before .before .before .before in
+    let after-file = after-mending .before .before .before .before in
+    let after-mend = after-file .before in
+    let after-buffer = after-mend .before .before .before .before in
+    let start = after-buffer .before .before .before in
     let x = start .args in
-    let few = mended-few (x .input .now) (x .filled) (x .rest) (c .before .before .before .before .before .before .before .before .before .before .before .before .mend .ensures) (start .pre .0 .0) (omega (arith, c .before .before .before .before .before .before .before .before .before .before .before .before .before .before .before .before .buffer .given)) (start .pre .1 .0) (omega arith) (c .before .before .before .before .before .before .before .mending .given .1) in
-    omega (arith, few .1, start .pre .0 .0, start .pre .0 .1, c .before .before .before .before .before .before .before .before .before .before .before .before .before .before .before .before .buffer .given)
+    let few = mended-few (x .input .now) (x .filled) (x .rest) (after-mend .mend .ensures) (start .pre .0 .0) (omega (arith, after-buffer .buffer .given)) (start .pre .1 .0) (omega arith) (after-mending .mending .given .1) in
+    omega (arith, few .1, start .pre .0 .0, start .pre .0 .1, after-buffer .buffer .given)
 
 put-end-requires : tie.Need-put-end-requires
 put-end-requires c κs =
-    let start = c .before .before .before .before .before .before .before .before .before .before .before .before .before .before .before .before .before .before .before .before in
+    let after-put-changes = c .before .before .before .before in
+    let after-mending = after-put-changes .before .before .before .before in
+    let after-file = after-mending .before .before .before .before in
+    let after-mend = after-file .before in
+    let after-buffer = after-mend .before .before .before .before in
+    let start = after-buffer .before .before .before in
     let x = start .args in
-    let few = mended-few (x .input .now) (x .filled) (x .rest) (c .before .before .before .before .before .before .before .before .before .before .before .before .before .mend .ensures) (start .pre .0 .0) (omega (arith, c .before .before .before .before .before .before .before .before .before .before .before .before .before .before .before .before .before .buffer .given)) (start .pre .1 .0) (omega arith) (c .before .before .before .before .before .before .before .before .mending .given .1) in
-    let put = c .before .before .before .before .put-changes in
+    let few = mended-few (x .input .now) (x .filled) (x .rest) (after-mend .mend .ensures) (start .pre .0 .0) (omega (arith, after-buffer .buffer .given)) (start .pre .1 .0) (omega arith) (after-mending .mending .given .1) in
+    let put = after-put-changes .put-changes in
     omega (arith, few .0, start .pre .1 .1, put .kept, put .ensures .1)
 
 enum-known-mending-2 : tie.Need-enum-known-mending-2
@@ -62,10 +76,16 @@ same-length-2 c = search needs
 
 returns : tie.Need-returns
 returns c =
-    let start = c .before .before .before .before .before .before .before .before .before .before .before .before .before .before .before .before .before .before .before .before .before .before .before in
+    let after-put-end-arg = c .before .before .before .before in
+    let after-put-changes = after-put-end-arg .before .before .before in
+    let after-mending = after-put-changes .before .before .before .before in
+    let after-file = after-mending .before .before .before .before in
+    let after-mend = after-file .before in
+    let after-buffer = after-mend .before .before .before .before in
+    let start = after-buffer .before .before .before in
     let x = start .args in
-    mended-whole (x .input .now) (x .filled) (x .rest) (c .before .before .before .before .before .before .before .before .before .before .before .before .before .before .before .before .mend .ensures) (start .pre .0 .0) (omega (arith, c .before .before .before .before .before .before .before .before .before .before .before .before .before .before .before .before .before .before .before .before .buffer .given)) (start .pre .1 .0) (omega arith) (c .before .before .before .before .before .before .before .before .before .before .before .mending .given .1)
-    (added-more (c .before .before .before .before .before .before .before .put-changes .ensures .0) (c .before .before .put-end .ensures))
+    mended-whole (x .input .now) (x .filled) (x .rest) (after-mend .mend .ensures) (start .pre .0 .0) (omega (arith, after-buffer .buffer .given)) (start .pre .1 .0) (omega arith) (after-mending .mending .given .1)
+    (added-more (after-put-changes .put-changes .ensures .0) (c .before .before .put-end .ensures))
 
 same-length-3 : tie.Need-same-length-3
 same-length-3 c = search needs
@@ -75,10 +95,15 @@ same-length-4 c = search needs
 
 returns-2 : tie.Need-returns-2
 returns-2 c =
-    let start = c .before .before .before .before .before .before .before .before .before .before .before .before .before .before .before .before .before in
+    let after-put-refused-file = c .before .before in
+    let after-mending2 = after-put-refused-file .before .before .before in
+    let after-file = after-mending2 .before .before .before .before in
+    let after-mend = after-file .before in
+    let after-buffer = after-mend .before .before .before .before in
+    let start = after-buffer .before .before .before in
     let x = start .args in
-    refused-whole (x .input .now) (x .filled) (x .rest) (c .before .before .before .before .before .before .before .before .before .before .mend .ensures) (start .pre .0 .0) (omega (arith, c .before .before .before .before .before .before .before .before .before .before .before .before .before .before .buffer .given)) (start .pre .1 .0) (omega arith) (c .before .before .before .before .before .mending2 .given .1)
-    (c .before .before .put-refused-file .ensures)
+    refused-whole (x .input .now) (x .filled) (x .rest) (after-mend .mend .ensures) (start .pre .0 .0) (omega (arith, after-buffer .buffer .given)) (start .pre .1 .0) (omega arith) (after-mending2 .mending2 .given .1)
+    (after-put-refused-file .put-refused-file .ensures)
 
 pub mend-front-spec : {M : Type 1} → statement M
 mend-front-spec =

@@ -20,15 +20,20 @@ slice-aggregate-put-end c = search needs
 
 put-end-requires : tie.Need-put-end-requires
 put-end-requires c κs =
-    let start = c .before .before .before .before .before .before .before .before .before in
-    let pair = c .before .before .before .before .put-pair in
+    let after-put-pair = c .before .before .before .before in
+    let after-put-pair-arg = after-put-pair .before .before .before in
+    let start = after-put-pair-arg .before .before in
+    let pair = after-put-pair .put-pair in
     omega (arith, start .pre, pair .kept, pair-reach (text "byte ") (start .args .place) (text " was ") (start .args .old) (pair .ensures))
 
 same-length : tie.Need-same-length
 same-length c = search needs
 
 returns : tie.Need-returns
-returns c = added-more (c .before .before .before .before .before .before .before .put-pair .ensures) (c .before .before .put-end .ensures)
+returns c =
+    let after-put-end-arg = c .before .before .before .before in
+    let after-put-pair = after-put-end-arg .before .before .before in
+    added-more (after-put-pair .put-pair .ensures) (c .before .before .put-end .ensures)
 
 pub put-change-spec : {M : Type 1} → statement M
 put-change-spec =

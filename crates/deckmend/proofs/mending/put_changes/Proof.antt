@@ -30,30 +30,47 @@ mul-put-change : tie.Need-mul-put-change Inv-loop μ-loop
 mul-put-change c = search needs
 
 shared-slice-read-put-change : tie.Need-shared-slice-read-put-change Inv-loop μ-loop
-shared-slice-read-put-change c = omega (arith, c .before .before .before .before .before .pre .0)
+shared-slice-read-put-change c =
+    let at-loop = c .before .before in
+    let start = at-loop .before .before .before in
+    omega (arith, start .pre .0)
 
 add-put-change : tie.Need-add-put-change Inv-loop μ-loop
-add-put-change c = omega (arith, c .before .before .before .before .before .pre .0)
+add-put-change c =
+    let at-loop = c .before .before in
+    let start = at-loop .before .before .before in
+    omega (arith, start .pre .0)
 
 mul-put-change-2 : tie.Need-mul-put-change-2 Inv-loop μ-loop
 mul-put-change-2 c = search needs
 
 shared-slice-read-put-change-2 : tie.Need-shared-slice-read-put-change-2 Inv-loop μ-loop
-shared-slice-read-put-change-2 c = omega (arith, c .before .before .before .before .before .before .pre .0)
+shared-slice-read-put-change-2 c =
+    let at-loop = c .before .before .before in
+    let start = at-loop .before .before .before in
+    omega (arith, start .pre .0)
 
 add-put-change-2 : tie.Need-add-put-change-2 Inv-loop μ-loop
-add-put-change-2 c = omega (arith, c .before .before .before .before .before .before .pre .0)
+add-put-change-2 c =
+    let at-loop = c .before .before .before in
+    let start = at-loop .before .before .before in
+    omega (arith, start .pre .0)
 
 mul-put-change-3 : tie.Need-mul-put-change-3 Inv-loop μ-loop
 mul-put-change-3 c = search needs
 
 shared-slice-read-put-change-3 : tie.Need-shared-slice-read-put-change-3 Inv-loop μ-loop
-shared-slice-read-put-change-3 c = omega (arith, c .before .before .before .before .before .before .before .pre .0)
+shared-slice-read-put-change-3 c =
+    let at-loop = c .before .before .before .before in
+    let start = at-loop .before .before .before in
+    omega (arith, start .pre .0)
 
 put-change-requires : tie.Need-put-change-requires Inv-loop μ-loop
 put-change-requires c κs =
-    let start = c .before .before .before .before .before .before .before .before in
-    let l = c .before .before .before .before .before .loop in
+    let in-loop = c .before .before .before .before in
+    let at-loop = in-loop .before in
+    let start = at-loop .before .before .before in
+    let l = at-loop .loop in
     omega (arith, start .pre .1, l .inv .1, l .inv .2 .ends, changes-short (l .i) (start .args .list .now))
 
 add-i : tie.Need-add-i Inv-loop μ-loop
@@ -65,7 +82,9 @@ loop-less c = omega arith
 loop-again : tie.Need-loop-again Inv-loop μ-loop
 unfolding changesText
 loop-again c =
-    let l = c .before .before .before .before .before .before .before .before .loop in
+    let known4 = c .before .before .before .before in
+    let at-loop = known4 .before .before .before .before in
+    let l = at-loop .loop in
     let put = c .before .before .put-change in
     (omega arith, omega (arith, put .kept, l .inv .1), rw add-one (added-more (l .inv .2) (put .ensures)))
 

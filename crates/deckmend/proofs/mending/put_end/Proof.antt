@@ -19,8 +19,10 @@ same-length c = search needs
 
 returns : tie.Need-returns
 returns c =
-    let start = c .before .before .before .before .before .before .before .before .before .before .before in
-    let named = c .before .before .before .before .before .before .before .put-named in
+    let after-put-arg = c .before .before .before .before in
+    let after-put-named = after-put-arg .before .before .before in
+    let start = after-put-named .before .before .before .before in
+    let named = after-put-named .put-named in
     let one = named-added (omega (arith, start .pre)) (named .ensures) in
     let reach = named-reach (start .args .name .now) (start .args .n) one in
     added-more one (put-added (omega (arith, start .pre, named .kept, reach)) (c .before .before .put .ensures))

@@ -18,7 +18,10 @@ same-length c = search needs
 
 returns : tie.Need-returns
 returns c =
-    rw (eq-eqb _ _ (c .before .before .before .before .before .if1 .taken)) (put-added (omega (arith, c .before .before .before .before .before .before .before .pre)) (c .before .before .put .ensures))
+    let after-put = c .before .before in
+    let then1 = after-put .before .before .before in
+    let start = then1 .before .before in
+    rw (eq-eqb _ _ (then1 .if1 .taken)) (put-added (omega (arith, start .pre)) (after-put .put .ensures))
 
 slice-aggregate-put-named : tie.Need-slice-aggregate-put-named
 slice-aggregate-put-named c = search needs
@@ -31,17 +34,24 @@ slice-aggregate-put-2 c = search needs
 
 put-requires-2 : tie.Need-put-requires-2
 put-requires-2 c κs =
-    let one = named-added (omega (arith, c .before .before .before .before .before .before .before .before .before .pre)) (c .before .before .before .before .put-named .ensures) in
-    omega (arith, c .before .before .before .before .before .before .before .before .before .pre, c .before .before .before .before .put-named .kept, named-reach (text " fails from ") (c .before .before .before .before .before .before .before .before .before .args .place) one)
+    let after-put-named = c .before .before .before .before in
+    let else1 = after-put-named .before .before .before in
+    let start = else1 .before .before in
+    let one = named-added (omega (arith, start .pre)) (after-put-named .put-named .ensures) in
+    omega (arith, start .pre, after-put-named .put-named .kept, named-reach (text " fails from ") (start .args .place) one)
 
 same-length-2 : tie.Need-same-length-2
 same-length-2 c = search needs
 
 returns-2 : tie.Need-returns-2
 returns-2 c =
-    let one = named-added (omega (arith, c .before .before .before .before .before .before .before .before .before .before .before .before .pre)) (c .before .before .before .before .before .before .before .put-named .ensures) in
-    let reach = named-reach (text " fails from ") (c .before .before .before .before .before .before .before .before .before .before .before .before .args .place) one in
-    rw (ne-eqb _ _ (c .before .before .before .before .before .before .before .before .before .before .if1 .left)) (added-more one (put-added (omega (arith, c .before .before .before .before .before .before .before .before .before .before .before .before .pre, c .before .before .before .before .before .before .before .put-named .kept, reach)) (c .before .before .put2 .ensures)))
+    let after-put-arg3 = c .before .before .before .before in
+    let after-put-named = after-put-arg3 .before .before .before in
+    let else1 = after-put-named .before .before .before in
+    let start = else1 .before .before in
+    let one = named-added (omega (arith, start .pre)) (after-put-named .put-named .ensures) in
+    let reach = named-reach (text " fails from ") (start .args .place) one in
+    rw (ne-eqb _ _ (else1 .if1 .left)) (added-more one (put-added (omega (arith, start .pre, after-put-named .put-named .kept, reach)) (c .before .before .put2 .ensures)))
 
 pub put-place-spec : {M : Type 1} → statement M
 put-place-spec =

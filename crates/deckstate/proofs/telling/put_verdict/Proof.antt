@@ -31,19 +31,28 @@ same-length c = search needs
 
 returns : tie.Need-returns
 returns c =
-    rw (c .before .before .before .before .before .enum-told .given .1) (put-added (omega (arith, c .before .before .before .before .before .before .before .before .pre)) (c .before .before .put .ensures))
+    let after-put = c .before .before in
+    let after-enum-told = after-put .before .before .before in
+    let start = after-enum-told .before .before .before in
+    rw (after-enum-told .enum-told .given .1) (put-added (omega (arith, start .pre)) (after-put .put .ensures))
 
 same-length-2 : tie.Need-same-length-2
 same-length-2 c = search needs
 
 returns-2 : tie.Need-returns-2
-returns-2 c = rw (c .before .before .before .before .before .verdict .given .1) (c .before .before .put-place .ensures)
+returns-2 c =
+    let after-put-place = c .before .before in
+    let after-verdict = after-put-place .before .before .before in
+    rw (after-verdict .verdict .given .1) (after-put-place .put-place .ensures)
 
 same-length-3 : tie.Need-same-length-3
 same-length-3 c = search needs
 
 returns-3 : tie.Need-returns-3
-returns-3 c = rw (c .before .before .before .before .before .verdict2 .given .1) (c .before .before .put-refused .ensures)
+returns-3 c =
+    let after-put-refused = c .before .before in
+    let after-verdict2 = after-put-refused .before .before .before in
+    rw (after-verdict2 .verdict2 .given .1) (after-put-refused .put-refused .ensures)
 
 pub put-verdict-spec : {M : Type 1} → statement M
 put-verdict-spec =

@@ -12,7 +12,8 @@ use Rattle.deckworth.proofs.lines.put_systems.Tie as tie
 put-some-requires : tie.Need-put-some-requires
 put-some-requires c κs =
     let at-test = c .before in
-    let start = at-test .before .before .before .before .before in
+    let known = at-test .before .before .before .before in
+    let start = known .before in
     (start .pre .0, ((omega arith, omega (arith, at-test .if1 .taken)), start .pre .1 .0))
 
 same-length : tie.Need-same-length
@@ -21,7 +22,8 @@ same-length c = search needs
 returns : tie.Need-returns
 returns c =
     let put = c .before .before in
-    let start = put .before .before .before .before .before .before .before in
+    let known2 = put .before .before .before .before in
+    let start = known2 .before .before .before in
     let words = start .args .words in
     let bytes = start .args .file .now in
     let all = in-first (start .args .more .now) (put .put-some .ensures) in
@@ -30,7 +32,8 @@ returns c =
 put-some-requires-2 : tie.Need-put-some-requires-2
 put-some-requires-2 c κs =
     let at-test = c .before in
-    let start = at-test .before .before .before .before .before in
+    let known = at-test .before .before .before .before in
+    let start = known .before in
     (start .pre .0, ((omega (arith, at-test .if1 .left), omega arith), start .pre .1 .0))
 
 sub-put-some : tie.Need-sub-put-some
@@ -38,8 +41,10 @@ sub-put-some c = search needs
 
 put-some-requires-3 : tie.Need-put-some-requires-3
 put-some-requires-3 c κs =
-    let at-test = c .before .before .before .before .before .before in
-    let start = at-test .before .before .before .before .before in
+    let after-put-some2 = c .before .before .before .before in
+    let at-test = after-put-some2 .before .before in
+    let known = at-test .before .before .before .before in
+    let start = known .before in
     (start .pre .0, ((omega (arith, at-test .if1 .left), omega (arith, few-systems (start .pre .0))), start .pre .1 .1))
 
 same-length-2 : tie.Need-same-length-2
@@ -51,9 +56,11 @@ same-length-3 c = search needs
 returns-2 : tie.Need-returns-2
 returns-2 c =
     let second = c .before .before in
-    let first = second .before .before .before .before .before in
+    let after-out2 = second .before .before .before .before in
+    let first = after-out2 .before in
     let at-test = first .before .before in
-    let start = at-test .before .before .before .before .before in
+    let known = at-test .before .before .before .before in
+    let start = known .before in
     let words = start .args .words in
     let bytes = start .args .file .now in
     let m = start .args .head .systems in

@@ -26,11 +26,14 @@ slice-aggregate-put c = search needs
 
 put-requires : tie.Need-put-requires
 put-requires c κs =
-    let known = c .before .before .before .before .before .before .before .before .before in
+    let after-put-signed-pair = c .before .before .before .before in
+    let after-known-told = after-put-signed-pair .before .before .before .before in
+    let known = after-known-told .before in
+    let start = known .before .before .before .before in
     let ends = known .worth .given .0 in
-    let pair = c .before .before .before .before .put-signed-pair in
+    let pair = after-put-signed-pair .put-signed-pair in
     let reach = signed-pair-reach (text " lower ") (held (ends .0)) (text " upper ") (held (ends .1 .0)) (pair .ensures) in
-    omega (arith, known .before .before .before .before .pre .1 .1, pair .kept, reach)
+    omega (arith, start .pre .1 .1, pair .kept, reach)
 
 enum-known-worth-2 : tie.Need-enum-known-worth-2
 enum-known-worth-2 c = search needs
@@ -43,22 +46,29 @@ same-length c = search needs
 
 returns : tie.Need-returns
 returns c =
-    let told = c .before .before .before .before .before .before .before .before .before .before .before in
+    let after-put-arg = c .before .before .before .before in
+    let after-put-signed-pair = after-put-arg .before .before .before in
+    let told = after-put-signed-pair .before .before .before .before in
+    let after-worth = told .before in
+    let start = after-worth .before .before .before .before in
     let fits = told .known-told .given in
-    let is = told .before .worth .given in
-    let pair = c .before .before .before .before .before .before .before .put-signed-pair in
+    let is = after-worth .worth .given in
+    let pair = after-put-signed-pair .put-signed-pair in
     let lower = toZ-ofZ w64 (is .0 .0) (record { sfits = fits .0 .1 }) in
     let upper = toZ-ofZ w64 (is .0 .1 .0) (record { sfits = fits .1 .0 .1 }) in
     let ends = rw (lower, upper) at (pair .ensures) in
     let reach = signed-pair-reach (text " lower ") (is .0 .0) (text " upper ") (is .0 .1 .0) ends in
-    let room = told .before .before .before .before .before .pre .1 .1 in
+    let room = start .pre .1 .1 in
     rw (is .1) (added-more ends (put-added (omega (arith, room, pair .kept, reach)) (c .before .before .put .ensures)))
 
 same-length-2 : tie.Need-same-length-2
 same-length-2 c = search needs
 
 returns-2 : tie.Need-returns-2
-returns-2 c = rw (c .before .before .before .before .before .worth2 .given .1) (c .before .before .put-refusal .ensures)
+returns-2 c =
+    let after-put-refusal = c .before .before in
+    let after-worth2 = after-put-refusal .before .before .before in
+    rw (after-worth2 .worth2 .given .1) (after-put-refusal .put-refusal .ensures)
 
 pub put-worth-spec : {M : Type 1} → statement M
 put-worth-spec =

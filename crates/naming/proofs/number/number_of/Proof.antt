@@ -47,7 +47,10 @@ returns-2 c =
 
 -- what the second test leaves
 abbrev byte : (c : tie.Else2 Inv-loop μ-loop) → ℕ
-byte c = getD (c .before .before .before .before .before .before .before .args .word .now) (c .before .before .before .before .loop .i) 0
+byte c =
+    let at-loop = c .before .before .before .before in
+    let start = at-loop .before .before .before in
+    getD (start .args .word .now) (at-loop .loop .i) 0
 
 found : (c : tie.Else2 Inv-loop μ-loop) → within 48 (byte c) 57 ≡ true
 found c = not-false (within 48 (byte c) 57) (sym (c .before .outside .ensures) ∙ c .if2 .left)
@@ -76,8 +79,10 @@ loop-less c = omega arith
 
 loop-again : tie.Need-loop-again Inv-loop μ-loop
 loop-again c =
-    let l = c .before .before .before .before .loop in
-    let word = c .before .before .before .before .before .before .before .args .word .now in (
+    let at-loop = c .before .before .before .before in
+    let start = at-loop .before .before .before in
+    let l = at-loop .loop in
+    let word = start .args .word .now in (
       omega arith,
       rw add-one (one-more (l .number) (l .i) (byte c - 48) (l .inv .1) (omega (arith, digit-in c))),
       l .inv .2,

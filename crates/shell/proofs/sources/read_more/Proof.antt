@@ -37,9 +37,10 @@ same-length c = search needs
 
 returns : tie.Need-returns Inv-loop μ-loop
 returns c =
-    let read = c .before .before .before .before .before .before .before in
+    let after-filled = c .before .before .before in
+    let read = after-filled .before .before .before .before in
     let at-test = read .before .before .before .before in
-    let front = rw (c .before .before .before .filled .given .1) at (read .read-told .ensures) in
+    let front = rw (after-filled .filled .given .1) at (read .read-told .ensures) in
     record { front = front; labelled = at-test .loop .inv .0 }
 
 close-requires : tie.Need-close-requires Inv-loop μ-loop

@@ -17,7 +17,9 @@ enum-told c = search needs
 
 slice-aggregate-fail : tie.Need-slice-aggregate-fail
 slice-aggregate-fail c =
-    let start = c .before .before .before .before .before .before .before .before .before .before in
+    let at-match-keys2 = c .before .before .before in
+    let after-struct-told = at-match-keys2 .before .before .before .before in
+    let start = after-struct-told .before .before .before in
     sym (length-take-le (start .args .source .end) _ (omega (arith, start .pre, c .before .line .given)))
 
 fail-requires : tie.Need-fail-requires
@@ -34,8 +36,9 @@ same-length-2 c = search needs
 
 returns-2 : tie.Need-returns-2
 returns-2 c =
-    let read = c .before .before .before .before .before in
-    rw (c .before .filled .given .1) at (read .read-some .ensures)
+    let after-filled = c .before in
+    let read = after-filled .before .before .before .before in
+    rw (after-filled .filled .given .1) at (read .read-some .ensures)
 
 pub read-told-spec : {M : Type 1} → statement M
 read-told-spec =

@@ -41,7 +41,8 @@ slice-aggregate-hear c = search needs
 
 hear-requires : tie.Need-hear-requires Inv-loop μ-loop
 hear-requires c κs =
-    let at-test = c .before .before .before .before .before in
+    let in-loop = c .before .before .before .before in
+    let at-test = in-loop .before in
     (at-test .loop .inv .0, at-test .loop .inv .3)
 
 add-i : tie.Need-add-i Inv-loop μ-loop

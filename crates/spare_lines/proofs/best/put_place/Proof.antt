@@ -38,7 +38,8 @@ slice-aggregate-put-pair-4 c = search needs
 
 put-pair-requires-2 : tie.Need-put-pair-requires-2
 put-pair-requires-2 c κs =
-    let at = c .before .before .before .before .before in
+    let after-out = c .before .before .before .before in
+    let at = after-out .before in
     omega (arith, entry at .pre .1, at .put-pair .kept, first at)
 
 put-rated-requires : tie.Need-put-rated-requires
