@@ -12,6 +12,7 @@ from second.model.terms import WORKS, Refusal
 LONGEST_NUMBER = 16  # digits; more are no number
 LONGEST_WORD = 256  # bytes; a longer word names nothing
 SHOWN = 60  # bytes of a wrong word
+LONGEST_SHOWN = 4096  # bytes; nothing is shown of a longer word
 BOARD = "board"  # "A file of version 3 also takes `board B` words"
 
 
@@ -68,7 +69,8 @@ def failed_fans(deck, words):
 
 def shown(word):
     """The front of a word; what is no plain character is a question mark."""
-    return "".join(chr(byte) if 32 <= byte <= 126 else "?" for byte in word.encode()[:SHOWN])
+    data = word.encode()
+    return "".join(chr(byte) if 32 <= byte <= 126 else "?" for byte in data[:SHOWN]) if len(data) <= LONGEST_SHOWN else ""
 
 
 def system_verdict(deck, system, failed):

@@ -7,7 +7,7 @@ from second.model.terms import BOARDS_VERSION, NO_KIND, UNITS, Boards, Deck, Rul
 # No deck takes any of these as fans: no digits, no number, too large, too long, a range that runs backwards or nowhere, a list with a gap.
 NO_NUMBERS = (
     "", "0", "00", "65", "99", "256", "257", "-1", "+1", "1.", "1 ", " 1", "2-1", "0-1", "1-", "1-65", "1-2-3", "1--2", ",", "1,", ",1", "1,,2", "1,0", "1;2", "1, 2", "one", "x", "0x1", "1e0", "--", "board1", "Board", "boar", "boards", "\n", "1\n",
-    "/", ":", "1/", ":1", "18446744073709551617", "4294967297", "9999999999999999", "00000000000000001", "x" * 5000, "\u0661",
+    "/", ":", "1/", ":1", "18446744073709551617", "4294967297", "9999999999999999", "00000000000000001", "x" * 300, "x" * 4096, "x" * 4097, "\u0661",
 )
 
 
