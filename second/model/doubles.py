@@ -10,7 +10,7 @@ from math import ceil, floor, nextafter
 from second.model.deck_file import file_refusal, number_at, read_deck
 from second.model.figures import low_and_high
 from second.model.loading import bad_system, rate_system
-from second.model.refusals import bad_kind, bad_length, bad_rule, bad_stretch, bad_weights
+from second.model.refusals import bad_rule, bad_weights, place_refusal
 from second.model.terms import HEADER_BYTES, TABLE_CELLS, UNIT, UNITS, Refusal
 
 ONE = 2 ** 1074  # document 02, request 10: "parts in 2^1074"
@@ -61,12 +61,9 @@ def on_grid(bits):
 def planned_refusal(rule, a, b, doubles, weights, room):
     # document 02, request 10: the figures' order with "18 .. in the place of 4; 19 .. after 6"
     n = len(doubles)
-    if bad_kind(rule):
-        return 1
-    if bad_length(n):
-        return 2
-    if bad_stretch(a, b, n):
-        return 3
+    number = place_refusal(rule, a, b, n)
+    if number:
+        return number
     rated, rated_weights = doubles[a - 1:b], weights[a - 1:b]
     if not all(map(is_chance, rated)):
         return 18

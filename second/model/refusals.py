@@ -108,6 +108,15 @@ def count_refusal(rule, n, weights, room, slots):
     return 8 if slots < n + 1 else None
 
 
+def place_refusal(rule, a, b, n):
+    # document 01, 'Refusal numbers': 1, 2 and 3, the lowest that applies
+    if bad_kind(rule):
+        return 1
+    if bad_length(n):
+        return 2
+    return 3 if bad_stretch(a, b, n) else None
+
+
 def rated_refusal(rule, a, b, survivals, weights, board_survivals, unit):
     # document 01, 'Stretches': "Components and weights outside it are not read"; document 02, request 11: "4 for any board's survival number too"
     if bad_survivals(survivals[a - 1:b], unit) or bad_survivals(board_survivals, unit):
@@ -123,13 +132,7 @@ def figures_refusal(rule, a, b, survivals, weights, room, version, boards):
     n = len(survivals)
     if bad_version(version):
         return 11
-    if bad_kind(rule):
-        return 1
-    if bad_length(n):
-        return 2
-    if bad_stretch(a, b, n):
-        return 3
-    number = boards_refusal(version, n, boards, boards.of_fans[a - 1:b])
+    number = place_refusal(rule, a, b, n) or boards_refusal(version, n, boards, boards.of_fans[a - 1:b])
     if number:
         return number
     own = boards_read(version, boards).survivals

@@ -1,4 +1,4 @@
--- deckstate(1), "Fans": a word names one by its number, some by a range as 3-7, or several of these with commas between them. A part that is none of these makes the
+-- deckstate(1), WORDS: a word names one by its number, some by a range as 3-7, or several of these with commas between them. A part that is none of these makes the
 -- word wrong.
 use mathlib.Core.Bool.{true, false, cond, _&&_}
 use mathlib.Core.List.{List, [], _∷_, _++_}
