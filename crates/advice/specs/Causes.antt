@@ -2,105 +2,105 @@
 use Rattle.std.specs.Prelude.{ℕ}
 
 -- a file ends before its version's header does
-abbrev pub headerShort : ℕ
-headerShort = 0
+abbrev pub header_short : ℕ
+header_short = 0
 
 -- its version is none that is known
-abbrev pub unknownVersion : ℕ
-unknownVersion = 1
+abbrev pub unknown_version : ℕ
+unknown_version = 1
 
 -- its zero field is not 0
-abbrev pub zeroFieldSet : ℕ
-zeroFieldSet = 2
+abbrev pub zero_field_set : ℕ
+zero_field_set = 2
 
 -- it has no fans, or more than a deck has
-abbrev pub fansOut : ℕ
-fansOut = 3
+abbrev pub fans_out : ℕ
+fans_out = 3
 
 -- no systems, or more than a deck has
-abbrev pub systemsOut : ℕ
-systemsOut = 4
+abbrev pub systems_out : ℕ
+systems_out = 4
 
 -- no boards, or more than a deck has
-abbrev pub boardsOut : ℕ
-boardsOut = 5
+abbrev pub boards_out : ℕ
+boards_out = 5
 
 -- it ends before its last system does
-abbrev pub endsEarly : ℕ
-endsEarly = 6
+abbrev pub ends_early : ℕ
+ends_early = 6
 
 -- its offsets or its length are not the layout's
-abbrev pub laidWrongly : ℕ
-laidWrongly = 7
+abbrev pub laid_wrongly : ℕ
+laid_wrongly = 7
 
 -- a fan is on a board that is not there
-abbrev pub boardPastLast : ℕ
-boardPastLast = 8
+abbrev pub board_past_last : ℕ
+board_past_last = 8
 
 -- a system's kind is none
-abbrev pub noSuchKind : ℕ
-noSuchKind = 9
+abbrev pub no_such_kind : ℕ
+no_such_kind = 9
 
 -- its stretch is not on the deck
-abbrev pub noStretch : ℕ
-noStretch = 10
+abbrev pub no_stretch : ℕ
+no_stretch = 10
 
 -- a fan's survival number is above the unit
-abbrev pub fanAbove : ℕ
-fanAbove = 11
+abbrev pub fan_above : ℕ
+fan_above = 11
 
 -- a board's is
-abbrev pub boardAbove : ℕ
-boardAbove = 12
+abbrev pub board_above : ℕ
+board_above = 12
 
 -- its fans weigh too much
-abbrev pub tooHeavy : ℕ
-tooHeavy = 13
+abbrev pub too_heavy : ℕ
+too_heavy = 13
 
 -- its rule has one number, and a second is set
-abbrev pub secondSet : ℕ
-secondSet = 14
+abbrev pub second_set : ℕ
+second_set = 14
 
 -- that number is out of range: of dead fans
-abbrev pub numberOut : ℕ
-numberOut = 15
+abbrev pub number_out : ℕ
+number_out = 15
 
 -- of dead fans in a row
-abbrev pub runOut : ℕ
-runOut = 16
+abbrev pub run_out : ℕ
+run_out = 16
 
 -- of a weight
-abbrev pub weightOut : ℕ
-weightOut = 17
+abbrev pub weight_out : ℕ
+weight_out = 17
 
 -- its fans have no weight
-abbrev pub noWeight : ℕ
-noWeight = 18
+abbrev pub no_weight : ℕ
+no_weight = 18
 
 -- its rule has two numbers, out of range: at least and at most so many dead
-abbrev pub betweenOut : ℕ
-betweenOut = 19
+abbrev pub between_out : ℕ
+between_out = 19
 
 -- so many dead in a window
-abbrev pub nearOut : ℕ
-nearOut = 20
+abbrev pub near_out : ℕ
+near_out = 20
 
 -- the same where a rule of kind 8 says what was meant
-abbrev pub nearLacking : ℕ
-nearLacking = 21
+abbrev pub near_lacking : ℕ
+near_lacking = 21
 
 -- so many dead in a window round the ring
-abbrev pub ringOut : ℕ
-ringOut = 22
+abbrev pub ring_out : ℕ
+ring_out = 22
 
 -- the same on a ring of one fan
-abbrev pub ringOfOne : ℕ
-ringOfOne = 23
+abbrev pub ring_of_one : ℕ
+ring_of_one = 23
 
 -- so many needed of a window
-abbrev pub lackingOut : ℕ
-lackingOut = 24
+abbrev pub lacking_out : ℕ
+lacking_out = 24
 
 -- a fan is not in the system's stretch
-abbrev pub fanOutside : ℕ
-fanOutside = 25
+abbrev pub fan_outside : ℕ
+fan_outside = 25

@@ -1,37 +1,37 @@
 -- Why a deck file is refused: the causes of 10, 11, 2, 12, 20, 13 and 21 in the order in which a file is checked, each with a remedy.
 use Rattle.std.specs.Prelude.{cond, List, ℕ, ltb, eqb, length}
-use Rattle.rules.specs.Refusal.{badVersion, badSize}
-use Rattle.rules.specs.File.{zeroField, shortestHeader, headerLength, number_at, versionIn, fansIn, countIn, boardCountIn, lengthIn, shortFile, shortHeader, badSystems, badLayout, badBoardsIn}
+use Rattle.rules.specs.Refusal.{bad_version, bad_size}
+use Rattle.rules.specs.File.{zero_field, shortest_header, header_length, number_at, version_in, fans_in, count_in, board_count_in, length_in, short_file, short_header, bad_systems, bad_layout, bad_boards_in}
 use Rattle.advice.specs.declared.why.Why.{Why}
-use Rattle.advice.specs.Words.{because, whyText}
-use Rattle.advice.specs.Causes.{headerShort, unknownVersion, zeroFieldSet, fansOut, systemsOut, boardsOut, endsEarly, laidWrongly, boardPastLast}
+use Rattle.advice.specs.Words.{because, why_text}
+use Rattle.advice.specs.Causes.{header_short, unknown_version, zero_field_set, fans_out, systems_out, boards_out, ends_early, laid_wrongly, board_past_last}
 
 -- 13, where the file ends early and where it does not, and 21
-unfoldable pub laidWhy : List ℕ → Why
-laidWhy bytes =
-    cond (ltb (length bytes) (lengthIn bytes)) (because endsEarly (length bytes) (lengthIn bytes) 0 0)
-    (cond (badLayout bytes) (because laidWrongly 0 0 0 0) (because boardPastLast (boardCountIn bytes) 0 0 0))
+unfoldable pub laid_why : List ℕ → Why
+laid_why bytes =
+    cond (ltb (length bytes) (length_in bytes)) (because ends_early (length bytes) (length_in bytes) 0 0)
+    (cond (bad_layout bytes) (because laid_wrongly 0 0 0 0) (because board_past_last (board_count_in bytes) 0 0 0))
 
 -- 2, 12 and 20, and those
-unfoldable pub countsWhy : List ℕ → Why
-countsWhy bytes =
-    cond (badSize (fansIn bytes)) (because fansOut (fansIn bytes) 0 0 0)
-    (cond (badSystems bytes) (because systemsOut (countIn bytes) 0 0 0)
-    (cond (badBoardsIn bytes) (because boardsOut (boardCountIn bytes) 0 0 0) (laidWhy bytes)))
+unfoldable pub counts_why : List ℕ → Why
+counts_why bytes =
+    cond (bad_size (fans_in bytes)) (because fans_out (fans_in bytes) 0 0 0)
+    (cond (bad_systems bytes) (because systems_out (count_in bytes) 0 0 0)
+    (cond (bad_boards_in bytes) (because boards_out (board_count_in bytes) 0 0 0) (laid_why bytes)))
 
 -- 11 by the zero field and 10 by the version's header, and those
-unfoldable pub headerWhy : List ℕ → Why
-headerWhy bytes =
-    let zeros = number_at 2 bytes zeroField in
-    cond (eqb zeros 0) (cond (shortHeader bytes) (because headerShort (length bytes) (headerLength (versionIn bytes)) 0 0) (countsWhy bytes))
-    (because zeroFieldSet zeros 0 0 0)
+unfoldable pub header_why : List ℕ → Why
+header_why bytes =
+    let zeros = number_at 2 bytes zero_field in
+    cond (eqb zeros 0) (cond (short_header bytes) (because header_short (length bytes) (header_length (version_in bytes)) 0 0) (counts_why bytes))
+    (because zero_field_set zeros 0 0 0)
 
 -- 10, 11 by the version, and those
-unfoldable pub fileWhy : List ℕ → Why
-fileWhy bytes =
-    cond (shortFile bytes) (because headerShort (length bytes) shortestHeader 0 0)
-    (cond (badVersion (versionIn bytes)) (because unknownVersion (versionIn bytes) 0 0 0) (headerWhy bytes))
+unfoldable pub file_why : List ℕ → Why
+file_why bytes =
+    cond (short_file bytes) (because header_short (length bytes) shortest_header 0 0)
+    (cond (bad_version (version_in bytes)) (because unknown_version (version_in bytes) 0 0 0) (header_why bytes))
 
 -- in words
-abbrev pub fileWords : List ℕ → List ℕ
-fileWords bytes = whyText (fileWhy bytes)
+abbrev pub file_words : List ℕ → List ℕ
+file_words bytes = why_text (file_why bytes)

@@ -1,7 +1,7 @@
 -- A refusal in words: what it means by the numbers at hand, and what to do about it. K and R are a rule's numbers as a typed text has them (man page deckmake).
 use Rattle.std.specs.Prelude.{List, [], ◌∷◌, ℕ, ◌+◌, ◌*◌, get_or}
-use Rattle.text.specs.Decimal.{text, mostDigits}
-use Rattle.forms.specs.Form.{mostMarks, formText}
+use Rattle.text.specs.Decimal.{text, most_digits}
+use Rattle.forms.specs.Form.{most_marks, form_text}
 use Rattle.advice.specs.declared.why.Why.{Why}
 
 -- why: a row of the table below, and the numbers that its form is filled with
@@ -39,14 +39,14 @@ forms =
     ∷ []
 
 -- its text, and the room that it takes at most
-abbrev pub numbersOf : Why → List ℕ
-numbersOf w = w.a ∷ w.b ∷ w.c ∷ w.d ∷ 0 ∷ 0 ∷ []
+abbrev pub numbers_of : Why → List ℕ
+numbers_of w = w.a ∷ w.b ∷ w.c ∷ w.d ∷ 0 ∷ 0 ∷ []
 
-unfoldable pub whyText : Why → List ℕ
-whyText w = formText (get_or forms w.row []) (numbersOf w)
+unfoldable pub why_text : Why → List ℕ
+why_text w = form_text (get_or forms w.row []) (numbers_of w)
 
-abbrev pub longestForm : ℕ
-longestForm = 120
+abbrev pub longest_form : ℕ
+longest_form = 120
 
-abbrev pub whyRoom : ℕ
-whyRoom = longestForm + mostDigits * mostMarks
+abbrev pub why_room : ℕ
+why_room = longest_form + most_digits * most_marks

@@ -1,7 +1,7 @@
 // Why a deck file is refused.
 ghost use Rattle.std.specs.Prelude.{◌≡◌};
 ghost use Rattle.deck.specs.Head.{Versioned, Given};
-ghost use Rattle.advice.specs.File.{laidWhy, countsWhy, headerWhy, fileWhy};
+ghost use Rattle.advice.specs.File.{laid_why, counts_why, header_why, file_why};
 
 use crate::why::Why;
 use crate::{cause, why};
@@ -12,7 +12,7 @@ use rules::limit;
 // By its layout and its fans' boards.
 fn laid_why(file: &[u8], head: Head) -> Why
     requires { Given file.now head }
-    ensures { result ≡ laidWhy file.now }
+    ensures { result ≡ laid_why file.now }
 {
     let length = deck::length_given(head);
     if file.len() < length {
@@ -27,7 +27,7 @@ fn laid_why(file: &[u8], head: Head) -> Why
 // By its counts.
 fn counts_why(file: &[u8], head: Head) -> Why
     requires { Given file.now head }
-    ensures { result ≡ countsWhy file.now }
+    ensures { result ≡ counts_why file.now }
 {
     let n = head.fans as u64;
     if refusals::size_out(n) {
@@ -47,7 +47,7 @@ fn counts_why(file: &[u8], head: Head) -> Why
 // By the rest of a header of some version.
 fn header_why(file: &[u8], version: u64) -> Why
     requires { Versioned file.now version }
-    ensures { result ≡ headerWhy file.now }
+    ensures { result ≡ header_why file.now }
 {
     let zeros = number::number2(file, layout::ZERO_FIELD);
     if zeros != 0 {
@@ -63,7 +63,7 @@ fn header_why(file: &[u8], version: u64) -> Why
 
 // Why a file is refused.
 pub fn file_why(file: &[u8]) -> Why
-    ensures { result ≡ fileWhy file.now }
+    ensures { result ≡ file_why file.now }
 {
     if file.len() < layout::SHORTEST_HEADER {
         return why::because(

@@ -6,23 +6,23 @@ pub mod why; // why.rt: the cause of a refusal, by the numbers at hand
 
 ghost use Rattle.std.specs.Prelude.{◌≡◌, ◌≤◌, ◌<◌, length};
 ghost use Rattle.forms.specs.Form.{PutText};
-ghost use Rattle.advice.specs.Causes.{systemsOut, noSuchKind, secondSet, betweenOut, fanOutside};
-ghost use Rattle.advice.specs.Words.{numbersOf, whyText, whyRoom};
+ghost use Rattle.advice.specs.Causes.{systems_out, no_such_kind, second_set, between_out, fan_outside};
+ghost use Rattle.advice.specs.Words.{numbers_of, why_text, why_room};
 
 use why::Why;
 
 // The numbers that a form is filled with.
 fn numbers_of(why: Why) -> [u64; forms::MARKS]
-    ensures { result ≡ numbersOf why }
+    ensures { result ≡ numbers_of why }
 {
     [why.a, why.b, why.c, why.d, 0, 0]
 }
 
 // Of a file's header, version and fans.
 fn put_start(why: Why, out: &mut [u8], at: usize) -> usize
-    requires row { why.row < systemsOut }
+    requires row { why.row < systems_out }
     requires place { at ≤ length out.old }
-    ensures { PutText (whyText why) whyRoom out.old at out.new result }
+    ensures { PutText (why_text why) why_room out.old at out.new result }
 {
     let numbers = numbers_of(why);
     let row = why.row;
@@ -56,9 +56,9 @@ fn put_start(why: Why, out: &mut [u8], at: usize) -> usize
 
 // Of its other counts, and of its layout.
 fn put_counts(why: Why, out: &mut [u8], at: usize) -> usize
-    requires row { (systemsOut ≤ why.row) × (why.row < noSuchKind) }
+    requires row { (systems_out ≤ why.row) × (why.row < no_such_kind) }
     requires place { at ≤ length out.old }
-    ensures { PutText (whyText why) whyRoom out.old at out.new result }
+    ensures { PutText (why_text why) why_room out.old at out.new result }
 {
     let numbers = numbers_of(why);
     let row = why.row;
@@ -98,9 +98,9 @@ fn put_counts(why: Why, out: &mut [u8], at: usize) -> usize
 
 // Of a system's kind, stretch, survival numbers and weights.
 fn put_system(why: Why, out: &mut [u8], at: usize) -> usize
-    requires row { (noSuchKind ≤ why.row) × (why.row < secondSet) }
+    requires row { (no_such_kind ≤ why.row) × (why.row < second_set) }
     requires place { at ≤ length out.old }
-    ensures { PutText (whyText why) whyRoom out.old at out.new result }
+    ensures { PutText (why_text why) why_room out.old at out.new result }
 {
     let numbers = numbers_of(why);
     let row = why.row;
@@ -140,9 +140,9 @@ fn put_system(why: Why, out: &mut [u8], at: usize) -> usize
 
 // Of a rule with one number.
 fn put_one(why: Why, out: &mut [u8], at: usize) -> usize
-    requires row { (secondSet ≤ why.row) × (why.row < betweenOut) }
+    requires row { (second_set ≤ why.row) × (why.row < between_out) }
     requires place { at ≤ length out.old }
-    ensures { PutText (whyText why) whyRoom out.old at out.new result }
+    ensures { PutText (why_text why) why_room out.old at out.new result }
 {
     let numbers = numbers_of(why);
     let row = why.row;
@@ -182,9 +182,9 @@ fn put_one(why: Why, out: &mut [u8], at: usize) -> usize
 
 // Of a rule with two.
 fn put_two(why: Why, out: &mut [u8], at: usize) -> usize
-    requires row { (betweenOut ≤ why.row) × (why.row < fanOutside) }
+    requires row { (between_out ≤ why.row) × (why.row < fan_outside) }
     requires place { at ≤ length out.old }
-    ensures { PutText (whyText why) whyRoom out.old at out.new result }
+    ensures { PutText (why_text why) why_room out.old at out.new result }
 {
     let numbers = numbers_of(why);
     let row = why.row;
@@ -230,9 +230,9 @@ fn put_two(why: Why, out: &mut [u8], at: usize) -> usize
 
 // Of a fan that its worth is asked of.
 fn put_fan(why: Why, out: &mut [u8], at: usize) -> usize
-    requires row { why.row ≡ fanOutside }
+    requires row { why.row ≡ fan_outside }
     requires place { at ≤ length out.old }
-    ensures { PutText (whyText why) whyRoom out.old at out.new result }
+    ensures { PutText (why_text why) why_room out.old at out.new result }
 {
     let numbers = numbers_of(why);
     forms::put_form(
@@ -246,7 +246,7 @@ fn put_fan(why: Why, out: &mut [u8], at: usize) -> usize
 // Puts why something is refused, and what to do about it.
 pub fn put_why(why: Why, out: &mut [u8], at: usize) -> usize
     requires { at ≤ length out.old }
-    ensures { PutText (whyText why) whyRoom out.old at out.new result }
+    ensures { PutText (why_text why) why_room out.old at out.new result }
 {
     if why.row < cause::SYSTEMS_OUT {
         return put_start(why, out, at);

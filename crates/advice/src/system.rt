@@ -1,9 +1,9 @@
 // Why a system of a deck file is refused.
 ghost use Rattle.std.specs.Prelude.{◌≡◌, false, ◌≤◌, length, get_or};
-ghost use Rattle.rules.specs.Refusal.{badStretch, most, mostBoards};
-ghost use Rattle.rules.specs.File.{deckIn, systemIn};
+ghost use Rattle.rules.specs.Refusal.{bad_stretch, most, most_boards};
+ghost use Rattle.rules.specs.File.{deck_in, system_in};
 ghost use Rattle.deck.specs.Outcome.{Placed};
-ghost use Rattle.advice.specs.System.{aboveWhy, ratedWhy, whyOf, systemWhy, fanWhy};
+ghost use Rattle.advice.specs.System.{above_why, rated_why, why_of, system_why, fan_why};
 
 use crate::why::Why;
 use crate::{cause, why};
@@ -22,9 +22,9 @@ fn number_at(numbers: &[u32], i: usize) -> u64
 
 // A survival number above the unit: the first such fan of the stretch, or else the first such board.
 fn above_why(unit: u64, a: u64, b: u64, survival: &[u32], switchboards: &[u32]) -> Why
-    requires stretch { badStretch a b (length survival.now) ≡ false }
-    requires few { (length survival.now ≤ most) × (length switchboards.now ≤ mostBoards) }
-    ensures { result ≡ aboveWhy unit a b survival.now switchboards.now }
+    requires stretch { bad_stretch a b (length survival.now) ≡ false }
+    requires few { (length survival.now ≤ most) × (length switchboards.now ≤ most_boards) }
+    ensures { result ≡ above_why unit a b survival.now switchboards.now }
 {
     let upto = b as usize;
     let i = why::above_from(survival, a as usize - 1, upto, unit);
@@ -56,11 +56,11 @@ fn rated_why(
     weights: &[u16],
     switchboards: &[u32],
 ) -> Why
-    requires stretch { badStretch system.a system.b (length survival.now) ≡ false }
+    requires stretch { bad_stretch system.a system.b (length survival.now) ≡ false }
     requires alike { length weights.now ≡ length survival.now }
-    requires few { (length survival.now ≤ most) × (length switchboards.now ≤ mostBoards) }
+    requires few { (length survival.now ≤ most) × (length switchboards.now ≤ most_boards) }
     ensures { let weighed = weights.now in
-        result ≡ ratedWhy version system number survival.now weighed switchboards.now }
+        result ≡ rated_why version system number survival.now weighed switchboards.now }
 {
     let from = system.a as usize - 1;
     let upto = system.b as usize;
@@ -86,9 +86,9 @@ fn lists_why(
     switchboards: &[u32],
 ) -> Why
     requires alike { length weights.now ≡ length survival.now }
-    requires few { (length survival.now ≤ most) × (length switchboards.now ≤ mostBoards) }
+    requires few { (length survival.now ≤ most) × (length switchboards.now ≤ most_boards) }
     ensures { let weighed = weights.now in
-        result ≡ whyOf version system number survival.now weighed switchboards.now }
+        result ≡ why_of version system number survival.now weighed switchboards.now }
 {
     let n = survival.len() as u64;
     if number == refusal::KIND {
@@ -103,7 +103,7 @@ fn lists_why(
 // Why the system at a place of a file, counted from 0, is refused by a number.
 pub fn system_why(file: &[u8], head: Head, s: usize, number: u64) -> Why
     requires { Placed file.now head s }
-    ensures { result ≡ systemWhy (deckIn file.now) (systemIn file.now s) number }
+    ensures { result ≡ system_why (deck_in file.now) (system_in file.now s) number }
 {
     let n = head.fans;
     let g = head.boards;
@@ -124,7 +124,7 @@ pub fn system_why(file: &[u8], head: Head, s: usize, number: u64) -> Why
 // Why the worth of a fan to that system is refused by a number.
 pub fn fan_why(file: &[u8], head: Head, s: usize, fan: u64, number: u64) -> Why
     requires { Placed file.now head s }
-    ensures { result ≡ fanWhy (deckIn file.now) (systemIn file.now s) fan number }
+    ensures { result ≡ fan_why (deck_in file.now) (system_in file.now s) fan number }
 {
     if number == refusal::FAN {
         let system = deck::system_in(file, head, s);

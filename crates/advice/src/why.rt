@@ -2,7 +2,7 @@
 ghost use Rattle.std.specs.Prelude.{◌≡◌, ◌-◌, ◌≤◌, length};
 ghost use Rattle.rules.specs.Refusal.{most};
 ghost use Rattle.advice.specs.Words.{because};
-ghost use Rattle.advice.specs.System.{oneWhy, weightWhy, nearWhy, ringWhy, rangeWhy, aboveFrom, weightFrom};
+ghost use Rattle.advice.specs.System.{one_why, weight_why, near_why, ring_why, range_why, above_from, weight_from};
 
 use crate::cause;
 use rules::{Rule, kind};
@@ -27,7 +27,7 @@ pub fn because(row: u64, a: u64, b: u64, c: u64, d: u64) -> Why
 
 // A rule whose first number is out of range, or whose second one is not 0.
 fn one_why(row: u64, first: u64, second: u64, most: u64) -> Why
-    ensures { result ≡ oneWhy row first second most }
+    ensures { result ≡ one_why row first second most }
 {
     if second == 0 {
         return because(row, first, most, most, 0);
@@ -36,7 +36,7 @@ fn one_why(row: u64, first: u64, second: u64, most: u64) -> Why
 }
 
 fn weight_why(first: u64, second: u64, total: u64) -> Why
-    ensures { result ≡ weightWhy first second total }
+    ensures { result ≡ weight_why first second total }
 {
     if total == 0 {
         return because(cause::NO_WEIGHT, 0, 0, 0, 0);
@@ -45,7 +45,7 @@ fn weight_why(first: u64, second: u64, total: u64) -> Why
 }
 
 fn near_why(first: u64, second: u64, n: u64) -> Why
-    ensures { result ≡ nearWhy first second n }
+    ensures { result ≡ near_why first second n }
 {
     if refusals::outside(1, first, second) {
         return because(cause::NEAR_OUT, first, second, 0, 0);
@@ -63,7 +63,7 @@ fn near_why(first: u64, second: u64, n: u64) -> Why
 }
 
 fn ring_why(first: u64, second: u64, n: u64) -> Why
-    ensures { result ≡ ringWhy first second n }
+    ensures { result ≡ ring_why first second n }
 {
     if n <= 1 {
         return because(cause::RING_OF_ONE, first, second, 0, 0);
@@ -73,7 +73,7 @@ fn ring_why(first: u64, second: u64, n: u64) -> Why
 
 // A rule whose numbers are out of range for so many fans of such a weight.
 pub fn range_why(rule: Rule, n: u64, total: u64) -> Why
-    ensures { result ≡ rangeWhy rule n total }
+    ensures { result ≡ range_why rule n total }
 {
     let asked = rule.kind;
     let first = rule.first;
@@ -92,7 +92,7 @@ pub fn range_why(rule: Rule, n: u64, total: u64) -> Why
 // The first of the numbers from one place up to another that is above a limit; the place behind them where none is.
 pub fn above_from(numbers: &[u32], from: usize, upto: usize, limit: u64) -> usize
     requires { (from ≤ upto) × (upto ≤ length numbers.now) }
-    ensures is { result ≡ aboveFrom limit numbers.now from (upto - from) }
+    ensures is { result ≡ above_from limit numbers.now from (upto - from) }
     ensures within { result ≤ upto }
 {
     let mut i = from;
@@ -108,7 +108,7 @@ pub fn above_from(numbers: &[u32], from: usize, upto: usize, limit: u64) -> usiz
 // What the fans from one place up to another weigh together.
 pub fn weight_from(weights: &[u16], from: usize, upto: usize) -> u64
     requires { (from ≤ upto) × (upto ≤ length weights.now) × (length weights.now ≤ most) }
-    ensures { result ≡ weightFrom weights.now from (upto - from) }
+    ensures { result ≡ weight_from weights.now from (upto - from) }
 {
     let mut sum: u64 = 0;
     let mut i = from;

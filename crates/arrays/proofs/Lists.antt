@@ -8,40 +8,40 @@ use native.Mathlib.Numerals.{add-one}
 use native.Mathlib.Omega.{arith}
 use lib.ListN.{length, get_or, take, set, replicate, get_or-append}
 use lib.Seq.{set_at, take_at, append_snoc}
-use Rattle.rules.specs.Below.{listBelow}
+use Rattle.rules.specs.Below.{list_below}
 use Rattle.rules.proofs.Lists.{below_length, below_get}
 use Rattle.arrays.specs.Padded.{padded}
 
 module _ {A : Type 0} where
-  padded-none : (k : ℕ) (filler : A) (f : ℕ → A) → replicate k filler ≡ padded k filler (listBelow 0 f)
-  unfolding padded listBelow
+  padded-none : (k : ℕ) (filler : A) (f : ℕ → A) → replicate k filler ≡ padded k filler (list_below 0 f)
+  unfolding padded list_below
   padded-none k filler f = rw sub-zero
 
   padded-more : (k : ℕ) (filler : A) (f : ℕ → A) (i : ℕ) → i < k
-      → set (padded k filler (listBelow i f)) i (f i) ≡ padded k filler (listBelow (i + 1) f)
-  unfolding padded listBelow
+      → set (padded k filler (list_below i f)) i (f i) ≡ padded k filler (list_below (i + 1) f)
+  unfolding padded list_below
   padded-more k filler f i h =
-      let xs = listBelow i f in
+      let xs = list_below i f in
       let left : k - length xs ≡ suc (k - suc i) = omega (arith, below_length i f) in
       ap (λ n. set (xs ++ replicate n filler) i (f i)) left
       ∙ set_at xs filler (replicate (k - suc i) filler) (f i) i (below_length i f)
       ∙ sym (append_snoc xs (f i) (replicate (k - suc i) filler))
       ∙ ap (λ n. xs ++ (f i ∷ []) ++ replicate (k - n) filler) (sym (below_length (suc i) f))
-      ∙ ap (λ n. padded k filler (listBelow n f)) (sym (add-one i))
+      ∙ ap (λ n. padded k filler (list_below n f)) (sym (add-one i))
 
-  pub padded-take : (k : ℕ) (filler : A) (n : ℕ) (f : ℕ → A) → take n (padded k filler (listBelow n f)) ≡ listBelow n f
+  pub padded-take : (k : ℕ) (filler : A) (n : ℕ) (f : ℕ → A) → take n (padded k filler (list_below n f)) ≡ list_below n f
   unfolding padded
-  padded-take k filler n f = take_at (listBelow n f) (replicate (k - length (listBelow n f)) filler) n (below_length n f)
+  padded-take k filler n f = take_at (list_below n f) (replicate (k - length (list_below n f)) filler) n (below_length n f)
 
-  pub padded-get : (k : ℕ) (filler d : A) (n : ℕ) (f : ℕ → A) (i : ℕ) → i < n → get_or (padded k filler (listBelow n f)) i d ≡ f i
+  pub padded-get : (k : ℕ) (filler d : A) (n : ℕ) (f : ℕ → A) (i : ℕ) → i < n → get_or (padded k filler (list_below n f)) i d ≡ f i
   unfolding padded
   padded-get k filler d n f i h =
-      get_or-append (listBelow n f) (replicate (k - length (listBelow n f)) filler) d i (rw (below_length n f) h) ∙ below_get n f d i h
+      get_or-append (list_below n f) (replicate (k - length (list_below n f)) filler) d i (rw (below_length n f) h) ∙ below_get n f d i h
 
 -- an array that a loop fills with n entries of f, after i of them: what the loop begins with, what a store makes of it, and what it ends with
 pub record Filled {A : Type 0} (k : ℕ) (filler : A) (f : ℕ → A) (n : ℕ) (xs : List A) (i : ℕ) : Type 0 where
   pub passed : i ≤ n
-  pub holds : xs ≡ padded k filler (listBelow i f)
+  pub holds : xs ≡ padded k filler (list_below i f)
 
 module _ {A : Type 0} {k : ℕ} {filler : A} {f : ℕ → A} {n : ℕ} where
   pub filled_none : {x : A} → x ≡ filler → Filled k filler f n (replicate k x) 0
@@ -50,7 +50,7 @@ module _ {A : Type 0} {k : ℕ} {filler : A} {f : ℕ → A} {n : ℕ} where
   pub filled_more : {xs : List A} {i : ℕ} {v : A} → Filled k filler f n xs i → i < n → n ≤ k → v ≡ f i → Filled k filler f n (set xs i v) (i + 1)
   filled_more {i} filled h fits e = record { passed = omega arith; holds = rw (filled.holds, e) (padded-more k filler f i (omega arith)) }
 
-  pub filled-all : {xs : List A} {i : ℕ} → Filled k filler f n xs i → n ≤ i → xs ≡ padded k filler (listBelow n f)
+  pub filled-all : {xs : List A} {i : ℕ} → Filled k filler f n xs i → n ≤ i → xs ≡ padded k filler (list_below n f)
   filled-all {i} filled h =
       let e : i ≡ n = omega (arith, filled.passed) in
-      filled.holds ∙ ap (λ j. padded k filler (listBelow j f)) e
+      filled.holds ∙ ap (λ j. padded k filler (list_below j f)) e

@@ -7,5 +7,5 @@ unfoldable pub padded : {A : Type 0} → (k : ℕ) (filler : A) → List A → L
 padded k filler xs = xs ++ replicate (k - length xs) filler
 
 -- the system of zeros alone
-abbrev pub noSystem : System
-noSystem = record { rule = record { kind = 0; first = 0; second = 0 }; a = 0; b = 0 }
+abbrev pub no_system : System
+no_system = record { rule = record { kind = 0; first = 0; second = 0 }; a = 0; b = 0 }

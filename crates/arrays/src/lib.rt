@@ -1,7 +1,7 @@
 // A deck file's lists, each read from its place into an array of fixed length: what the file does not fill is zeros.
 ghost use Rattle.std.specs.Prelude.{◌≡◌, ◌+◌, ◌*◌, ◌≤◌, length};
-ghost use Rattle.rules.specs.Refusal.{mostBoards};
-ghost use Rattle.rules.specs.File.{mostFans, survivalBytes, weightBytes, systemBytes, numbersFrom, systemAt};
+ghost use Rattle.rules.specs.Refusal.{most_boards};
+ghost use Rattle.rules.specs.File.{most_fans, survival_bytes, weight_bytes, system_bytes, numbers_from, system_at};
 ghost use Rattle.arrays.specs.Padded.{padded};
 
 use layout::number;
@@ -9,9 +9,9 @@ use rules::{Rule, System, limit};
 
 // The survival numbers of n fans, and zeros.
 pub fn survival_in(bytes: &[u8], from: usize, n: usize) -> [u32; limit::FANS]
-    requires few { n ≤ mostFans }
-    requires whole { from + survivalBytes * n ≤ length bytes.now }
-    ensures { result ≡ padded mostFans 0 (numbersFrom survivalBytes bytes.now from n) }
+    requires few { n ≤ most_fans }
+    requires whole { from + survival_bytes * n ≤ length bytes.now }
+    ensures { result ≡ padded most_fans 0 (numbers_from survival_bytes bytes.now from n) }
 {
     let mut survival = [0u32; limit::FANS];
     let mut i = 0;
@@ -25,9 +25,9 @@ pub fn survival_in(bytes: &[u8], from: usize, n: usize) -> [u32; limit::FANS]
 
 // The survival numbers of g boards, and zeros.
 pub fn board_survival_in(bytes: &[u8], from: usize, g: usize) -> [u32; limit::BOARDS]
-    requires few { g ≤ mostBoards }
-    requires whole { from + survivalBytes * g ≤ length bytes.now }
-    ensures { result ≡ padded mostBoards 0 (numbersFrom survivalBytes bytes.now from g) }
+    requires few { g ≤ most_boards }
+    requires whole { from + survival_bytes * g ≤ length bytes.now }
+    ensures { result ≡ padded most_boards 0 (numbers_from survival_bytes bytes.now from g) }
 {
     let mut survival = [0u32; limit::BOARDS];
     let mut b = 0;
@@ -41,9 +41,9 @@ pub fn board_survival_in(bytes: &[u8], from: usize, g: usize) -> [u32; limit::BO
 
 // The weights of n fans, and zeros.
 pub fn weights_in(bytes: &[u8], from: usize, n: usize) -> [u16; limit::FANS]
-    requires few { n ≤ mostFans }
-    requires whole { from + weightBytes * n ≤ length bytes.now }
-    ensures { result ≡ padded mostFans 0 (numbersFrom weightBytes bytes.now from n) }
+    requires few { n ≤ most_fans }
+    requires whole { from + weight_bytes * n ≤ length bytes.now }
+    ensures { result ≡ padded most_fans 0 (numbers_from weight_bytes bytes.now from n) }
 {
     let mut weights = [0u16; limit::FANS];
     let mut i = 0;
@@ -57,8 +57,8 @@ pub fn weights_in(bytes: &[u8], from: usize, n: usize) -> [u16; limit::FANS]
 
 // The system in the ten bytes from a place on.
 pub fn system_at(bytes: &[u8], at: usize) -> System
-    requires { at + systemBytes ≤ length bytes.now }
-    ensures { result ≡ systemAt bytes.now at }
+    requires { at + system_bytes ≤ length bytes.now }
+    ensures { result ≡ system_at bytes.now at }
 {
     let kind = number::number2(bytes, at);
     let first = number::number2(bytes, at + 2);

@@ -2,15 +2,15 @@
 ghost use Rattle.std.specs.Prelude.{◌≡◌, false, ◌≤◌, length};
 ghost use Rattle.rules.specs.State.{S};
 ghost use Rattle.rules.specs.Asked.{asked_of};
-ghost use Rattle.rules.specs.Refusal.{badStretch, someAbove, aboveUnit, figuresRefusal};
-ghost use Rattle.asked.specs.Parts.{ratedOf, placeRefusal, listsRefusal, partRefusal};
+ghost use Rattle.rules.specs.Refusal.{bad_stretch, some_above, above_unit, figures_refusal};
+ghost use Rattle.asked.specs.Parts.{rated_of, place_refusal, lists_refusal, part_refusal};
 
 use rules::limit::CELLS;
 use rules::{Question, Rule, kind};
 
 // Refusal 3.
 pub fn stretch_out(a: u64, b: u64, n: u64) -> bool
-    ensures { result ≡ badStretch a b n }
+    ensures { result ≡ bad_stretch a b n }
 {
     if a == 0 {
         return true;
@@ -24,7 +24,7 @@ pub fn stretch_out(a: u64, b: u64, n: u64) -> bool
 // Is a number above the unit? Every one is looked at, so that the compiler can look at several at once.
 fn above_unit(all: u64, survival: &[u32]) -> bool
     requires { all ≤ S }
-    ensures { result ≡ someAbove all survival.now }
+    ensures { result ≡ some_above all survival.now }
 {
     let most = all as u32;
     let mut above = false;
@@ -40,8 +40,8 @@ fn above_unit(all: u64, survival: &[u32]) -> bool
 
 // The weights of the components rated, which only kind 2 has.
 pub fn rated_weights(rule: Rule, n: usize, weights: &[u16], a: u64, b: u64) -> &[u16]
-    requires { badStretch a b n ≡ false }
-    ensures { result.now ≡ ratedOf rule n weights.now a b }
+    requires { bad_stretch a b n ≡ false }
+    ensures { result.now ≡ rated_of rule n weights.now a b }
 {
     if rule.kind != kind::WEIGHT {
         return &weights[0..0];
@@ -56,7 +56,7 @@ pub fn rated_weights(rule: Rule, n: usize, weights: &[u16], a: u64, b: u64) -> &
 
 // Refusals 1, 2 and 3 of a list of n, the first that applies; 0 for none.
 pub fn place_refusal(rule: Rule, a: u64, b: u64, n: u64) -> u64
-    ensures { result ≡ placeRefusal rule a b n }
+    ensures { result ≡ place_refusal rule a b n }
 {
     if refusals::kind_out(rule) {
         return rules::refusal::KIND;
@@ -73,7 +73,7 @@ pub fn place_refusal(rule: Rule, a: u64, b: u64, n: u64) -> u64
 // Refusal 4, of the components rated and of the boards.
 fn numbers_out(all: u64, survival: &[u32], own: &[u32]) -> bool
     requires { all ≤ S }
-    ensures { result ≡ aboveUnit all survival.now own.now }
+    ensures { result ≡ above_unit all survival.now own.now }
 {
     if above_unit(all, survival) {
         return true;
@@ -83,8 +83,8 @@ fn numbers_out(all: u64, survival: &[u32], own: &[u32]) -> bool
 
 // Refusals 5 and 6 of a stretch that lies in a list of n.
 pub fn part_refusal(rule: Rule, a: u64, b: u64, n: usize, weights: &[u16], more: &[u64]) -> u64
-    requires { placeRefusal rule a b n ≡ 0 }
-    ensures { result ≡ partRefusal rule a b n weights.now more.now }
+    requires { place_refusal rule a b n ≡ 0 }
+    ensures { result ≡ part_refusal rule a b n weights.now more.now }
 {
     let from = a as usize - 1;
     let upto = b as usize;
@@ -101,8 +101,8 @@ pub fn part_refusal(rule: Rule, a: u64, b: u64, n: usize, weights: &[u16], more:
 
 // Refusals 20, 21 and 4 of a stretch that lies in the list: the boards' lists, then every survival number that is read.
 fn lists_refusal(question: Question, survival: &[u32], boards: &[u8], switchboards: &[u32]) -> u64
-    requires { badStretch question.a question.b (length survival.now) ≡ false }
-    ensures { result ≡ listsRefusal question survival.now boards.now switchboards.now }
+    requires { bad_stretch question.a question.b (length survival.now) ≡ false }
+    ensures { result ≡ lists_refusal question survival.now boards.now switchboards.now }
 {
     let version = question.version;
     let from = question.a as usize - 1;
@@ -132,7 +132,7 @@ pub fn refusal(
 ) -> u64
     ensures { let q = asked_of question survival.now weights.now more.now
         boards.now switchboards.now in
-        result ≡ figuresRefusal q table.now }
+        result ≡ figures_refusal q table.now }
 {
     if refusals::version_out(question.version) {
         return rules::refusal::VERSION;

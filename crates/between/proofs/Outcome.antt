@@ -8,11 +8,11 @@ use lib.Dec.{eqb}
 use Rattle.rules.specs.declared.Rating.{Rating}
 use Rattle.rules.specs.declared.Rating.TheVariants as rating
 use Rattle.rules.specs.State.{S, unit_of}
-use Rattle.rules.specs.Asked.{Asked, unitIn, part_of, read_of, boardsOf, switchboardsOf}
-use Rattle.rules.specs.Answer.{figuresOf, unless}
+use Rattle.rules.specs.Asked.{Asked, unit_in, part_of, read_of, boards_of, switchboards_of}
+use Rattle.rules.specs.Answer.{figures_of, unless}
 use Rattle.rules.specs.Refusal.{first_of}
-use Rattle.rules.specs.File.{versionIn, shortFile, fileRefusal, deckIn, systemOf, badNumber, loadingOf}
-use Rattle.rules.specs.Doubles.{otherRefusal, export_of}
+use Rattle.rules.specs.File.{version_in, short_file, file_refusal, deck_in, system_of, bad_number, loading_of}
+use Rattle.rules.specs.Doubles.{other_refusal, export_of}
 use Rattle.rules.proofs.Units.{unit-some, unit-most}
 use Rattle.rules.proofs.Tests.{by-test}
 use Rattle.rules.proofs.Unless.{unless-by}
@@ -30,29 +30,29 @@ use Rattle.between.specs.Outcome.{InUnit, Below, Above, Enclosed}
 
 -- ---- a file's figures are parts of its unit
 
-figures-in-unit : (q : Asked) (table : List ℕ) → InUnit (unitIn q) (figuresOf q table)
-unfolding figuresOf
+figures-in-unit : (q : Asked) (table : List ℕ) → InUnit (unit_in q) (figures_of q table)
+unfolding figures_of
 figures-in-unit q table =
-    unless-by (InUnit (unitIn q)) _ rating.Refused _ tt
+    unless-by (InUnit (unit_in q)) _ rating.Refused _ tt
     (λ e.
     let units = (figures-ratable q table e).2.units in
-    let part : (up : Bool) → Within (unitIn q) _ =
+    let part : (up : Bool) → Within (unit_in q) _ =
     λ up.
     record {
       some = unit-some q.version;
       most = unit-most q.version;
-      part = behind-within (unitIn q) (unit-some q.version) q.rule (part_of q) (read_of q) (boardsOf q) (switchboardsOf q) units (figures-boarded q table e).1.units up;
+      part = behind-within (unit_in q) (unit-some q.version) q.rule (part_of q) (read_of q) (boards_of q) (switchboards_of q) units (figures-boarded q table e).1.units up;
     } in
     (part false, part true))
 
-pub loading-in-unit : (file : List ℕ) (s : ℕ) → InUnit (unit_of (versionIn file)) (loadingOf file s)
-unfolding loadingOf systemOf deckIn
+pub loading-in-unit : (file : List ℕ) (s : ℕ) → InUnit (unit_of (version_in file)) (loading_of file s)
+unfolding loading_of system_of deck_in
 loading-in-unit file s =
-    unless-by (InUnit (unit_of (versionIn file))) _ rating.Refused _ tt
-    (λ e. by-test (InUnit (unit_of (versionIn file))) (badNumber file s) _ _ (λ b. tt) (λ b. figures-in-unit _ _))
+    unless-by (InUnit (unit_of (version_in file))) _ rating.Refused _ tt
+    (λ e. by-test (InUnit (unit_of (version_in file))) (bad_number file s) _ _ (λ b. tt) (λ b. figures-in-unit _ _))
 
 -- what is told in the file's unit of the file's answer is the outcome
-pub enclosed : {file : List ℕ} {system : ℕ} (u : ℕ) (q : Rating) (r : Chance) → u ≡ unit_of (versionIn file) → q ≡ loadingOf file system
+pub enclosed : {file : List ℕ} {system : ℕ} (u : ℕ) (q : Rating) (r : Chance) → u ≡ unit_of (version_in file) → q ≡ loading_of file system
     → Tells (Nearest false u) (Nearest true u) q r → Enclosed file system r
 enclosed {file} u q r is same t = record {
   answer = subst (λ (a : Rating). Tells (Below file) (Above file) a r) same (subst (λ (v : ℕ). Tells (Nearest false v) (Nearest true v) q r) is t);
@@ -60,17 +60,17 @@ enclosed {file} u q r is same t = record {
 
 -- ---- two outcomes are one
 
-ones : (file : List ℕ) (q : Rating) → InUnit (unit_of (versionIn file)) q → Ones (Below file) (Above file) q
+ones : (file : List ℕ) (q : Rating) → InUnit (unit_of (version_in file)) q → Ones (Below file) (Above file) q
 ones file (rating.Range low high) h =
-    (λ r t. nearest-once false (unit_of (versionIn file)) low r t h.0, λ r t. nearest-once true (unit_of (versionIn file)) high r t h.1)
+    (λ r t. nearest-once false (unit_of (version_in file)) low r t h.0, λ r t. nearest-once true (unit_of (version_in file)) high r t h.1)
 ones file (rating.Refused n) h = tt
 
-pub enclosed-ones : (file : List ℕ) (system : ℕ) → Ones (Below file) (Above file) (loadingOf file system)
-enclosed-ones file system = ones file (loadingOf file system) (loading-in-unit file system)
+pub enclosed-ones : (file : List ℕ) (system : ℕ) → Ones (Below file) (Above file) (loading_of file system)
+enclosed-ones file system = ones file (loading_of file system) (loading-in-unit file system)
 
 pub same-enclosed : {file : List ℕ} {system : ℕ} {r r' : Chance} → Enclosed file system r → Enclosed file system r' → r ≡ r'
 same-enclosed {file} {system} h k =
-    one-chance (Below file) (Above file) (loadingOf file system) (enclosed-ones file system) _ _ h.answer k.answer
+    one-chance (Below file) (Above file) (loading_of file system) (enclosed-ones file system) _ _ h.answer k.answer
 
 -- ---- version 1
 
@@ -81,11 +81,11 @@ short-first true n refused x = refl
 short-first false n refused x = refl
 
 -- request 10's refusal of another version does not arise, and its refusal of a short file is the file's own
-first-version : (file : List ℕ) (s : ℕ) → versionIn file ≡ 1 → loadingOf file s ≡ export_of file s
-unfolding loadingOf export_of otherRefusal fileRefusal first_of
+first-version : (file : List ℕ) (s : ℕ) → version_in file ≡ 1 → loading_of file s ≡ export_of file s
+unfolding loading_of export_of other_refusal file_refusal first_of
 first-version file s e =
-    short-first (shortFile file) _ rating.Refused _
-    ∙ ap (λ (v : ℕ). unless (cond (shortFile file) 10 (cond (not (eqb v 1)) 11 0)) rating.Refused (loadingOf file s)) (sym e)
+    short-first (short_file file) _ rating.Refused _
+    ∙ ap (λ (v : ℕ). unless (cond (short_file file) 10 (cond (not (eqb v 1)) 11 0)) rating.Refused (loading_of file s)) (sym e)
 
 exact-ends : (u : ℕ) (q : Rating) (r : Chance) → u ≡ S → InUnit u q → Tells (Nearest false u) (Nearest true u) q r → Tells Over Over q r
 exact-ends u (rating.Range low high) (Range e) is h t = record {
@@ -100,7 +100,7 @@ unit-of-one : unit_of 1 ≡ S
 unfolding unit_of
 unit-of-one = refl
 
-pub in-version-one : {file : List ℕ} {system : ℕ} {r : Chance} → versionIn file ≡ 1 → Enclosed file system r → Exported file system r
+pub in-version-one : {file : List ℕ} {system : ℕ} {r : Chance} → version_in file ≡ 1 → Enclosed file system r → Exported file system r
 in-version-one {file} {system} {r} e h =
-    let exact = exact-ends (unit_of (versionIn file)) (loadingOf file system) r (ap unit_of e ∙ unit-of-one) (loading-in-unit file system) h.answer in
+    let exact = exact-ends (unit_of (version_in file)) (loading_of file system) r (ap unit_of e ∙ unit-of-one) (loading-in-unit file system) h.answer in
     record { answer = subst (λ (q : Rating). Tells Over Over q r) (first-version file system e) exact }

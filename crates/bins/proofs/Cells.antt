@@ -11,7 +11,7 @@ use lib.Dec.{ltb}
 use lib.ListN.{length, get_or, drop, set, replicate, length-set, length-append, length-drop, length-replicate, get_or-replicate, get_or-append}
 use lib.Seq.{ext_get_or, get_or-drop, get_or-set_same, get_or-set_other, get_or-append-add}
 use borrow.Author.Tests.{ltb-true, ltb-false}
-use Rattle.rules.specs.Below.{listBelow}
+use Rattle.rules.specs.Below.{list_below}
 use Rattle.rules.proofs.Lists.{below_length, below_get}
 use Rattle.bins.specs.Cells.{Outside, Stored}
 
@@ -106,14 +106,14 @@ one-first {a} {b} n some fits e =
         ∙ rw e (get_or-append (replicate n 0) (drop n a) 0 p past ∙ get_or-replicate n p 0 0 (omega arith) ∙ omega arith)
 
 -- a table whose first n cells were written, as a list
-pub stored-list : {f : ℕ → ℕ} {n : ℕ} {a b : List ℕ} → n ≤ length a → Stored f 0 0 n a b → b ≡ listBelow n f ++ drop n a
+pub stored-list : {f : ℕ → ℕ} {n : ℕ} {a b : List ℕ} → n ≤ length a → Stored f 0 0 n a b → b ≡ list_below n f ++ drop n a
 stored-list {f} {n} {a} {b} fits w =
-    let made = front (listBelow n f) a n (below_length n f) fits in
-    ext_get_or 0 b (listBelow n f ++ drop n a) (w.rest.long ∙ sym made.long)
+    let made = front (list_below n f) a n (below_length n f) fits in
+    ext_get_or 0 b (list_below n f ++ drop n a) (w.rest.long ∙ sym made.long)
     (λ i l.
     elim (dec_lt i n) [
       | yes h ↦
           w.row.is i i (omega arith) h (omega arith)
-          ∙ sym (get_or-append (listBelow n f) (drop n a) 0 i (omega (arith, below_length n f)) ∙ below_get n f 0 i h)
+          ∙ sym (get_or-append (list_below n f) (drop n a) 0 i (omega (arith, below_length n f)) ∙ below_get n f 0 i h)
       | no g ↦ w.rest.high i (omega arith) ∙ sym (made.high i (omega arith))
     ])

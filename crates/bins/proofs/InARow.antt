@@ -8,7 +8,7 @@ use Prim.Native.Nat.{ℕ, zero, suc, ◌+◌, ◌-◌, ◌*◌, ◌≤◌, ◌<�
 use native.Mathlib.Omega.{arith}
 use lib.Dec.{ltb}
 use borrow.Author.Tests.{lt-ltb, le-ltb}
-use Rattle.rules.specs.Below.{sumBelow}
+use Rattle.rules.specs.Below.{sum_below}
 use Rattle.rules.specs.Memory.{live, lead, pair, below, moved, ended, row4, row5, working5, failing5, end5}
 use Rattle.rules.proofs.Sums.{sum-add, sum-scale}
 use Rattle.bins.specs.From.{from, line4, bins, shift}
@@ -127,14 +127,14 @@ module _ (k : ℕ) where
 -- ---- sums
 
 -- terms that are none may be left out
-pub sum_past : (a b : ℕ) (f : ℕ → ℕ) → a ≤ b → ((m : ℕ) → a ≤ m → m < b → f m ≡ 0) → sumBelow b f ≡ sumBelow a f
+pub sum_past : (a b : ℕ) (f : ℕ → ℕ) → a ≤ b → ((m : ℕ) → a ≤ m → m < b → f m ≡ 0) → sum_below b f ≡ sum_below a f
 sum_past a b f l e =
     let o : a + (b - a) ≡ b = omega arith in
     omega (arith, rw o at (sum-add a (b - a) f), sum-scale (b - a) 0 (λ w. f (a + w)) f (λ w h. omega (arith, e (a + w) (omega arith) (omega arith))))
 
 -- each number once for itself and once for each before it
-weighted : (d : ℕ) (f : ℕ → ℕ) → sumBelow (suc d) (λ m. suc m * f m) ≡ sumBelow (suc d) f + sumBelow d (λ m. suc m * f (suc m))
-unfolding sumBelow
+weighted : (d : ℕ) (f : ℕ → ℕ) → sum_below (suc d) (λ m. suc m * f m) ≡ sum_below (suc d) f + sum_below d (λ m. suc m * f (suc m))
+unfolding sum_below
 weighted zero f = omega arith
 weighted (suc d) f = omega (arith, weighted d f)
 
@@ -227,8 +227,8 @@ module _ (k : ℕ) where
       (behind-none (suc i) (suc j) t) (below_or t k)
 
   -- by the failed ones that are left to the bin: each bin's brim after the other
-  ran-sum : (d s b j : ℕ) → s + d ≡ k → ran k s (b + j) j ≡ sumBelow d (λ u. shift (bins k b) u j)
-  unfolding sumBelow
+  ran-sum : (d s b j : ℕ) → s + d ≡ k → ran k s (b + j) j ≡ sum_below d (λ u. shift (bins k b) u j)
+  unfolding sum_below
   ran-sum zero s b j e = ran-dead k s (b + j) j (omega arith)
   ran-sum (suc d) s b j e = omega (arith, brim k d s b (b + j) j e refl, ran-sum d (suc s) b j (omega arith))
 
@@ -253,8 +253,8 @@ module _ (k : ℕ) where
       ⊎_elim (λ h. omega (arith, led-suc t j j h, tail-above t 0 j (suc j) (omega arith), led-all j (suc t) (omega arith)))
       (led-dead t (suc j) (suc j)) (below_or t k)
 
-  led-around : (d t v j : ℕ) → t + d ≡ k → led t (suc v + j) j ≡ sumBelow d (λ m. suc m * shift (bins k v) m j)
-  unfolding sumBelow shift
+  led-around : (d t v j : ℕ) → t + d ≡ k → led t (suc v + j) j ≡ sum_below d (λ m. suc m * shift (bins k v) m j)
+  unfolding sum_below shift
   led-around zero t v j e = led-dead t (suc v + j) j (omega arith)
   led-around (suc d) t v zero e =
       let a : suc v + 0 ≡ suc (v + 0) = omega arith in
@@ -275,7 +275,7 @@ module _ (k : ℕ) where
 
   module _ (some : 0 < k) where
     -- sum over lead + tail = m < k of m + 1 times the bins between
-    pub ring5-is : (v j : ℕ) → from (row5 k) (live (lead 0)) (suc v + j) j ≡ sumBelow k (λ m. suc m * shift (bins k v) m j)
+    pub ring5-is : (v j : ℕ) → from (row5 k) (live (lead 0)) (suc v + j) j ≡ sum_below k (λ m. suc m * shift (bins k v) m j)
     ring5-is v j = rw (lt-ltb 0 k some) at (led-around k 0 v j (omega arith))
 
     pub ring5-all : (n : ℕ) → k ≤ n → from (row5 k) (live (lead 0)) n n ≡ 0

@@ -1,8 +1,8 @@
 -- Kinds 4 and 5: what the working table holds of the bins. Row b stands at 66 b, its column j holds `bins k b j`, for b + j up to n + 1.
 use Rattle.std.specs.Prelude.{◌≡◌, cond, List, ℕ, suc, ◌+◌, ◌-◌, ◌*◌, ◌^◌, ◌≤◌, ◌<◌, min, ltb, length, get_or}
-use Rattle.rules.specs.Below.{sumBelow}
+use Rattle.rules.specs.Below.{sum_below}
 use Rattle.rules.specs.Refusal.{most, cells}
-use Rattle.places.specs.Map.{binRow}
+use Rattle.places.specs.Map.{bin_row}
 use Rattle.bins.specs.From.{bins}
 use Rattle.bins.specs.Cells.{Outside}
 
@@ -13,7 +13,7 @@ pub record Sized (k n : ℕ) (table : List ℕ) : Type 0 where
 
 -- the rows below `rows`
 pub record Bins (k n rows : ℕ) (table : List ℕ) : Type 0 where
-  pub is : (b j p : ℕ) → b < rows → b + j ≤ n + 1 → p ≡ b * binRow + j → get_or table p 0 ≡ bins k b j
+  pub is : (b j p : ℕ) → b < rows → b + j ≤ n + 1 → p ≡ b * bin_row + j → get_or table p 0 ≡ bins k b j
 
 -- rows made, the rest as it was
 pub record Made (k n rows : ℕ) (before after : List ℕ) : Type 0 where
@@ -21,14 +21,14 @@ pub record Made (k n rows : ℕ) (before after : List ℕ) : Type 0 where
   pub rest : Outside 0 cells before after
 
 -- what the row behind the one at `from` lets go in column j
-unfoldable pub goneAt : (k from j : ℕ) (table : List ℕ) → ℕ
-goneAt k from j table = cond (ltb j k) 0 (get_or table (from + (j - k)) 0)
+unfoldable pub gone_at : (k from j : ℕ) (table : List ℕ) → ℕ
+gone_at k from j table = cond (ltb j k) 0 (get_or table (from + (j - k)) 0)
 
 -- the row's sum has room for one number more, and holds the one that it lets go
 pub record Slides (k from j held : ℕ) (table : List ℕ) : Type 0 where
   pub long : from + j < length table
   pub fits : held + get_or table (from + j) 0 < 2 ^ 64
-  pub holds : goneAt k from j table ≤ held + get_or table (from + j) 0
+  pub holds : gone_at k from j table ≤ held + get_or table (from + j) 0
 
 -- the table has the rows up to n + 1
 pub record Filled (n j : ℕ) (table : List ℕ) : Type 0 where
@@ -40,8 +40,8 @@ pub record Filled (n j : ℕ) (table : List ℕ) : Type 0 where
 abbrev pub term : (top : ℕ) (table : List ℕ) (m : ℕ) → ℕ
 term top table m = suc m * get_or table (top - m) 0
 
-abbrev pub aroundAt : (k top j : ℕ) (table : List ℕ) → ℕ
-aroundAt k top j table = sumBelow (min k (suc j)) (term top table)
+abbrev pub around_at : (k top j : ℕ) (table : List ℕ) → ℕ
+around_at k top j table = sum_below (min k (suc j)) (term top table)
 
 pub record Part (top m : ℕ) (table : List ℕ) : Type 0 where
   pub most : m ≤ most
@@ -53,4 +53,4 @@ pub record Around (k top j : ℕ) (table : List ℕ) : Type 0 where
   pub most : j ≤ most
   pub row : j ≤ top
   pub long : top < length table
-  pub fits : aroundAt k top j table < 2 ^ 64
+  pub fits : around_at k top j table < 2 ^ 64

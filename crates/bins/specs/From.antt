@@ -1,11 +1,11 @@
 -- Counts read from a memory of a kind's own row, and what the recurrences are about.
 use Rattle.std.specs.Prelude.{ℕ, zero, suc, ◌+◌, ◌-◌}
-use Rattle.rules.specs.Count.{countIf}
+use Rattle.rules.specs.Count.{count_if}
 use Rattle.rules.specs.Memory.{Row, Memory, live, run, machine_of, row4}
 
 -- of the states of the components 1 to i with exactly j failed, how many work, read from the memory m?
 unfoldable pub from : {A : Type 0} → Row A → (m : Memory A) (i j : ℕ) → ℕ
-from R m i j = countIf (run (machine_of R) i m) i j
+from R m i j = count_if (run (machine_of R) i m) i j
 
 -- kind 4's line, read from memory 0
 abbrev pub line4 : (k i j : ℕ) → ℕ

@@ -1,15 +1,15 @@
 // Kinds 4 and 5: v working components leave v + 1 bins for the failed ones, each of fewer than k. Row b of the working
 // table holds for j failed ones the ways to lay them into b bins, where b and j add up to n + 1 at most.
 ghost use Rattle.std.specs.Prelude.{◌≡◌, suc, ◌+◌, ◌-◌, ◌*◌, ◌≤◌, ◌<◌, length, get_or};
-ghost use Rattle.bins.specs.Bins.{Sized, Bins, Made, goneAt, Slides, Filled, Part, aroundAt, Around};
-ghost use Rattle.places.specs.Map.{binRow};
+ghost use Rattle.bins.specs.Bins.{Sized, Bins, Made, gone_at, Slides, Filled, Part, around_at, Around};
+ghost use Rattle.places.specs.Map.{bin_row};
 
 use places::map::BIN_ROW;
 
 // What j failed ones no longer have in a bin more of what j - 1 had: those whose last bin is full.
 fn full(k: usize, from: usize, j: usize, table: &[u64]) -> u64
     requires { from + j < length table.now }
-    ensures { result ≡ goneAt k from j table.now }
+    ensures { result ≡ gone_at k from j table.now }
 {
     if j < k {
         return 0;
@@ -20,7 +20,7 @@ fn full(k: usize, from: usize, j: usize, table: &[u64]) -> u64
 // Column j of a row more out of what j - 1 had: one number more, and one let go.
 fn slide(k: usize, from: usize, j: usize, held: u64, table: &[u64]) -> u64
     requires { Slides k from j held table.now }
-    ensures { result + goneAt k from j table.now ≡ held + get_or table.now (from + j) 0 }
+    ensures { result + gone_at k from j table.now ≡ held + get_or table.now (from + j) 0 }
 {
     held + table[from + j] - full(k, from, j, table)
 }
@@ -59,7 +59,7 @@ pub fn fill(k: usize, n: usize, table: &mut [u64])
 // Kind 4: j failed ones in n + 1 - j bins.
 pub fn line(n: usize, j: usize, table: &[u64]) -> u64
     requires { Filled n j table.now }
-    ensures { result ≡ get_or table.now ((n + 1 - j) * binRow + j) 0 }
+    ensures { result ≡ get_or table.now ((n + 1 - j) * bin_row + j) 0 }
 {
     table[(n + 1 - j) * BIN_ROW + j]
 }
@@ -67,7 +67,7 @@ pub fn line(n: usize, j: usize, table: &[u64]) -> u64
 // Kind 5: where column j of the row of n - 1 - j bins stands.
 pub fn between(n: usize, j: usize) -> usize
     requires { (n ≤ 64) × (j < n) }
-    ensures { result ≡ (n - 1 - j) * binRow + j }
+    ensures { result ≡ (n - 1 - j) * bin_row + j }
 {
     (n - 1 - j) * BIN_ROW + j
 }
@@ -84,7 +84,7 @@ fn part(top: usize, m: usize, table: &[u64]) -> u64
 // and the others in the bins between.
 pub fn around(k: usize, top: usize, j: usize, table: &[u64]) -> u64
     requires { Around k top j table.now }
-    ensures { result ≡ aroundAt k top j table.now }
+    ensures { result ≡ around_at k top j table.now }
 {
     let ends = places::lesser(k, j + 1);
     let mut sum: u64 = 0;

@@ -1,8 +1,8 @@
 // Request 11: which versions have boards, what is read of their lists, and refusals 20 and 21.
 ghost use Rattle.std.specs.Prelude.{true, ◌≡◌, ◌-◌, ◌≤◌, length, take, drop};
-ghost use Rattle.rules.specs.Boards.{hasBoards, boardsRead};
-ghost use Rattle.rules.specs.Refusal.{someAbove, badBoards, misplaced};
-ghost use Rattle.board_lists.specs.Refused.{boardsRefusal};
+ghost use Rattle.rules.specs.Boards.{has_boards, boards_read};
+ghost use Rattle.rules.specs.Refusal.{some_above, bad_boards, misplaced};
+ghost use Rattle.board_lists.specs.Refused.{boards_refusal};
 
 use refusals::outside;
 use rules::limit;
@@ -12,14 +12,14 @@ const MOST: u64 = limit::BOARDS as u64;
 
 // Does a version have boards?
 pub fn has_boards(version: u64) -> bool
-    ensures { result ≡ hasBoards version }
+    ensures { result ≡ has_boards version }
 {
     version == rules::version::BOARDED
 }
 
 // Refusal 20.
 pub fn boards_out(version: u64, g: u64) -> bool
-    ensures { result ≡ badBoards version g }
+    ensures { result ≡ bad_boards version g }
 {
     if has_boards(version) {
         return outside(1, g, MOST);
@@ -29,7 +29,7 @@ pub fn boards_out(version: u64, g: u64) -> bool
 
 // Is a fan on a board that there is not?
 fn some_above(g: u64, boards: &[u8]) -> bool
-    ensures { result ≡ someAbove g boards.now }
+    ensures { result ≡ some_above g boards.now }
 {
     let mut i: usize = 0;
     while i < boards.len() {
@@ -60,7 +60,7 @@ pub fn misplaced(version: u64, n: usize, g: u64, boards: &[u8], from: usize, upt
 pub fn refusal(version: u64, n: usize, g: u64, boards: &[u8], from: usize, upto: usize) -> u64
     requires { (from ≤ upto) × (upto ≤ n) }
     ensures { let placed = boards.now in
-        result ≡ boardsRefusal version n g placed (take (upto - from) (drop from placed)) }
+        result ≡ boards_refusal version n g placed (take (upto - from) (drop from placed)) }
 {
     if !has_boards(version) {
         return 0;
@@ -77,8 +77,8 @@ pub fn refusal(version: u64, n: usize, g: u64, boards: &[u8], from: usize, upto:
 // What is read of the board numbers of the fans from place `from` up to `upto`: nothing where the version has no
 // boards.
 pub fn boards_read(version: u64, boards: &[u8], from: usize, upto: usize) -> &[u8]
-    requires { (from ≤ upto) × (hasBoards version ≡ true → upto ≤ length boards.now) }
-    ensures { result.now ≡ boardsRead version (take (upto - from) (drop from boards.now)) }
+    requires { (from ≤ upto) × (has_boards version ≡ true → upto ≤ length boards.now) }
+    ensures { result.now ≡ boards_read version (take (upto - from) (drop from boards.now)) }
 {
     if has_boards(version) {
         return &boards[from..upto];
@@ -88,7 +88,7 @@ pub fn boards_read(version: u64, boards: &[u8], from: usize, upto: usize) -> &[u
 
 // And of the boards' survival numbers.
 pub fn numbers_read(version: u64, numbers: &[u32]) -> &[u32]
-    ensures { result.now ≡ boardsRead version numbers.now }
+    ensures { result.now ≡ boards_read version numbers.now }
 {
     if has_boards(version) {
         return numbers;

@@ -17,8 +17,8 @@ use borrow.Author.Tests.{eqb-true, eq-eqb}
 use Rattle.rules.specs.declared.Rule.{Rule}
 use Rattle.rules.specs.State.{number_of}
 use Rattle.rules.specs.Figure.{rounded, mixed, figure}
-use Rattle.rules.specs.Boards.{boardDown, behind, combined, figureBehind}
-use Rattle.rules.specs.Refusal.{mostBoards}
+use Rattle.rules.specs.Boards.{board_down, behind, combined, figure_behind}
+use Rattle.rules.specs.Refusal.{most_boards}
 use Rattle.rules.specs.Accepted.{Boarded, Ratable}
 use Rattle.rules.proofs.Conditions.{figure-within}
 use Rattle.rules.proofs.Sets.{behind-length}
@@ -27,7 +27,7 @@ use Rattle.rules.proofs.Combining.{combinedTo, combining-none, combining-step, c
 use Rattle.places.specs.declared.Ends.{Ends}
 use Rattle.places.specs.Cells.{one, Both, Within, Kept}
 use Rattle.places.proofs.Cells.{both_at, both-as, room-kept, kept-none, kept_trans}
-use Rattle.boards.specs.Combining.{figureOut, set_at, sets, Spaced, Behind, Felt, Halvable, Halved, Combinable}
+use Rattle.boards.specs.Combining.{figure_out, set_at, sets, Spaced, Behind, Felt, Halvable, Halved, Combinable}
 
 -- the list with lost fans can be rated as the list can
 pub behind-ratable : {u : ℕ} {rule : Rule} {survival beside table : List ℕ} (boards : List ℕ) (out : ℕ) → Ratable u rule survival beside table
@@ -64,8 +64,8 @@ or-digit a b k =
     ap (λ v. v % 2) (or_shr a b k ∙ or_step x y) ∙ digits_mod (bit_or (x / 2) (y / 2)) (omega (arith, small x, small y))
 
 -- a board of either set is in both together
-pub either : (a b board : ℕ) → (boardDown a board ≡ true) ⊎ (boardDown b board ≡ true) → boardDown (bit_or a b) board ≡ true
-unfolding boardDown
+pub either : (a b board : ℕ) → (board_down a board ≡ true) ⊎ (board_down b board ≡ true) → board_down (bit_or a b) board ≡ true
+unfolding board_down
 either a b zero (inl e) = e
 either a b zero (inr e) = e
 either a b (suc k) (inl e) = eq-eqb _ _ (or-digit a b k ∙ omega (arith, eqb-true (a / 2 ^ k % 2) 1 e, small (b / 2 ^ k)))
@@ -73,10 +73,10 @@ either a b (suc k) (inr e) = eq-eqb _ _ (or-digit a b k ∙ omega (arith, eqb-tr
 
 -- boards that no fan is on, taken out of a set, change no list
 pub own : {boards : List ℕ} {felt : ℕ} (survival : List ℕ) (out : ℕ) → Felt boards felt → behind boards (bit_and out felt) survival ≡ behind boards out survival
-unfolding number_of boardDown
+unfolding number_of board_down
 own {boards} {felt} survival out f = behind-same boards _ _ survival (λ i l. go (get_or boards i 0) (f.each i))
   where
-    go : (board : ℕ) → (1 ≤ board → boardDown felt board ≡ true) → boardDown (bit_and out felt) board ≡ boardDown out board
+    go : (board : ℕ) → (1 ≤ board → board_down felt board ≡ true) → board_down (bit_and out felt) board ≡ board_down out board
     go zero h = refl
     go (suc k) h =
         let one : felt / 2 ^ k % 2 ≡ 1 = eqb-true (felt / 2 ^ k % 2) 1 (h (omega arith)) in
@@ -139,7 +139,7 @@ pub mixing-within : {u p half j k : ℕ} {low₀ high₀ low high : List ℕ} �
     → Mixing u p half low₀ high₀ low high j → j ≤ k → k < half + half → Within u (record { low = get_or low k 0; high = get_or high k 0 })
 mixing-within {u} {k = k} within m from upto = record { low = rw (m.left false k from) (within false k upto); high = rw (m.left true k from) (within true k upto) }
 
-pub few-sets : (b : ℕ) → b ≤ mostBoards → 2 ^ b ≤ sets
+pub few-sets : (b : ℕ) → b ≤ most_boards → 2 ^ b ≤ sets
 few-sets zero l = omega arith
 few-sets (suc zero) l = omega arith
 few-sets (suc (suc zero)) l = omega arith
@@ -213,7 +213,7 @@ folding-all {u} {b} {qs} {low₀} {high₀} {low} {high} e f = record { low = al
 pub record Sets (u : ℕ) (rule : Rule) (survival beside boards t₀ t low high : List ℕ) (out : ℕ) : Type 0 where
   pub spaced : Spaced low high
   pub within : (up : Bool) (j : ℕ) → set_at up low high j ≤ u
-  pub stands : (up : Bool) (j : ℕ) → j < out → set_at up low high j ≡ figureOut up u rule survival beside boards j
+  pub stands : (up : Bool) (j : ℕ) → j < out → set_at up low high j ≡ figure_out up u rule survival beside boards j
   pub kept : Kept t₀ t
 
 zeros : (n j : ℕ) → ◌≡◌ {A = ℕ} (get_or (replicate n 0) j 0) 0
@@ -236,7 +236,7 @@ sets-none {u} = record {
 module _ {u : ℕ} (pos : 0 < u) {rule : Rule} {survival beside boards t₀ t low high : List ℕ} {out : ℕ} (able : Ratable u rule survival beside t₀)
     (s : Sets u rule survival beside boards t₀ t low high out) where
   abbrev figures : Bool → ℕ → ℕ
-  figures up out = figureOut up u rule survival beside boards out
+  figures up out = figure_out up u rule survival beside boards out
 
   -- a set with a board that no fan is on
   pub sets-own : {felt : ℕ} → Felt boards felt → (bit_and out felt ≡ out → ⊥)
@@ -266,12 +266,12 @@ module _ {u : ℕ} (pos : 0 < u) {rule : Rule} {survival beside boards t₀ t lo
 
   -- all sets
   pub sets-all : (qs : List ℕ) {r : Ends} → 2 ^ length qs ≤ out → Both (λ up. combined up u qs (set_at up low high)) r
-      → Both (λ up. figureBehind up u rule survival beside boards qs) r
+      → Both (λ up. figure_behind up u rule survival beside boards qs) r
   sets-all qs l = both-as (λ up. combined-below up u qs _ _ (λ j h. s.stands up j (omega arith)))
 
 -- no boards at all
 pub alone : (up : Bool) (u : ℕ) (rule : Rule) (survival beside boards qs : List ℕ) → length qs ≡ 0
-    → figure up u rule survival beside ≡ figureBehind up u rule survival beside boards qs
+    → figure up u rule survival beside ≡ figure_behind up u rule survival beside boards qs
 unfolding combined
 alone up u rule survival beside boards [] e = sym (figure-none up u rule survival beside boards)
 alone up u rule survival beside boards (q ∷ qs) e = absurd (omega arith)

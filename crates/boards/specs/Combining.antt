@@ -2,14 +2,14 @@
 use Rattle.std.specs.Prelude.{◌≡◌, Bool, true, cond, List, ℕ, ◌+◌, ◌^◌, ◌≤◌, ◌<◌, length, get_or}
 use Rattle.rules.specs.declared.Rule.{Rule}
 use Rattle.rules.specs.Figure.{rounded, mixed, figure}
-use Rattle.rules.specs.Boards.{boardDown, behind}
-use Rattle.rules.specs.Refusal.{mostBoards}
+use Rattle.rules.specs.Boards.{board_down, behind}
+use Rattle.rules.specs.Refusal.{most_boards}
 use Rattle.places.specs.declared.Ends.{Ends}
 use Rattle.places.specs.Cells.{Within}
 
 -- "the figures are worked with those fans' survival 0"
-abbrev pub figureOut : (up : Bool) (u : ℕ) → Rule → (survival beside boards : List ℕ) (out : ℕ) → ℕ
-figureOut up u rule survival beside boards out = figure up u rule (behind boards out survival) beside
+abbrev pub figure_out : (up : Bool) (u : ℕ) → Rule → (survival beside boards : List ℕ) (out : ℕ) → ℕ
+figure_out up u rule survival beside boards out = figure up u rule (behind boards out survival) beside
 
 -- an end of a set's figures: low ends stand in one list, high ends in another
 abbrev pub set_at : Bool → (low high : List ℕ) (out : ℕ) → ℕ
@@ -17,7 +17,7 @@ set_at up low high out = cond up (get_or high out 0) (get_or low out 0)
 
 -- the sets of the most boards that there can be
 abbrev pub sets : ℕ
-sets = 2 ^ mostBoards
+sets = 2 ^ most_boards
 
 -- a place for each of them
 pub record Spaced (low high : List ℕ) : Type 0 where
@@ -26,11 +26,11 @@ pub record Spaced (low high : List ℕ) : Type 0 where
 
 -- board numbers of at most four boards
 pub record Behind (boards : List ℕ) : Type 0 where
-  pub each : (i : ℕ) → get_or boards i 0 ≤ mostBoards
+  pub each : (i : ℕ) → get_or boards i 0 ≤ most_boards
 
 -- a set that each fan's board is in
 pub record Felt (boards : List ℕ) (set : ℕ) : Type 0 where
-  pub each : (i : ℕ) → 1 ≤ get_or boards i 0 → boardDown set (get_or boards i 0) ≡ true
+  pub each : (i : ℕ) → 1 ≤ get_or boards i 0 → board_down set (get_or boards i 0) ≡ true
 
 -- a board, and the two values that its step mixes
 pub record Mixable (u : ℕ) (switchboards : List ℕ) (b : ℕ) (works fails : Ends) : Type 0 where
@@ -55,7 +55,7 @@ pub record Halved (u p half : ℕ) (low₀ high₀ low high : List ℕ) : Type 0
 
 -- the boards, and the figures of every set of them
 pub record Combinable (u : ℕ) (switchboards low high : List ℕ) : Type 0 where
-  pub few : length switchboards ≤ mostBoards
+  pub few : length switchboards ≤ most_boards
   pub units : (i : ℕ) → get_or switchboards i 0 ≤ u
   pub spaced : Spaced low high
   pub within : (up : Bool) (j : ℕ) → set_at up low high j ≤ u

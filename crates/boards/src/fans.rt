@@ -1,16 +1,16 @@
 // The fans that a set of failed boards takes with it. A set of boards is a word, as a state is: bit b - 1 is one where
 // board b is in it.
 ghost use Rattle.std.specs.Prelude.{cond, true, ◌≡◌, ◌≤◌, length, get_or, take};
-ghost use Rattle.rules.specs.Boards.{boardDown, behind};
-ghost use Rattle.rules.specs.Refusal.{most, mostBoards};
+ghost use Rattle.rules.specs.Boards.{board_down, behind};
+ghost use Rattle.rules.specs.Refusal.{most, most_boards};
 ghost use Rattle.boards.specs.Combining.{Behind, Felt};
 
 use rules::limit::FANS;
 
 // Has the board of that number failed? 0 is none.
 fn board_down(out: usize, board: u8) -> bool
-    requires { board ≤ mostBoards }
-    ensures { result ≡ boardDown out board }
+    requires { board ≤ most_boards }
+    ensures { result ≡ board_down out board }
 {
     match board {
         0 => false,
@@ -33,8 +33,8 @@ fn board_of(boards: &[u8], i: usize) -> u8
 
 // The set that has one board.
 fn only(board: u8) -> usize
-    requires { board ≤ mostBoards }
-    ensures { 1 ≤ board → boardDown result board ≡ true }
+    requires { board ≤ most_boards }
+    ensures { 1 ≤ board → board_down result board ≡ true }
 {
     match board {
         0 => 0,

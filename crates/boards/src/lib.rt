@@ -4,14 +4,14 @@
 mod fans; // fans.rt: which fans a set of failed boards takes with it
 
 ghost use Rattle.std.specs.Prelude.{◌≡◌, ◌^◌, ◌≤◌, get_or};
-ghost use Rattle.rules.specs.State.{besideOf};
+ghost use Rattle.rules.specs.State.{beside_of};
 ghost use Rattle.rules.specs.Figure.{rounded, mixed};
-ghost use Rattle.rules.specs.Boards.{figureBehind, combined};
-ghost use Rattle.rules.specs.Refusal.{mostBoards};
+ghost use Rattle.rules.specs.Boards.{figure_behind, combined};
+ghost use Rattle.rules.specs.Refusal.{most_boards};
 ghost use Rattle.rules.specs.Accepted.{Boarded, Ratable};
 ghost use Rattle.units.specs.Step.{whole};
 ghost use Rattle.places.specs.Cells.{one, Both, Kept};
-ghost use Rattle.boards.specs.Combining.{figureOut, set_at, Behind, Mixable, Halvable, Halved, Combinable};
+ghost use Rattle.boards.specs.Combining.{figure_out, set_at, Behind, Mixable, Halvable, Halved, Combinable};
 
 use places::Ends;
 use rules::Rule;
@@ -21,7 +21,7 @@ const SETS: usize = 16;
 
 // The number of sets of b boards.
 fn sets_of(b: usize) -> usize
-    requires { b ≤ mostBoards }
+    requires { b ≤ most_boards }
     ensures { result ≡ 2 ^ b }
 {
     match b {
@@ -44,11 +44,11 @@ fn rate_set(
     out: usize,
     table: &mut [u64],
 ) -> Ends
-    requires able { let beside = besideOf rule weights.now more.now in
+    requires able { let beside = beside_of rule weights.now more.now in
         Ratable (whole decimal) rule survival.now beside table.old }
     requires placed { Behind boards.now }
-    ensures figure { let beside = besideOf rule weights.now more.now in
-        Both (λ up. figureOut up (whole decimal) rule survival.now beside boards.now out) result }
+    ensures figure { let beside = beside_of rule weights.now more.now in
+        Both (λ up. figure_out up (whole decimal) rule survival.now beside boards.now out) result }
     ensures kept { Kept table.old table.new }
 {
     let n = survival.len();
@@ -132,13 +132,13 @@ fn rate_sets(
     switchboards: &[u32],
     table: &mut [u64],
 ) -> Ends
-    requires able { let beside = besideOf rule weights.now more.now in
+    requires able { let beside = beside_of rule weights.now more.now in
         Ratable (whole decimal) rule survival.now beside table.old }
     requires boarded { Boarded (whole decimal) boards.now switchboards.now }
-    ensures figure { let beside = besideOf rule weights.now more.now in
+    ensures figure { let beside = beside_of rule weights.now more.now in
         let placed = boards.now in
         let own = switchboards.now in
-        Both (λ up. figureBehind up (whole decimal) rule survival.now beside placed own) result }
+        Both (λ up. figure_behind up (whole decimal) rule survival.now beside placed own) result }
     ensures kept { Kept table.old table.new }
 {
     let felt = fans::felt(boards);
@@ -172,13 +172,13 @@ pub fn rate(
     switchboards: &[u32],
     table: &mut [u64],
 ) -> Ends
-    requires able { let beside = besideOf rule weights.now more.now in
+    requires able { let beside = beside_of rule weights.now more.now in
         Ratable (whole decimal) rule survival.now beside table.old }
     requires boarded { Boarded (whole decimal) boards.now switchboards.now }
-    ensures figure { let beside = besideOf rule weights.now more.now in
+    ensures figure { let beside = beside_of rule weights.now more.now in
         let placed = boards.now in
         let own = switchboards.now in
-        Both (λ up. figureBehind up (whole decimal) rule survival.now beside placed own) result }
+        Both (λ up. figure_behind up (whole decimal) rule survival.now beside placed own) result }
     ensures kept { Kept table.old table.new }
 {
     // no list is copied where there are no boards

@@ -11,17 +11,17 @@ unfoldable pub word_at : (bytes : List ℕ) (at : ℕ) → ℕ
 word_at bytes at = cond (nat_lt at (length bytes / word_bytes)) (number_at word_bytes bytes (at * word_bytes)) 0
 
 -- the k-th word from a place on, and in a list whose numbers are below the limit
-abbrev pub wordsFrom : (bytes : List ℕ) (at k : ℕ) → ℕ
-wordsFrom bytes at k = word_at bytes (at + k)
+abbrev pub words_from : (bytes : List ℕ) (at k : ℕ) → ℕ
+words_from bytes at k = word_at bytes (at + k)
 
-abbrev pub lowWords : (limit : ℕ) (bytes : List ℕ) (at k : ℕ) → ℕ
-lowWords limit bytes at k = wordsFrom bytes at k % limit
+abbrev pub low_words : (limit : ℕ) (bytes : List ℕ) (at k : ℕ) → ℕ
+low_words limit bytes at k = words_from bytes at k % limit
 
-abbrev pub octetLimit : ℕ
-octetLimit = 2 ^ 8
+abbrev pub octet_limit : ℕ
+octet_limit = 2 ^ 8
 
-abbrev pub shortLimit : ℕ
-shortLimit = 2 ^ 16
+abbrev pub short_limit : ℕ
+short_limit = 2 ^ 16
 
-abbrev pub longLimit : ℕ
-longLimit = 2 ^ 32
+abbrev pub long_limit : ℕ
+long_limit = 2 ^ 32

@@ -1,8 +1,8 @@
 // What the cases of several programs share: a rule in three words, lists that begin with how many numbers they have,
 // and weights.
 ghost use Rattle.std.specs.Prelude.{◌≡◌, ◌+◌, ◌≤◌, length};
-ghost use Rattle.casefile.specs.Rooms.{mostNumbers};
-ghost use Rattle.casefile.specs.Cases.{ruleAt, Listed, Sized};
+ghost use Rattle.casefile.specs.Rooms.{most_numbers};
+ghost use Rattle.casefile.specs.Cases.{rule_at, Listed, Sized};
 
 use crate::{MOST_NUMBERS, words};
 use rules::Rule;
@@ -10,7 +10,7 @@ use rules::Rule;
 // The rule in the three words from `at` on.
 pub fn rule_at(bytes: &[u8], at: usize) -> Rule
     requires { at ≤ length bytes.now }
-    ensures { result ≡ ruleAt bytes.now at }
+    ensures { result ≡ rule_at bytes.now at }
 {
     let kind = words::word(bytes, at);
     let first = words::word(bytes, at + 1);
@@ -24,7 +24,7 @@ pub fn rule_at(bytes: &[u8], at: usize) -> Rule
 
 // The words of the list at `at`: how many numbers it has, then the numbers; 0 where it is cut short or has too many.
 pub fn list_size(bytes: &[u8], at: usize) -> usize
-    requires { at ≤ length bytes.now + mostNumbers }
+    requires { at ≤ length bytes.now + most_numbers }
     ensures { Listed bytes.now at result }
 {
     let numbers = words::word(bytes, at);
@@ -43,7 +43,7 @@ pub fn list_size(bytes: &[u8], at: usize) -> usize
 pub fn case_size(bytes: &[u8], at: usize, head: usize) -> usize
     requires begins { at ≤ length bytes.now }
     requires headed { 1 ≤ head }
-    requires short { head ≤ mostNumbers }
+    requires short { head ≤ most_numbers }
     ensures { Sized bytes.now at head result }
 {
     let list = list_size(bytes, at + (head - 1));

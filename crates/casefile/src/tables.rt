@@ -1,7 +1,7 @@
 // The rubbish that lent tables hold before a call, and the checksum of what they hold after.
 ghost use Rattle.std.specs.Prelude.{◌≡◌, ◌+◌, ◌*◌, ◌%◌, ◌^◌, length};
 ghost use Rattle.casefile.specs.Begins.{Begins};
-ghost use Rattle.casefile.specs.Tables.{rubbishAt, rubbishIn, checksumOf};
+ghost use Rattle.casefile.specs.Tables.{rubbish_at, rubbish_in, checksum_of};
 
 // What half of 64 bits holds is below this.
 const HALF: u64 = 4294967296;
@@ -25,8 +25,8 @@ fn times(a: u64, b: u64) -> u64
 
 // Fills a table with rubbish, and answers the number from which a second table goes on.
 pub fn rubbish(seed: u64, cells: &mut [u64]) -> u64
-    ensures next { result ≡ rubbishAt seed (length cells.old) }
-    ensures filled { Begins (rubbishIn seed) cells.old cells.new
+    ensures next { result ≡ rubbish_at seed (length cells.old) }
+    ensures filled { Begins (rubbish_in seed) cells.old cells.new
         (length cells.old) }
 {
     let mut x = seed;
@@ -41,7 +41,7 @@ pub fn rubbish(seed: u64, cells: &mut [u64]) -> u64
 
 // The sum of (i + 1) times cell i, modulo 2^64.
 pub fn checksum(cells: &[u64]) -> u64
-    ensures { result ≡ checksumOf cells.now }
+    ensures { result ≡ checksum_of cells.now }
 {
     let mut sum: u64 = 0;
     let mut i: usize = 0;

@@ -1,6 +1,6 @@
 // Words of 64 bits read from a file's bytes.
 ghost use Rattle.std.specs.Prelude.{◌≡◌, ℕ, ◌+◌, ◌/◌, ◌<◌, ◌≤◌, true, ◌↔◌, length};
-ghost use Rattle.casefile.specs.Words.{word_bytes, word_at, wordsFrom, lowWords, octetLimit, shortLimit, longLimit};
+ghost use Rattle.casefile.specs.Words.{word_bytes, word_at, words_from, low_words, octet_limit, short_limit, long_limit};
 ghost use Rattle.casefile.specs.Begins.{Begins};
 
 // The bytes of a word.
@@ -56,7 +56,7 @@ pub fn fit(bytes: &[u8], at: usize, count: usize, limit: u64) -> bool
 // Fills a list of 8-bit numbers with the words from `at` on.
 pub fn octets(bytes: &[u8], at: usize, into: &mut [u8])
     requires { at ≤ length bytes.now }
-    ensures { Begins (lowWords octetLimit bytes.now at) into.old into.new
+    ensures { Begins (low_words octet_limit bytes.now at) into.old into.new
         (length into.old) }
 {
     let mut k: usize = 0;
@@ -69,7 +69,7 @@ pub fn octets(bytes: &[u8], at: usize, into: &mut [u8])
 // Fills a list of 16-bit numbers with the words from `at` on.
 pub fn shorts(bytes: &[u8], at: usize, into: &mut [u16])
     requires { at ≤ length bytes.now }
-    ensures { Begins (lowWords shortLimit bytes.now at) into.old into.new
+    ensures { Begins (low_words short_limit bytes.now at) into.old into.new
         (length into.old) }
 {
     let mut k: usize = 0;
@@ -82,7 +82,7 @@ pub fn shorts(bytes: &[u8], at: usize, into: &mut [u16])
 // Fills a list of 32-bit numbers with the words from `at` on.
 pub fn longs(bytes: &[u8], at: usize, into: &mut [u32])
     requires { at ≤ length bytes.now }
-    ensures { Begins (lowWords longLimit bytes.now at) into.old into.new
+    ensures { Begins (low_words long_limit bytes.now at) into.old into.new
         (length into.old) }
 {
     let mut k: usize = 0;
@@ -95,7 +95,7 @@ pub fn longs(bytes: &[u8], at: usize, into: &mut [u32])
 // Fills a list of 64-bit numbers with the words from `at` on.
 pub fn fulls(bytes: &[u8], at: usize, into: &mut [u64])
     requires { at ≤ length bytes.now }
-    ensures { Begins (wordsFrom bytes.now at) into.old into.new
+    ensures { Begins (words_from bytes.now at) into.old into.new
         (length into.old) }
 {
     let mut k: usize = 0;

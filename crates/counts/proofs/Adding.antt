@@ -10,7 +10,7 @@ use native.Mathlib.Omega.{arith}
 use lib.ListN.{length, get_or, drop}
 use lib.Seq.{drop-cons}
 use borrow.Author.Tests.{lt-ltb, le-ltb}
-use Rattle.rules.specs.Below.{sumBelow, total}
+use Rattle.rules.specs.Below.{sum_below, total}
 use Rattle.rules.specs.State.{number_of}
 use Rattle.rules.specs.Memory.{Row, Memory, live, dead, below, moved, ended, row1}
 use Rattle.rules.specs.Refusal.{most, heaviest, cells}
@@ -30,8 +30,8 @@ total-drop i xs l = rw (add-one i, drop-cons xs i 0 l)
 -- ---- sums of columns
 
 -- a row and, w further on, the row below
-sum_both : (c w : ℕ) (f g : ℕ → ℕ) → sumBelow c (λ s. f s + shift g w s) ≡ sumBelow c f + sumBelow (c - w) g
-unfolding sumBelow
+sum_both : (c w : ℕ) (f g : ℕ → ℕ) → sum_below c (λ s. f s + shift g w s) ≡ sum_below c f + sum_below (c - w) g
+unfolding sum_below
 sum_both zero w f g = let e : 0 - w ≡ 0 = omega arith in rw e
 sum_both (suc c) w f g =
     let next = sum_both c w f g in
@@ -146,10 +146,10 @@ module _ {k : ℕ} {weights t t' : List ℕ} (able : Weighed k weights t) (w : S
   first_cell j s m h = w.row.is (j * heaviest + s) _ (omega arith) (omega arith) (omega arith)
 
   pub none_read : Sums k weights 0 0 t'
-  unfolding sumBelow
+  unfolding sum_below
   none_read = record { is = go; none = λ j s m h l. first_cell j s m h ∙ omega arith }
     where
-      go : (j c : ℕ) → j ≤ most → c ≤ k → sumBelow c (cell_at t' j) ≡ lighter k weights 0 j c
+      go : (j c : ℕ) → j ≤ most → c ≤ k → sum_below c (cell_at t' j) ≡ lighter k weights 0 j c
       go zero zero m l = sym (lighter-none k weights)
       go zero (suc c) m l =
           sum_past 1 (suc c) (cell_at t' 0) (omega arith) (λ s h g. first_cell 0 s m (omega arith) ∙ omega arith)
@@ -165,13 +165,13 @@ module _ {k i w reach count : ℕ} {weights t : List ℕ} (able : Weighed k weig
   abbrev both : (j s : ℕ) → ℕ
   both j s = cell_at t (suc j) s + shift (cell_at t j) w s
 
-  both-sum : (j c : ℕ) → j ≤ i → c ≤ k → sumBelow c (both j) ≡ lighter k weights (suc i) (suc j) c
+  both-sum : (j c : ℕ) → j ≤ i → c ≤ k → sum_below c (both j) ≡ lighter k weights (suc i) (suc j) c
   both-sum j c m d =
       sum_both c w (cell_at t (suc j)) (cell_at t j)
       ∙ rw (h.is (suc j) c (omega arith) d, h.is j (c - w) (omega arith) (omega arith), weight) (sym (lighter-suc k weights i j c d))
 
   both-fits : (j s : ℕ) → j ≤ i → s < k → both j s < 2 ^ 64
-  unfolding sumBelow
+  unfolding sum_below
   both-fits j s m d =
       omega (arith, both-sum j (suc s) m d, from-fits (row1 k (number_of weights)) (below (k - suc s) k (k - suc s)) (suc i) (suc j) (omega arith))
 
@@ -203,7 +203,7 @@ module _ {k i w reach count : ℕ} {weights t : List ℕ} (able : Weighed k weig
               ]
         ]
 
-    turned-sum : (j c : ℕ) → j ≤ most → c ≤ k → sumBelow c (cell_at t' j) ≡ lighter k weights (suc i) j c
+    turned-sum : (j c : ℕ) → j ≤ most → c ≤ k → sum_below c (cell_at t' j) ≡ lighter k weights (suc i) j c
     turned-sum zero c m d =
         sum_same c _ _ (λ s e. o.rest.low (0 * heaviest + s) (omega arith)) ∙ h.is 0 c m d ∙ sym (lighter-zero k weights i c)
     turned-sum (suc j) c m d =

@@ -13,7 +13,7 @@ use Rattle.rules.proofs.Words.{count-above}
 use Rattle.pascal.specs.Ways.{ways_of}
 use Rattle.pascal.proofs.Triangle.{ways-sum, ways-first}
 use Rattle.bins.specs.From.{from}
-use Rattle.counts.specs.Ways.{apartOf, ringOf}
+use Rattle.counts.specs.Ways.{apart_of, ring_of}
 use Rattle.bins.proofs.Cells.{below_or}
 use Rattle.bins.proofs.From.{from_end, from-above, from_zero, from_suc, from-dead, from-fits}
 
@@ -80,8 +80,8 @@ module _ (r : ℕ) where
       line6-suc i (suc j)
       ∙ omega (arith, line6-ways (suc j) i, rw b at (line6-ways j (i - (r - 1))), ways-after i (suc j * (r - 1)) j)
 
-  pub line6-is : (i j : ℕ) → line6 r i j ≡ apartOf (r - 1) i j
-  unfolding apartOf
+  pub line6-is : (i j : ℕ) → line6 r i j ≡ apart_of (r - 1) i j
+  unfolding apart_of
   line6-is i zero = first6 i ∙ sym (ways-first (i - (0 - 1) * (r - 1)))
   line6-is i (suc j) = let a : suc j - 1 ≡ j = omega arith in rw a (line6-ways j i)
 
@@ -182,8 +182,8 @@ module _ (r : ℕ) where
       let a : n - 1 - 2 * (r - 1) - j * (r - 1) ≡ n - 1 - suc (suc j) * (r - 1) = omega arith in
       rw a at (line6-ways r j (n - 1 - 2 * (r - 1)))
 
-  pub ring7-is : (n j : ℕ) → r - 1 < n → from (row7 r) (live (lead 0)) n j ≡ ringOf (r - 1) n j
-  unfolding ringOf
+  pub ring7-is : (n j : ℕ) → r - 1 < n → from (row7 r) (live (lead 0)) n j ≡ ring_of (r - 1) n j
+  unfolding ring_of
   ring7-is n zero l = first7 n 0
   ring7-is n (suc j) l =
       let a : suc j - 1 ≡ j = omega arith in
@@ -191,7 +191,7 @@ module _ (r : ℕ) where
       rw (eqb-suc-zero, a, ← b, ← line6-ways r j (n - (r - 1)), ← line6-less n j) (open7 (r - 1) 0 n n j (omega arith) (omega arith) l)
 
 -- both terms together fit 64 bits
-pub ring-fits : (owed n j : ℕ) → owed < n → n ≤ 64 → ringOf owed n j < 2 ^ 64
+pub ring-fits : (owed n j : ℕ) → owed < n → n ≤ 64 → ring_of owed n j < 2 ^ 64
 ring-fits owed n j l h =
     let a : suc owed - 1 ≡ owed = omega arith in
     rw (← rw a at (ring7-is (suc owed) n j (omega arith))) (from-fits (row7 (suc owed)) (live (lead 0)) n j h)

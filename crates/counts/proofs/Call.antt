@@ -9,15 +9,15 @@ use lib.ListN.{length, drop, replicate}
 use borrow.Author.Tests.{ltb-false, eqb-false}
 use Rattle.rules.specs.declared.Rule.{Rule}
 use Rattle.rules.specs.declared.Counting.TheVariants as counting
-use Rattle.rules.specs.Count.{countsOf}
-use Rattle.rules.specs.Refusal.{after, notCounted, cells, shortTable, shortRoom, first_of, countRefusal}
-use Rattle.rules.specs.Answer.{unless, roomAfter}
+use Rattle.rules.specs.Count.{counts_of}
+use Rattle.rules.specs.Refusal.{after, not_counted, cells, short_table, short_room, first_of, count_refusal}
+use Rattle.rules.specs.Answer.{unless, room_after}
 use Rattle.rules.proofs.Accepted.{none_first, beside-weights}
-use Rattle.refusals.specs.Shared.{ruleRefusal}
+use Rattle.refusals.specs.Shared.{rule_refusal}
 use Rattle.rules.proofs.Unless.{unless-none, unless-some}
 use Rattle.rules.proofs.Answer.{counts}
 use Rattle.refusals.proofs.Laws.{count-after, accepted}
-use Rattle.counts.specs.Tally.{refusalOf, Countable, Tallied}
+use Rattle.counts.specs.Tally.{refusal_of, Countable, Tallied}
 use Rattle.counts.specs.Outcome.{Outcome}
 use Rattle.bins.proofs.Cells.{outside-drop, stored-list}
 
@@ -30,33 +30,33 @@ unfolding after
 none-of-both zero next e = (refl, e)
 none-of-both (suc r) next e = absurd (omega arith)
 
-module _ (rule : Rule) (n : ℕ) (weights table room : List ℕ) {number : ℕ} (e : number ≡ refusalOf rule n weights (length table) (length room)) where
+module _ (rule : Rule) (n : ℕ) (weights table room : List ℕ) {number : ℕ} (e : number ≡ refusal_of rule n weights (length table) (length room)) where
   pub countable : number ≡ 0 → Countable rule n weights table room
   unfolding first_of
   countable z =
-      let c = neither-refused (notCounted rule) _ (sym e ∙ z) in
-      let a = none-of-both (ruleRefusal rule n weights []) _ c.1 in
-      let s = none_first 6 (shortTable table) ((8, shortRoom n room) ∷ []) a.1 in
+      let c = neither-refused (not_counted rule) _ (sym e ∙ z) in
+      let a = none-of-both (rule_refusal rule n weights []) _ c.1 in
+      let s = none_first 6 (short_table table) ((8, short_room n room) ∷ []) a.1 in
       let below = eqb-false _ _ c.0 in
       let ok = accepted rule n weights [] a.0 in
-      record { accepted = rw (beside-weights rule weights [] below) at ok; counted = omega (arith, below, ok.kind-high); long = ltb-false _ _ s.0; slots = ltb-false _ _ (none_first 7 _ [] s.1).0 }
+      record { accepted = rw (beside-weights rule weights [] below) at ok; counted = omega (arith, below, ok.kind_high); long = ltb-false _ _ s.0; slots = ltb-false _ _ (none_first 7 _ [] s.1).0 }
 
-  same : number ≡ countRefusal rule n weights table room
+  same : number ≡ count_refusal rule n weights table room
   same = e ∙ sym (count-after rule n weights table room)
 
-  otherwise : {A : Type 0} (f : ℕ → A) (x : A) → (number ≡ 0 → ⊥) → f number ≡ unless (countRefusal rule n weights table room) f x
+  otherwise : {A : Type 0} (f : ℕ → A) (x : A) → (number ≡ 0 → ⊥) → f number ≡ unless (count_refusal rule n weights table room) f x
   otherwise f x h = rw (← same) (sym (unless-some number f x h))
 
-  answer : {A : Type 0} (f : ℕ → A) (x : A) → number ≡ 0 → x ≡ unless (countRefusal rule n weights table room) f x
+  answer : {A : Type 0} (f : ℕ → A) (x : A) → number ≡ 0 → x ≡ unless (count_refusal rule n weights table room) f x
   answer f x z = rw (← same) (sym (unless-none number f x z))
 
   pub refused : (number ≡ 0 → ⊥) → Outcome rule n weights table room (counting.Refused number) table room
-  unfolding roomAfter
+  unfolding room_after
   refused h = record { answered = (counts _ _).1 (otherwise _ _ h); cleared = otherwise (λ r. table) _ h; written = otherwise (λ r. room) _ h }
 
   pub counted : {used tableExit roomExit : List ℕ} → number ≡ 0 → Tallied rule n weights table room used roomExit
       → tableExit ≡ replicate cells 0 ++ drop cells used → Outcome rule n weights table room counting.Counted tableExit roomExit
-  unfolding roomAfter countsOf
+  unfolding room_after counts_of
   counted z f d =
       record {
         answered = (counts _ _).1 (answer _ _ z);

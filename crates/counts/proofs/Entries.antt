@@ -55,18 +55,18 @@ module _ {rule : Rule} {n : ℕ} {weights : List ℕ} (ok : Accepted rule n weig
   pub spread : OnWays rule.kind → Spread rule n
   spread (inl e) =
       let low : rule.kind ≤ 3 = ⊎_elim (λ (e : rule.kind ≡ 1). omega arith) (λ e. omega arith) e in
-      record { size = ok.size-high; some = λ l. absurd (omega arith); small = λ l. absurd (omega arith); ring = λ l o. absurd (omega arith) }
+      record { size = ok.size_high; some = λ l. absurd (omega arith); small = λ l. absurd (omega arith); ring = λ l o. absurd (omega arith) }
   spread (inr l) = ⊎_elim line ring (two l)
     where
       line : rule.kind ≡ 6 → Spread rule n
       line e =
           let h = range6 ok e in
-          record { size = ok.size-high; some = λ l. omega arith; small = λ l. omega arith; ring = λ l o. absurd (o e) }
+          record { size = ok.size_high; some = λ l. omega arith; small = λ l. omega arith; ring = λ l o. absurd (o e) }
 
       ring : rule.kind ≡ 7 → Spread rule n
       ring e =
           let h = range7 ok e in
-          record { size = ok.size-high; some = λ l. omega arith; small = λ l. omega arith; ring = λ l o. h.high }
+          record { size = ok.size_high; some = λ l. omega arith; small = λ l. omega arith; ring = λ l o. h.high }
 
   pub ways-count : (j : ℕ) → OnWays rule.kind → entry_of rule n j ≡ count_of rule n weights j
   unfolding entry_of from reading_of
@@ -87,11 +87,11 @@ module _ {rule : Rule} {n : ℕ} {weights table : List ℕ} (able : Workable rul
   pub weighed : rule.kind ≡ 2 → Weighed rule.first weights table
   weighed e =
       let h = range2 able.accepted e in
-      let light = able.accepted.weights-total e in
+      let light = able.accepted.weights_total e in
       record {
         some = h.low;
         small = omega (arith, h.high, light);
-        most = omega (arith, able.accepted.weights-length e, able.accepted.size-high);
+        most = omega (arith, able.accepted.weights_length e, able.accepted.size_high);
         light = light;
         long = able.long;
       }
@@ -100,14 +100,14 @@ module _ {rule : Rule} {n : ℕ} {weights table : List ℕ} (able : Workable rul
   unfolding entry_at from reading_of
   sums-worked e a =
       let none : rule.first - rule.first ≡ 0 = omega arith in
-      let all = rw (none, lt-ltb 0 rule.first (weighed e).some, able.accepted.weights-length e) at a.is in
+      let all = rw (none, lt-ltb 0 rule.first (weighed e).some, able.accepted.weights_length e) at a.is in
       record {
         is = λ j l. rw e (all j (omega arith) ∙ sym (count-by-reading _ n weights j (rw e at able.accepted.in-range)));
         rest = a.rest;
       }
 
   pub sized : (rule.kind ≡ 2 → ⊥) → Sized rule.first n table
-  sized o = record { some = go able.kind; most = able.accepted.size-high; long = able.long }
+  sized o = record { some = go able.kind; most = able.accepted.size_high; long = able.long }
     where
       go : OnTable rule.kind → 0 < rule.first
       go (inl e) = absurd (o e)
@@ -148,8 +148,8 @@ pub layable : {rule : Rule} {n : ℕ} {weights table after : List ℕ} → Accep
     → Worked rule n weights table after → Layable rule n after
 layable {n = n} ok long w =
     record {
-      most = ok.size-high;
-      two = λ e. omega (arith, (range2 ok e).high, ok.weights-total e);
+      most = ok.size_high;
+      two = λ e. omega (arith, (range2 ok e).high, ok.weights_total e);
       long = omega arith;
-      fits = λ j l. rw (w.is j l) (count-fit _ n j ok.size-high);
+      fits = λ j l. rw (w.is j l) (count-fit _ n j ok.size_high);
     }

@@ -5,14 +5,14 @@ use mathlib.Core.List.{List}
 use Prim.Native.Nat.{ℕ}
 use Rattle.rules.specs.declared.Rule.{Rule}
 use Rattle.rules.specs.declared.Counting.{Counting}
-use Rattle.rules.specs.Answer.{countingOf}
+use Rattle.rules.specs.Answer.{counting_of}
 use Rattle.rules.proofs.Answer.{counts}
 use Rattle.counts.specs.Outcome.{Outcome}
 
 module _ {rule : Rule} {n : ℕ} {weights table room : List ℕ} where
   counting-is : {answer : Counting} {tableExit roomExit : List ℕ} → Outcome rule n weights table room answer tableExit roomExit
-      → answer ≡ countingOf rule n weights table room
-  unfolding countingOf
+      → answer ≡ counting_of rule n weights table room
+  unfolding counting_of
   counting-is {answer} f = (counts answer _).0 f.answered
 
   pub one-outcome : {answer answer' : Counting} {tableExit tableExit' roomExit roomExit' : List ℕ}

@@ -2,10 +2,10 @@
 use Rattle.std.specs.Prelude.{◌≡◌, List, ℕ}
 use Rattle.rules.specs.declared.Rule.{Rule}
 use Rattle.rules.specs.declared.Counting.{Counting}
-use Rattle.rules.specs.Refusal.{countRefusal}
-use Rattle.rules.specs.Answer.{Counts, tableAfter, roomAfter}
+use Rattle.rules.specs.Refusal.{count_refusal}
+use Rattle.rules.specs.Answer.{Counts, table_after, room_after}
 
 pub record Outcome (rule : Rule) (n : ℕ) (weights table room : List ℕ) (answer : Counting) (tableExit roomExit : List ℕ) : Type 0 where
-  pub answered : Counts answer (countRefusal rule n weights table room)
-  pub cleared : tableExit ≡ tableAfter (countRefusal rule n weights table room) table
-  pub written : roomExit ≡ roomAfter (countRefusal rule n weights table room) rule n weights room
+  pub answered : Counts answer (count_refusal rule n weights table room)
+  pub cleared : tableExit ≡ table_after (count_refusal rule n weights table room) table
+  pub written : roomExit ≡ room_after (count_refusal rule n weights table room) rule n weights room

@@ -1,7 +1,7 @@
 -- Kind 2: what the working table holds of the sums, and what one component more makes of it. Row j stands at 120 j; its column s holds how many states of
 -- the components 1 to i have exactly j failed that weigh s.
 use Rattle.std.specs.Prelude.{◌≡◌, ◌⊎◌, List, ℕ, suc, ◌+◌, ◌-◌, ◌*◌, ◌^◌, ◌≤◌, ◌<◌, length, get_or}
-use Rattle.rules.specs.Below.{sumBelow, total}
+use Rattle.rules.specs.Below.{sum_below, total}
 use Rattle.rules.specs.State.{number_of}
 use Rattle.rules.specs.Memory.{below, row1}
 use Rattle.rules.specs.Refusal.{most, heaviest, cells}
@@ -17,7 +17,7 @@ cell_at table j s = get_or table (j * heaviest + s) 0
 
 -- with the components 1 to i read, which add up to `reach`
 pub record Sums (k : ℕ) (weights : List ℕ) (i reach : ℕ) (table : List ℕ) : Type 0 where
-  pub is : (j c : ℕ) → j ≤ most → c ≤ k → sumBelow c (cell_at table j) ≡ lighter k weights i j c
+  pub is : (j c : ℕ) → j ≤ most → c ≤ k → sum_below c (cell_at table j) ≡ lighter k weights i j c
   pub none : (j s : ℕ) → j ≤ most → s < heaviest → reach < s → cell_at table j s ≡ 0
 
 pub record Weighed (k : ℕ) (weights table : List ℕ) : Type 0 where
@@ -28,7 +28,7 @@ pub record Weighed (k : ℕ) (weights table : List ℕ) : Type 0 where
   pub long : cells ≤ length table
 
 pub record Added (k : ℕ) (weights : List ℕ) (i : ℕ) (before after : List ℕ) : Type 0 where
-  pub is : (j : ℕ) → j ≤ most → sumBelow k (cell_at after j) ≡ lighter k weights i j k
+  pub is : (j : ℕ) → j ≤ most → sum_below k (cell_at after j) ≡ lighter k weights i j k
   pub rest : Outside 0 cells before after
 
 -- a cell is added to another, and the sum fits 64 bits
@@ -58,4 +58,4 @@ pub record Turned (w count from rows : ℕ) (before after : List ℕ) : Type 0 w
 pub record Summable (k from : ℕ) (table : List ℕ) : Type 0 where
   pub small : k ≤ heaviest
   pub long : from + heaviest ≤ length table
-  pub fits : sumBelow k (λ s. get_or table (from + s) 0) < 2 ^ 64
+  pub fits : sum_below k (λ s. get_or table (from + s) 0) < 2 ^ 64

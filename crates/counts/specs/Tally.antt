@@ -1,20 +1,20 @@
 -- What the count table is worked for, and that it is.
 use Rattle.std.specs.Prelude.{◌≡◌, cond, ◌⊎◌, List, [], ℕ, suc, ◌+◌, ◌-◌, ◌*◌, ◌^◌, ◌≤◌, ◌<◌, eqb, ltb, length, get_or}
 use Rattle.rules.specs.declared.Rule.{Rule}
-use Rattle.rules.specs.Below.{sumBelow}
+use Rattle.rules.specs.Below.{sum_below}
 use Rattle.rules.specs.Count.{count_of}
-use Rattle.rules.specs.Refusal.{after, most, heaviest, cells, notCounted}
+use Rattle.rules.specs.Refusal.{after, most, heaviest, cells, not_counted}
 use Rattle.rules.specs.Accepted.{Accepted}
-use Rattle.refusals.specs.Shared.{ruleRefusal}
+use Rattle.refusals.specs.Shared.{rule_refusal}
 use Rattle.bins.specs.Cells.{Outside, Stored}
-use Rattle.bins.specs.Bins.{aroundAt}
-use Rattle.places.specs.Map.{binRow}
+use Rattle.bins.specs.Bins.{around_at}
+use Rattle.places.specs.Map.{bin_row}
 use Rattle.counts.specs.Sums.{cell_at}
 
 -- the call's refusal, by the lengths of the lent tables
-abbrev pub refusalOf : Rule → (n : ℕ) (weights : List ℕ) (lent slots : ℕ) → ℕ
-refusalOf rule n weights lent slots =
-    cond (notCounted rule) 15 (after (ruleRefusal rule n weights []) (cond (ltb lent cells) 7 (cond (ltb slots (suc n)) 8 0)))
+abbrev pub refusal_of : Rule → (n : ℕ) (weights : List ℕ) (lent slots : ℕ) → ℕ
+refusal_of rule n weights lent slots =
+    cond (not_counted rule) 15 (after (rule_refusal rule n weights []) (cond (ltb lent cells) 7 (cond (ltb slots (suc n)) 8 0)))
 
 -- a call that nothing refuses
 pub record Countable (rule : Rule) (n : ℕ) (weights table room : List ℕ) : Type 0 where
@@ -32,10 +32,10 @@ pub record Tallied (rule : Rule) (n : ℕ) (weights table room tableExit roomExi
 unfoldable pub entry_at : Rule → (n : ℕ) (table : List ℕ) (j : ℕ) → ℕ
 entry_at rule n table j =
     cond (eqb rule.kind 2)
-    (sumBelow rule.first (cell_at table j))
+    (sum_below rule.first (cell_at table j))
     (cond (eqb rule.kind 4)
-    (get_or table ((n + 1 - j) * binRow + j) 0)
-    (cond (eqb j n) 0 (aroundAt rule.first ((n - 1 - j) * binRow + j) j table)))
+    (get_or table ((n + 1 - j) * bin_row + j) 0)
+    (cond (eqb j n) 0 (around_at rule.first ((n - 1 - j) * bin_row + j) j table)))
 
 -- the kinds that are worked in the table
 abbrev pub OnTable : ℕ → Type 0

@@ -4,7 +4,7 @@ mod sums; // sums.rt: kind 2, a row of sums for each number failed
 mod ways; // ways.rt: kinds 1, 3, 6 and 7, which Pascal's table answers
 
 ghost use Rattle.std.specs.Prelude.{◌≡◌};
-ghost use Rattle.counts.specs.Tally.{refusalOf, Countable, Tallied};
+ghost use Rattle.counts.specs.Tally.{refusal_of, Countable, Tallied};
 ghost use Rattle.counts.specs.Outcome.{Outcome};
 
 use rules::limit::CELLS;
@@ -13,7 +13,7 @@ use rules::{Counting, NO_MORE, Rule, kind};
 // Refusals 1, 15, 2, 5, 6, 7 and 8, the first that applies; 0 for none. A kind without a count table is never
 // refused by 1, so that 15 may be looked at first.
 fn refusal(rule: Rule, n: u64, weights: &[u16], lent: usize, slots: usize) -> u64
-    ensures { result ≡ refusalOf rule n weights.now lent slots }
+    ensures { result ≡ refusal_of rule n weights.now lent slots }
 {
     if refusals::uncounted(rule) {
         return rules::refusal::UNCOUNTED;

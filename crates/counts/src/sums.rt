@@ -1,7 +1,7 @@
 // Kind 2: row j of the working table holds for each sum how many states of the components read so far have j failed
 // that weigh as much.
 ghost use Rattle.std.specs.Prelude.{◌≡◌, ◌+◌, ◌-◌, ◌≤◌, ◌<◌, min, length, get_or, set};
-ghost use Rattle.rules.specs.Below.{sumBelow};
+ghost use Rattle.rules.specs.Below.{sum_below};
 ghost use Rattle.rules.specs.Refusal.{heaviest};
 ghost use Rattle.bins.specs.Cells.{Stored};
 ghost use Rattle.counts.specs.Sums.{Weighed, Added, Raisable, Addable, Turnable, Turned, Summable};
@@ -82,7 +82,7 @@ fn cell(from: usize, s: usize, table: &[u64]) -> u64
 // The states of a row that weigh less than k.
 pub fn total(k: usize, from: usize, table: &[u64]) -> u64
     requires { Summable k from table.now }
-    ensures { result ≡ sumBelow k (λ s. get_or table.now (from + s) 0) }
+    ensures { result ≡ sum_below k (λ s. get_or table.now (from + s) 0) }
 {
     let mut sum: u64 = 0;
     let mut s: usize = 0;

@@ -2,15 +2,15 @@
 ghost use Rattle.std.specs.Prelude.{◌≡◌, true, suc, ◌-◌, ◌*◌, ◌≤◌, ◌<◌, length};
 ghost use Rattle.rules.specs.Refusal.{most};
 ghost use Rattle.pascal.specs.Ways.{ways_of};
-ghost use Rattle.pascal.specs.Folded.{foldedRule};
+ghost use Rattle.pascal.specs.Folded.{folded_rule};
 ghost use Rattle.bins.specs.Cells.{Stored};
-ghost use Rattle.counts.specs.Ways.{failsAt, apartOf, ringOf, entry_of, Spread, Lookup};
+ghost use Rattle.counts.specs.Ways.{fails_at, apart_of, ring_of, entry_of, Spread, Lookup};
 
 use rules::{Rule, kind};
 
 // Kinds 1 and 3: do the states with j failed fail?
 fn fails_at(rule: Rule, j: u64) -> bool
-    ensures { result ≡ failsAt rule j }
+    ensures { result ≡ fails_at rule j }
 {
     if rule.kind == kind::NUMBER {
         return rule.first <= j;
@@ -23,7 +23,7 @@ fn fails_at(rule: Rule, j: u64) -> bool
 
 // The states of i components with j failed where each of `times` takes `owed` components away.
 fn left(owed: usize, i: usize, times: usize, j: usize, triangle: &[u64; pascal::ENTRIES]) -> u64
-    requires { (i ≤ most) × (times * owed ≤ 4096) × (foldedRule triangle.now ≡ true) }
+    requires { (i ≤ most) × (times * owed ≤ 4096) × (folded_rule triangle.now ≡ true) }
     ensures { result ≡ ways_of (i - times * owed) j }
 {
     pascal::ways(triangle, places::rest(i, times * owed), j)
@@ -33,7 +33,7 @@ fn left(owed: usize, i: usize, times: usize, j: usize, triangle: &[u64; pascal::
 // work.
 fn apart(owed: usize, i: usize, j: usize, triangle: &[u64; pascal::ENTRIES]) -> u64
     requires { Lookup owed i j triangle.now }
-    ensures { result ≡ apartOf owed i j }
+    ensures { result ≡ apart_of owed i j }
 {
     left(owed, i, places::rest(j, 1), j, triangle)
 }
@@ -42,7 +42,7 @@ fn apart(owed: usize, i: usize, j: usize, triangle: &[u64; pascal::ENTRIES]) -> 
 // that follow one, in one of `owed` ways.
 fn ring(owed: usize, n: usize, j: usize, triangle: &[u64; pascal::ENTRIES]) -> u64
     requires { Lookup owed n j triangle.now × (owed < n) }
-    ensures { result ≡ ringOf owed n j }
+    ensures { result ≡ ring_of owed n j }
 {
     if j == 0 {
         return 1;
@@ -52,7 +52,7 @@ fn ring(owed: usize, n: usize, j: usize, triangle: &[u64; pascal::ENTRIES]) -> u
 
 // Entry j of the count table.
 fn entry(rule: Rule, n: usize, j: usize, triangle: &[u64; pascal::ENTRIES]) -> u64
-    requires { Spread rule n × (j ≤ n) × (foldedRule triangle.now ≡ true) }
+    requires { Spread rule n × (j ≤ n) × (folded_rule triangle.now ≡ true) }
     ensures { result ≡ entry_of rule n j }
 {
     if rule.kind <= kind::BETWEEN {

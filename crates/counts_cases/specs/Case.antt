@@ -1,5 +1,5 @@
 -- The words of a count case before its weights.
 use Rattle.std.specs.Prelude.{ℕ}
 
-abbrev pub headWords : ℕ
-headWords = 8
+abbrev pub head_words : ℕ
+head_words = 8

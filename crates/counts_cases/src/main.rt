@@ -6,9 +6,9 @@ mod lines; // lines.rt: the lines that are written
 
 ghost use Rattle.std.specs.Prelude.{◌≤◌, length};
 ghost use Rattle.io.specs.Counts.{IsPrefixLen};
-ghost use Rattle.casefile.specs.Rooms.{mostNumbers};
+ghost use Rattle.casefile.specs.Rooms.{most_numbers};
 ghost use Rattle.casefile.specs.Cases.{Within};
-ghost use Rattle.counts_cases.specs.Case.{headWords};
+ghost use Rattle.counts_cases.specs.Case.{head_words};
 
 use casefile::{cases, tables, words};
 use libc::{STDIN_FILENO, STDOUT_FILENO};
@@ -42,7 +42,7 @@ fn counts_with(
     room: &mut [u64],
 ) -> Counting
     requires begins { at ≤ length bytes.now }
-    requires few { count ≤ mostNumbers }
+    requires few { count ≤ most_numbers }
 {
     let mut weights = casefile::weights_room();
     words::shorts(bytes, at, &mut weights[..count]);
@@ -51,7 +51,7 @@ fn counts_with(
 
 // Fills the tables with rubbish and works the case of so many words at `at` in them.
 fn worked(bytes: &[u8], at: usize, size: usize, table: &mut [u64], room: &mut [u64]) -> Counting
-    requires { Within bytes.now at headWords size }
+    requires { Within bytes.now at head_words size }
 {
     let rule = cases::rule_at(bytes, at);
     let n = words::word(bytes, at + FANS);
@@ -70,7 +70,7 @@ fn run_in(
     out: &mut [u8],
     end: usize,
 ) -> usize
-    requires case { Within bytes.now at headWords size }
+    requires case { Within bytes.now at head_words size }
     requires within { end ≤ length out.old }
     ensures { result ≤ length out.new }
 {
@@ -89,7 +89,7 @@ fn counts_room() -> [u64; MOST_SLOTS] {
 
 // Runs the case of so many words at `at`, whose tables must fit those here.
 fn run_case(bytes: &[u8], at: usize, size: usize, out: &mut [u8], end: usize) -> usize
-    requires case { Within bytes.now at headWords size }
+    requires case { Within bytes.now at head_words size }
     requires within { end ≤ length out.old }
     ensures { result ≤ length out.new }
 {

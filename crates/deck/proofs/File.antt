@@ -10,12 +10,12 @@ use native.Mathlib.Omega.{arith}
 use lib.ListN.{length, get_or, take, length-append}
 use lib.Seq.{take_all, take-add}
 use borrow.Author.Tests.{not-false, eqb-true}
-use Rattle.rules.specs.Below.{listBelow}
-use Rattle.rules.specs.Boards.{hasBoards, boardsRead}
-use Rattle.rules.specs.Refusal.{mostBoards}
-use Rattle.rules.specs.File.{Deck, number_at, nthNumber, numbersFrom, all_bytes, countsOf, offsetsOf, headerOf, systemNumbers, fileOf, nthSystem, systemIn, deckIn, fileRefusal}
-use Rattle.rules.specs.File.{versionIn, fansIn, countIn, boardCountIn, boardsElsewhere, versionField, zeroField, survivalField, weightsField, systemsField, boardCountField, boardsField, headerLength}
-use Rattle.rules.specs.File.{survivalBytes, weightBytes, boardBytes, systemBytes, boardFans, survivalOffset, weightsOffset, boardsOffset, switchboardsOffset, systemsOffset}
+use Rattle.rules.specs.Below.{list_below}
+use Rattle.rules.specs.Boards.{has_boards, boards_read}
+use Rattle.rules.specs.Refusal.{most_boards}
+use Rattle.rules.specs.File.{Deck, number_at, nth_number, numbers_from, all_bytes, counts_of, offsets_of, header_of, system_numbers, file_of, nth_system, system_in, deck_in, file_refusal}
+use Rattle.rules.specs.File.{version_in, fans_in, count_in, board_count_in, boards_elsewhere, version_field, zero_field, survival_field, weights_field, systems_field, board_count_field, boards_field, header_length}
+use Rattle.rules.specs.File.{survival_bytes, weight_bytes, board_bytes, system_bytes, board_fans, survival_offset, weights_offset, boards_offset, switchboards_offset, systems_offset}
 use Rattle.layout.specs.Fits.{Bytes}
 use Rattle.deck.specs.Bounds.{Bounds}
 use Rattle.rules.proofs.Lists.{below_length}
@@ -28,46 +28,46 @@ use Rattle.layout.proofs.Header.{Headed, header_is, header-length}
 use Rattle.deck.proofs.Sound.{Sound, sound, not-refused}
 
 -- a file's parts before the weights, the boards' bytes, the boards' numbers and the systems
-abbrev headerFor : Deck → List ℕ
-headerFor d = headerOf d.version (length d.survival) (length d.switchboards) (length d.systems)
+abbrev header_for : Deck → List ℕ
+header_for d = header_of d.version (length d.survival) (length d.switchboards) (length d.systems)
 
-abbrev pub toWeights : Deck → List ℕ
-toWeights d = headerFor d ++ all_bytes survivalBytes d.survival
+abbrev pub to_weights : Deck → List ℕ
+to_weights d = header_for d ++ all_bytes survival_bytes d.survival
 
-abbrev pub toBoards : Deck → List ℕ
-toBoards d = toWeights d ++ all_bytes weightBytes d.weights
+abbrev pub to_boards : Deck → List ℕ
+to_boards d = to_weights d ++ all_bytes weight_bytes d.weights
 
-abbrev pub toNumbers : Deck → List ℕ
-toNumbers d = toBoards d ++ all_bytes boardBytes d.boards
+abbrev pub to_numbers : Deck → List ℕ
+to_numbers d = to_boards d ++ all_bytes board_bytes d.boards
 
-abbrev pub toSystems : Deck → List ℕ
-toSystems d = toNumbers d ++ all_bytes survivalBytes d.switchboards
+abbrev pub to_systems : Deck → List ℕ
+to_systems d = to_numbers d ++ all_bytes survival_bytes d.switchboards
 
 -- a part more
 part_length : (xs : List ℕ) (width : ℕ) (ys : List ℕ) → length (xs ++ all_bytes width ys) ≡ length xs + width * length ys
 part_length xs width ys = length-append xs (all_bytes width ys) ∙ rw (all-length width ys)
 
-pub weights-from : (d : Deck) → length (toWeights d) ≡ weightsOffset d.version (length d.survival)
-weights-from d = part_length (headerFor d) survivalBytes d.survival ∙ rw (header-length d.version (length d.survival) (length d.switchboards) (length d.systems))
+pub weights-from : (d : Deck) → length (to_weights d) ≡ weights_offset d.version (length d.survival)
+weights-from d = part_length (header_for d) survival_bytes d.survival ∙ rw (header-length d.version (length d.survival) (length d.switchboards) (length d.systems))
 
-pub boards-from : (d : Deck) → length (toBoards d) ≡ weightsOffset d.version (length d.survival) + weightBytes * length d.weights
-boards-from d = part_length (toWeights d) weightBytes d.weights ∙ rw (weights-from d)
+pub boards-from : (d : Deck) → length (to_boards d) ≡ weights_offset d.version (length d.survival) + weight_bytes * length d.weights
+boards-from d = part_length (to_weights d) weight_bytes d.weights ∙ rw (weights-from d)
 
 pub numbers-from : (d : Deck)
-    → length (toNumbers d) ≡ weightsOffset d.version (length d.survival) + weightBytes * length d.weights + boardBytes * length d.boards
-numbers-from d = part_length (toBoards d) boardBytes d.boards ∙ rw (boards-from d)
+    → length (to_numbers d) ≡ weights_offset d.version (length d.survival) + weight_bytes * length d.weights + board_bytes * length d.boards
+numbers-from d = part_length (to_boards d) board_bytes d.boards ∙ rw (boards-from d)
 
 pub systems-from : (d : Deck)
-    → length (toSystems d)
-    ≡ weightsOffset d.version (length d.survival) + weightBytes * length d.weights + boardBytes * length d.boards + survivalBytes * length d.switchboards
-systems-from d = part_length (toNumbers d) survivalBytes d.switchboards ∙ rw (numbers-from d)
+    → length (to_systems d)
+    ≡ weights_offset d.version (length d.survival) + weight_bytes * length d.weights + board_bytes * length d.boards + survival_bytes * length d.switchboards
+systems-from d = part_length (to_numbers d) survival_bytes d.switchboards ∙ rw (numbers-from d)
 
 pub file-length : (d : Deck)
-    → length (fileOf d)
-    ≡ weightsOffset d.version (length d.survival) + weightBytes * length d.weights + boardBytes * length d.boards + survivalBytes * length d.switchboards
-    + systemBytes * length d.systems
-unfolding fileOf
-file-length d = part_length (toSystems d) 2 (systemNumbers d.systems) ∙ omega (arith, systems-from d, numbers-length d.systems)
+    → length (file_of d)
+    ≡ weights_offset d.version (length d.survival) + weight_bytes * length d.weights + board_bytes * length d.boards + survival_bytes * length d.switchboards
+    + system_bytes * length d.systems
+unfolding file_of
+file-length d = part_length (to_systems d) 2 (system_numbers d.systems) ∙ omega (arith, systems-from d, numbers-length d.systems)
 
 -- the file of a deck within bounds, read: each part stands where the layout says
 module _ (d : Deck) (ok : Bounds d) where
@@ -84,239 +84,239 @@ module _ (d : Deck) (ok : Bounds d) where
   m = length d.systems
 
   -- the boards: at most four, none without a version that has them, and as many board numbers as fans
-  no-boards : hasBoards v ≡ false → g ≡ 0
-  no-boards none = sym (ap length ok.own-numbers) ∙ rw none
+  no_boards : has_boards v ≡ false → g ≡ 0
+  no_boards none = sym (ap length ok.own_numbers) ∙ rw none
 
-  few : g ≤ mostBoards
-  few = few-boards v g ok.counted no-boards
+  few : g ≤ most_boards
+  few = few-boards v g ok.counted no_boards
 
-  boarded : length d.boards ≡ boardFans v n
-  boarded = fans-boarded v n g d.boards ok.placed ok.own-boards
+  boarded : length d.boards ≡ board_fans v n
+  boarded = fans-boarded v n g d.boards ok.placed ok.own_boards
 
   -- its header, and what follows
   headed : Headed v n g m
-  headed = record { versioned = ok.versioned; most-fans = ok.most-fans; most-systems = ok.most-systems; few = few; no-boards = no-boards }
+  headed = record { versioned = ok.versioned; most_fans = ok.most_fans; most-systems = ok.most-systems; few = few; no_boards = no_boards }
 
   abbrev rest : List ℕ
   rest =
-      all_bytes survivalBytes d.survival
-      ++ (all_bytes weightBytes d.weights
-      ++ (all_bytes boardBytes d.boards ++ (all_bytes survivalBytes d.switchboards ++ all_bytes 2 (systemNumbers d.systems))))
+      all_bytes survival_bytes d.survival
+      ++ (all_bytes weight_bytes d.weights
+      ++ (all_bytes board_bytes d.boards ++ (all_bytes survival_bytes d.switchboards ++ all_bytes 2 (system_numbers d.systems))))
 
-  file-parts : fileOf d ≡ headerFor d ++ rest
-  unfolding fileOf
+  file-parts : file_of d ≡ header_for d ++ rest
+  unfolding file_of
   file-parts = simp append_assoc
 
-  version-at : versionIn (fileOf d) ≡ v
-  version-at = ap versionIn file-parts ∙ header.version-at headed rest
+  version-at : version_in (file_of d) ≡ v
+  version-at = ap version_in file-parts ∙ header.version-at headed rest
 
-  fans-at : fansIn (fileOf d) ≡ n
-  fans-at = ap fansIn file-parts ∙ header.fans-at headed rest
+  fans-at : fans_in (file_of d) ≡ n
+  fans-at = ap fans_in file-parts ∙ header.fans-at headed rest
 
-  systems-at : countIn (fileOf d) ≡ m
-  systems-at = ap countIn file-parts ∙ header.systems-at headed rest
+  systems-at : count_in (file_of d) ≡ m
+  systems-at = ap count_in file-parts ∙ header.systems-at headed rest
 
-  board-count-at : boardCountIn (fileOf d) ≡ g
-  board-count-at = ap boardCountIn file-parts ∙ header.board-count-at headed rest
+  board-count-at : board_count_in (file_of d) ≡ g
+  board-count-at = ap board_count_in file-parts ∙ header.board-count-at headed rest
 
-  place_at : (i : ℕ) → i < 3 → nthNumber 4 (fileOf d) survivalField i ≡ get_or (offsetsOf v n g) i 0
-  place_at i l = ap (λ bytes. nthNumber 4 bytes survivalField i) file-parts ∙ header.place_at headed rest i l
+  place_at : (i : ℕ) → i < 3 → nth_number 4 (file_of d) survival_field i ≡ get_or (offsets_of v n g) i 0
+  place_at i l = ap (λ bytes. nth_number 4 bytes survival_field i) file-parts ∙ header.place_at headed rest i l
 
-  survival-stand : Stands survivalBytes d.survival (fileOf d) (survivalOffset v)
-  unfolding fileOf
+  survival-stand : Stands survival_bytes d.survival (file_of d) (survival_offset v)
+  unfolding file_of
   survival-stand = record {
-    before = headerFor d;
+    before = header_for d;
     after =
-        all_bytes weightBytes d.weights ++ (all_bytes boardBytes d.boards ++ (all_bytes survivalBytes d.switchboards ++ all_bytes 2 (systemNumbers d.systems)));
+        all_bytes weight_bytes d.weights ++ (all_bytes board_bytes d.boards ++ (all_bytes survival_bytes d.switchboards ++ all_bytes 2 (system_numbers d.systems)));
     parts = simp append_assoc;
     place = header-length v n g m;
   }
 
-  weights-stand : Stands weightBytes d.weights (fileOf d) (weightsOffset v n)
-  unfolding fileOf
+  weights-stand : Stands weight_bytes d.weights (file_of d) (weights_offset v n)
+  unfolding file_of
   weights-stand = record {
-    before = toWeights d;
-    after = all_bytes boardBytes d.boards ++ (all_bytes survivalBytes d.switchboards ++ all_bytes 2 (systemNumbers d.systems));
+    before = to_weights d;
+    after = all_bytes board_bytes d.boards ++ (all_bytes survival_bytes d.switchboards ++ all_bytes 2 (system_numbers d.systems));
     parts = simp append_assoc;
     place = weights-from d;
   }
 
-  boards-stand : Stands boardBytes d.boards (fileOf d) (boardsOffset v n)
-  unfolding fileOf
+  boards-stand : Stands board_bytes d.boards (file_of d) (boards_offset v n)
+  unfolding file_of
   boards-stand = record {
-    before = toBoards d;
-    after = all_bytes survivalBytes d.switchboards ++ all_bytes 2 (systemNumbers d.systems);
+    before = to_boards d;
+    after = all_bytes survival_bytes d.switchboards ++ all_bytes 2 (system_numbers d.systems);
     parts = simp append_assoc;
     place = omega (arith, boards-from d, ok.weighed);
   }
 
-  numbers-stand : Stands survivalBytes d.switchboards (fileOf d) (switchboardsOffset v n)
-  unfolding fileOf
+  numbers-stand : Stands survival_bytes d.switchboards (file_of d) (switchboards_offset v n)
+  unfolding file_of
   numbers-stand = record {
-    before = toNumbers d;
-    after = all_bytes 2 (systemNumbers d.systems);
+    before = to_numbers d;
+    after = all_bytes 2 (system_numbers d.systems);
     parts = refl;
     place = omega (arith, numbers-from d, ok.weighed, boarded);
   }
 
-  systems-stand : Stands 2 (systemNumbers d.systems) (fileOf d) (systemsOffset v n g)
-  unfolding fileOf
+  systems-stand : Stands 2 (system_numbers d.systems) (file_of d) (systems_offset v n g)
+  unfolding file_of
   systems-stand = record {
-    before = toSystems d;
+    before = to_systems d;
     after = [];
     parts = sym (append-nil _);
     place = omega (arith, systems-from d, ok.weighed, boarded);
   }
 
-  pub deck-back : deckIn (fileOf d) ≡ d
-  unfolding deckIn
+  pub deck-back : deck_in (file_of d) ≡ d
+  unfolding deck_in
   deck-back =
-      let survival = numbers-back survival-stand ok.survival-fits n refl in
-      let weights = numbers-back weights-stand ok.weights-fit n ok.weighed in
-      let boards = numbers-back boards-stand (boards-small v n g d.boards few ok.placed ok.own-boards) (boardFans v n) boarded in
-      let numbers = numbers-back numbers-stand ok.boards-fit g refl in
+      let survival = numbers-back survival-stand ok.survival_fits n refl in
+      let weights = numbers-back weights-stand ok.weights_fit n ok.weighed in
+      let boards = numbers-back boards-stand (boards-small v n g d.boards few ok.placed ok.own_boards) (board_fans v n) boarded in
+      let numbers = numbers-back numbers-stand ok.boards_fit g refl in
       let systems =
-      systems-back d.systems (fileOf d) (systemsOffset v n g) m refl
-      (λ i h. number-within systems-stand ok.systems-fit i (omega (arith, numbers-length d.systems)))
+      systems-back d.systems (file_of d) (systems_offset v n g) m refl
+      (λ i h. number-within systems-stand ok.systems_fit i (omega (arith, numbers-length d.systems)))
       in
       (λ x. record {
         version = version-at x;
-        survival = numbersFrom survivalBytes (fileOf d) (survivalOffset (version-at x)) (fans-at x);
-        weights = numbersFrom weightBytes (fileOf d) (weightsOffset (version-at x) (fans-at x)) (fans-at x);
-        boards = numbersFrom boardBytes (fileOf d) (boardsOffset (version-at x) (fans-at x)) (boardFans (version-at x) (fans-at x));
-        switchboards = numbersFrom survivalBytes (fileOf d) (switchboardsOffset (version-at x) (fans-at x)) (board-count-at x);
-        systems = listBelow (systems-at x) (nthSystem (fileOf d) (systemsOffset (version-at x) (fans-at x) (board-count-at x)));
+        survival = numbers_from survival_bytes (file_of d) (survival_offset (version-at x)) (fans-at x);
+        weights = numbers_from weight_bytes (file_of d) (weights_offset (version-at x) (fans-at x)) (fans-at x);
+        boards = numbers_from board_bytes (file_of d) (boards_offset (version-at x) (fans-at x)) (board_fans (version-at x) (fans-at x));
+        switchboards = numbers_from survival_bytes (file_of d) (switchboards_offset (version-at x) (fans-at x)) (board-count-at x);
+        systems = list_below (systems-at x) (nth_system (file_of d) (systems_offset (version-at x) (fans-at x) (board-count-at x)));
       })
       ∙ (λ x. record { version = v; survival = survival x; weights = weights x; boards = boards x; switchboards = numbers x; systems = systems x })
 
-  pub file-accepted : fileRefusal (fileOf d) ≡ 0
+  pub file-accepted : file_refusal (file_of d) ≡ 0
   file-accepted =
-      not-refused (fileOf d)
+      not-refused (file_of d)
       record {
         long = rw version-at (omega (arith, file-length d));
         versioned = rw version-at ok.versioned;
-        nought = ap (λ bytes. number_at 2 bytes zeroField) file-parts ∙ header.count_at headed rest 1 (omega arith);
-        some-fan = omega (arith, fans-at, ok.some-fan);
-        most-fans = omega (arith, fans-at, ok.most-fans);
-        some-system = omega (arith, systems-at, ok.some-system);
+        nought = ap (λ bytes. number_at 2 bytes zero_field) file-parts ∙ header.count_at headed rest 1 (omega arith);
+        some_fan = omega (arith, fans-at, ok.some_fan);
+        most_fans = omega (arith, fans-at, ok.most_fans);
+        some_system = omega (arith, systems-at, ok.some_system);
         most-systems = omega (arith, systems-at, ok.most-systems);
         counted = rw (board-count-at, version-at) ok.counted;
-        survival-place = rw version-at (place_at 0 (omega arith));
-        weights-place = rw (version-at, fans-at) (place_at 1 (omega arith));
-        systems-place = rw (board-count-at, version-at, fans-at) (place_at 2 (omega arith));
-        boards-place = ap boardsElsewhere file-parts ∙ header.boards-stand-at headed rest;
+        survival_place = rw version-at (place_at 0 (omega arith));
+        weights_place = rw (version-at, fans-at) (place_at 1 (omega arith));
+        systems_place = rw (board-count-at, version-at, fans-at) (place_at 2 (omega arith));
+        boards_place = ap boards_elsewhere file-parts ∙ header.boards-stand-at headed rest;
         whole = rw (board-count-at, version-at, fans-at, systems-at) (omega (arith, file-length d, ok.weighed, boarded));
         placed = rw (deck-back, board-count-at, version-at, fans-at) ok.placed;
       }
 
 -- a file that is not refused, written again
-module _ (bytes : List ℕ) (small : Bytes bytes) (e : fileRefusal bytes ≡ 0) where
+module _ (bytes : List ℕ) (small : Bytes bytes) (e : file_refusal bytes ≡ 0) where
   abbrev s : Sound bytes
   s = sound bytes e
 
   abbrev version : ℕ
-  version = versionIn bytes
+  version = version_in bytes
 
   abbrev fans : ℕ
-  fans = fansIn bytes
+  fans = fans_in bytes
 
   abbrev boards : ℕ
-  boards = boardCountIn bytes
+  boards = board_count_in bytes
 
   -- the numbers that the header ends in
-  offsets-back : offsetsOf version fans boards ≡ numbersFrom 4 bytes survivalField (3 + cond (hasBoards version) 2 0)
-  unfolding listBelow
+  offsets-back : offsets_of version fans boards ≡ numbers_from 4 bytes survival_field (3 + cond (has_boards version) 2 0)
+  unfolding list_below
   offsets-back =
-      (λ x. sym s.survival-place x ∷ sym s.weights-place x ∷ sym s.systems-place x ∷ boardsRead version (boards ∷ boardsOffset version fans ∷ []))
+      (λ x. sym s.survival_place x ∷ sym s.weights_place x ∷ sym s.systems_place x ∷ boards_read version (boards ∷ boards_offset version fans ∷ []))
       ∙ by-boards version
-      (λ b. first ∷ second ∷ third ∷ cond b (cond b count 0 ∷ boardsOffset version fans ∷ []) [] ≡ numbersFrom 4 bytes survivalField (3 + cond b 2 0))
+      (λ b. first ∷ second ∷ third ∷ cond b (cond b count 0 ∷ boards_offset version fans ∷ []) [] ≡ numbers_from 4 bytes survival_field (3 + cond b 2 0))
       (λ has x. first ∷ second ∷ third ∷ count ∷ sym (placed has) x ∷ [])
       (λ none. refl)
     where
       first : ℕ
-      first = number_at 4 bytes survivalField
+      first = number_at 4 bytes survival_field
 
       second : ℕ
-      second = number_at 4 bytes weightsField
+      second = number_at 4 bytes weights_field
 
       third : ℕ
-      third = number_at 4 bytes systemsField
+      third = number_at 4 bytes systems_field
 
       count : ℕ
-      count = number_at 4 bytes boardCountField
+      count = number_at 4 bytes board_count_field
 
-      placed : hasBoards version ≡ true → number_at 4 bytes boardsField ≡ boardsOffset version fans
-      placed has = eqb-true _ _ (not-false _ (second_none (hasBoards version) _ s.boards-place has))
+      placed : has_boards version ≡ true → number_at 4 bytes boards_field ≡ boards_offset version fans
+      placed has = eqb-true _ _ (not-false _ (second_none (has_boards version) _ s.boards_place has))
 
-  pub header-back : headerOf version fans boards (countIn bytes) ≡ take (headerLength version) bytes
-  unfolding headerOf listBelow
+  pub header-back : header_of version fans boards (count_in bytes) ≡ take (header_length version) bytes
+  unfolding header_of list_below
   header-back =
-      let m = countIn bytes in
+      let m = count_in bytes in
       let h = header_is version in
-      let counted : all_bytes 2 (countsOf version fans m) ≡ all_bytes 2 (numbersFrom 2 bytes versionField 4) =
+      let counted : all_bytes 2 (counts_of version fans m) ≡ all_bytes 2 (numbers_from 2 bytes version_field 4) =
       λ x. all_bytes 2 (version ∷ sym s.nought x ∷ fans ∷ m ∷ [])
       in
-      let k = 3 + cond (hasBoards version) 2 0 in
-      ap₂ (λ xs ys. xs ++ ys) (counted ∙ bytes_back 2 bytes versionField 4 small (omega (arith, s.long)))
-      (ap (all_bytes 4) offsets-back ∙ bytes_back 4 bytes survivalField k small (omega (arith, s.long)))
-      ∙ sym (take-add survivalField (4 * k) bytes)
+      let k = 3 + cond (has_boards version) 2 0 in
+      ap₂ (λ xs ys. xs ++ ys) (counted ∙ bytes_back 2 bytes version_field 4 small (omega (arith, s.long)))
+      (ap (all_bytes 4) offsets-back ∙ bytes_back 4 bytes survival_field k small (omega (arith, s.long)))
+      ∙ sym (take-add survival_field (4 * k) bytes)
       ∙ ap (λ l. take l bytes) h
 
-  pub file-back : fileOf (deckIn bytes) ≡ bytes
-  unfolding fileOf deckIn
+  pub file-back : file_of (deck_in bytes) ≡ bytes
+  unfolding file_of deck_in
   file-back =
       let n = fans in
-      let m = countIn bytes in
-      let f = boardFans version n in
-      let from = systemsOffset version n boards in
+      let m = count_in bytes in
+      let f = board_fans version n in
+      let from = systems_offset version n boards in
       let fits : from + 2 * (5 * m) ≡ length bytes = omega (arith, s.whole) in
       rw (
-        below_length n (nthNumber survivalBytes bytes (survivalOffset version)),
-        below_length boards (nthNumber survivalBytes bytes (switchboardsOffset version n)),
-        below_length m (systemIn bytes),
+        below_length n (nth_number survival_bytes bytes (survival_offset version)),
+        below_length boards (nth_number survival_bytes bytes (switchboards_offset version n)),
+        below_length m (system_in bytes),
         header-back,
         numbers_of bytes from m,
-        bytes_back survivalBytes bytes (survivalOffset version) n small (omega arith),
-        bytes_back weightBytes bytes (weightsOffset version n) n small (omega arith),
-        bytes_back boardBytes bytes (boardsOffset version n) f small (omega arith),
-        bytes_back survivalBytes bytes (switchboardsOffset version n) boards small (omega arith),
+        bytes_back survival_bytes bytes (survival_offset version) n small (omega arith),
+        bytes_back weight_bytes bytes (weights_offset version n) n small (omega arith),
+        bytes_back board_bytes bytes (boards_offset version n) f small (omega arith),
+        bytes_back survival_bytes bytes (switchboards_offset version n) boards small (omega arith),
         bytes_back 2 bytes from (5 * m) small (omega arith),
-        ← take-add (survivalOffset version) (survivalBytes * n) bytes,
-        ← take-add (weightsOffset version n) (weightBytes * n) bytes,
-        ← take-add (boardsOffset version n) (boardBytes * f) bytes,
-        ← take-add (switchboardsOffset version n) (survivalBytes * boards) bytes,
+        ← take-add (survival_offset version) (survival_bytes * n) bytes,
+        ← take-add (weights_offset version n) (weight_bytes * n) bytes,
+        ← take-add (boards_offset version n) (board_bytes * f) bytes,
+        ← take-add (switchboards_offset version n) (survival_bytes * boards) bytes,
         ← take-add from (2 * (5 * m)) bytes,
       )
       (take_all (from + 2 * (5 * m)) bytes (omega arith))
 
-  pub deck-bounds : Bounds (deckIn bytes)
-  unfolding deckIn
+  pub deck-bounds : Bounds (deck_in bytes)
+  unfolding deck_in
   deck-bounds =
       let n = fans in
-      let m = countIn bytes in
-      let as_many : length (deckIn bytes).survival ≡ n = below_length n _ in
-      let as-boards : length (deckIn bytes).switchboards ≡ boards = below_length boards _ in
-      let systems : length (deckIn bytes).systems ≡ m = below_length m _ in
-      let from = systemsOffset version n boards in
+      let m = count_in bytes in
+      let as_many : length (deck_in bytes).survival ≡ n = below_length n _ in
+      let as-boards : length (deck_in bytes).switchboards ≡ boards = below_length boards _ in
+      let systems : length (deck_in bytes).systems ≡ m = below_length m _ in
+      let from = systems_offset version n boards in
       record {
         versioned = s.versioned;
-        some-fan = omega (arith, s.some-fan);
-        most-fans = omega (arith, s.most-fans);
+        some_fan = omega (arith, s.some_fan);
+        most_fans = omega (arith, s.most_fans);
         weighed = below_length n _ ∙ sym as_many;
-        some-system = omega (arith, s.some-system);
+        some_system = omega (arith, s.some_system);
         most-systems = omega (arith, s.most-systems);
         counted = rw as-boards s.counted;
         placed = rw (as-boards, as_many) s.placed;
-        own-boards = read-own version n _;
-        own-numbers = read-own version (number_at 4 bytes boardCountField) _;
-        survival-fits = under-below n _ (λ i. number_fits survivalBytes bytes (survivalOffset version + survivalBytes * i) small);
-        weights-fit = under-below n _ (λ i. number_fits weightBytes bytes (weightsOffset version n + weightBytes * i) small);
-        boards-fit = under-below boards _ (λ i. number_fits survivalBytes bytes (switchboardsOffset version n + survivalBytes * i) small);
-        systems-fit = rw (numbers_of bytes from m) (under-below (5 * m) _ (λ i. number_fits 2 bytes (from + 2 * i) small));
+        own_boards = read-own version n _;
+        own_numbers = read-own version (number_at 4 bytes board_count_field) _;
+        survival_fits = under-below n _ (λ i. number_fits survival_bytes bytes (survival_offset version + survival_bytes * i) small);
+        weights_fit = under-below n _ (λ i. number_fits weight_bytes bytes (weights_offset version n + weight_bytes * i) small);
+        boards_fit = under-below boards _ (λ i. number_fits survival_bytes bytes (switchboards_offset version n + survival_bytes * i) small);
+        systems_fit = rw (numbers_of bytes from m) (under-below (5 * m) _ (λ i. number_fits 2 bytes (from + 2 * i) small));
       }
 
-pub accepted-exactly : (bytes : List ℕ) → Bytes bytes → (fileRefusal bytes ≡ 0) ↔ ((d : Deck) × Bounds d × (bytes ≡ fileOf d))
+pub accepted-exactly : (bytes : List ℕ) → Bytes bytes → (file_refusal bytes ≡ 0) ↔ ((d : Deck) × Bounds d × (bytes ≡ file_of d))
 accepted-exactly bytes small = (
-  λ e. (deckIn bytes, deck-bounds bytes small e, sym (file-back bytes small e)),
+  λ e. (deck_in bytes, deck-bounds bytes small e, sym (file-back bytes small e)),
   λ h. rw h.2 (file-accepted h.0 h.1),
 )

@@ -2,13 +2,13 @@
 use mathlib.Core.Path.{◌≡◌, sym, ap, ◌∙◌}
 use mathlib.Core.List.{List}
 use Prim.Native.Nat.{ℕ}
-use Rattle.rules.specs.File.{Deck, versionIn, fansIn, countIn, boardCountIn, systemIn, deckIn, fileOf, fileRefusal}
+use Rattle.rules.specs.File.{Deck, version_in, fans_in, count_in, board_count_in, system_in, deck_in, file_of, file_refusal}
 use Rattle.rules.proofs.Lists.{below_length}
 use Rattle.rules.proofs.Unless.{unless-some, unless-none}
 use Rattle.deck.specs.declared.Head.{Head}
 use Rattle.deck.specs.declared.Opened.{Opened}
-use Rattle.deck.specs.Head.{head_of, headFor, noHead, Says}
-use Rattle.deck.specs.Outcome.{refusedBy, Opens, Headed}
+use Rattle.deck.specs.Head.{head_of, head_for, no_head, Says}
+use Rattle.deck.specs.Outcome.{refused_by, Opens, Headed}
 use Rattle.deck.specs.Bounds.{Bounds}
 use Rattle.deck.proofs.File.{file-accepted, deck-back}
 
@@ -24,22 +24,22 @@ head-is s = λ x. record { version = s.version x; fans = s.fans x; systems = s.s
 
 module _ {bytes : List ℕ} where
   -- opened as a refusal, and as a head
-  pub opens-refused : {number : ℕ} {r : Opened} → number ≡ fileRefusal bytes → (number ≡ 0 → ⊥) → r ≡ refusedBy number → Opens bytes r
+  pub opens-refused : {number : ℕ} {r : Opened} → number ≡ file_refusal bytes → (number ≡ 0 → ⊥) → r ≡ refused_by number → Opens bytes r
   opens-refused e some is = record {
     refusal = ap (λ o. o.refusal) is ∙ e;
-    head = ap (λ o. o.head) is ∙ sym (unless-some (fileRefusal bytes) _ _ (λ none. some (e ∙ none)));
+    head = ap (λ o. o.head) is ∙ sym (unless-some (file_refusal bytes) _ _ (λ none. some (e ∙ none)));
   }
 
-  pub opens-head : {head : Head} → Says bytes head → fileRefusal bytes ≡ 0 → Opens bytes (record { refusal = 0; head = head })
-  opens-head s none = record { refusal = sym none; head = head-is s ∙ sym (unless-none (fileRefusal bytes) _ _ none) }
+  pub opens-head : {head : Head} → Says bytes head → file_refusal bytes ≡ 0 → Opens bytes (record { refusal = 0; head = head })
+  opens-head s none = record { refusal = sym none; head = head-is s ∙ sym (unless-none (file_refusal bytes) _ _ none) }
 
   -- and what is known of an outcome by its refusal
   module _ {r : Opened} (opens : Opens bytes r) (none : r.refusal ≡ 0) where
-    pub opened-accepted : fileRefusal bytes ≡ 0
+    pub opened-accepted : file_refusal bytes ≡ 0
     opened-accepted = sym opens.refusal ∙ none
 
     opened-head : r.head ≡ head_of bytes
-    opened-head = opens.head ∙ unless-none (fileRefusal bytes) (λ n. noHead) (head_of bytes) opened-accepted
+    opened-head = opens.head ∙ unless-none (file_refusal bytes) (λ n. no_head) (head_of bytes) opened-accepted
 
     pub opened-headed : Headed bytes r.head
     opened-headed = record {
@@ -53,17 +53,17 @@ module _ {bytes : List ℕ} where
     }
 
 -- a file's head is its deck's
-head-deck : (bytes : List ℕ) → head_of bytes ≡ headFor (deckIn bytes)
-unfolding deckIn
+head-deck : (bytes : List ℕ) → head_of bytes ≡ head_for (deck_in bytes)
+unfolding deck_in
 head-deck bytes =
-    let fans = sym (below_length (fansIn bytes) _) in
-    let systems = sym (below_length (countIn bytes) (systemIn bytes)) in
-    let boards = sym (below_length (boardCountIn bytes) _) in
-    λ x. record { version = versionIn bytes; fans = fans x; systems = systems x; boards = boards x }
+    let fans = sym (below_length (fans_in bytes) _) in
+    let systems = sym (below_length (count_in bytes) (system_in bytes)) in
+    let boards = sym (below_length (board_count_in bytes) _) in
+    λ x. record { version = version_in bytes; fans = fans x; systems = systems x; boards = boards x }
 
 -- opening a file that was written from a deck answers the deck's head
-pub open-file : (d : Deck) → Bounds d → (r : Opened) → Opens (fileOf d) r → r ≡ record { refusal = 0; head = headFor d }
+pub open-file : (d : Deck) → Bounds d → (r : Opened) → Opens (file_of d) r → r ≡ record { refusal = 0; head = head_for d }
 open-file d ok r opens =
     let refusal = opens.refusal ∙ file-accepted d ok in
-    let head = opened-head opens refusal ∙ head-deck (fileOf d) ∙ ap headFor (deck-back d ok) in
+    let head = opened-head opens refusal ∙ head-deck (file_of d) ∙ ap head_for (deck-back d ok) in
     λ x. record { refusal = refusal x; head = head x }

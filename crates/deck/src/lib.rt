@@ -1,14 +1,14 @@
 // The deck file of document 01: it is opened once, into its refusal or its head, and its numbers are read from the
 // bytes where they stand.
 ghost use Rattle.std.specs.Prelude.{◌≡◌, not, false, ◌+◌, ◌^◌, ◌≤◌, ◌<◌, eqb, length, get_or};
-ghost use Rattle.rules.specs.Refusal.{mostBoards};
-ghost use Rattle.rules.specs.File.{mostFans, switchboardsOffset, number_at, boardCountIn, systemIn, deckIn};
-ghost use Rattle.rules.specs.File.{badStart, boardsElsewhere, badLayout, misplacedIn};
-ghost use Rattle.rules.specs.Doubles.{otherRefusal};
+ghost use Rattle.rules.specs.Refusal.{most_boards};
+ghost use Rattle.rules.specs.File.{most_fans, switchboards_offset, number_at, board_count_in, system_in, deck_in};
+ghost use Rattle.rules.specs.File.{bad_start, boards_elsewhere, bad_layout, misplaced_in};
+ghost use Rattle.rules.specs.Doubles.{other_refusal};
 ghost use Rattle.arrays.specs.Padded.{padded};
 ghost use Rattle.deck.specs.Head.{Versioned, Begun, Small, Given};
-ghost use Rattle.deck.specs.Head.{listsElsewhere, boardsBy, lengthBy, countsRefusal};
-ghost use Rattle.deck.specs.Outcome.{bodyRefusal, refusedBy, Opens, Headed, Placed};
+ghost use Rattle.deck.specs.Head.{lists_elsewhere, boards_by, length_by, counts_refusal};
+ghost use Rattle.deck.specs.Outcome.{body_refusal, refused_by, Opens, Headed, Placed};
 
 use layout::number;
 use rules::{System, limit, refusal};
@@ -32,7 +32,7 @@ pub struct Opened {
 // 11: there is no such version, or the zero field is not 0.
 pub fn bad_start(bytes: &[u8], version: u64) -> bool
     requires { Versioned bytes.now version }
-    ensures { result ≡ badStart bytes.now }
+    ensures { result ≡ bad_start bytes.now }
 {
     refusals::version_out(version) | (number::number2(bytes, layout::ZERO_FIELD) != 0)
 }
@@ -40,7 +40,7 @@ pub fn bad_start(bytes: &[u8], version: u64) -> bool
 // How many boards a header gives: none where the version has no boards.
 fn boards_given(bytes: &[u8], version: u64) -> usize
     requires { Begun bytes.now version }
-    ensures { (result ≡ boardCountIn bytes.now) × (result < 2 ^ 32) }
+    ensures { (result ≡ board_count_in bytes.now) × (result < 2 ^ 32) }
 {
     if board_lists::has_boards(version) {
         return number::number4(bytes, layout::BOARD_COUNT_FIELD) as usize;
@@ -67,14 +67,14 @@ pub fn head_given(bytes: &[u8], version: u64) -> Head
 // How long a file is by its head.
 pub fn length_given(head: Head) -> usize
     requires { Small head }
-    ensures { result ≡ lengthBy head }
+    ensures { result ≡ length_by head }
 {
     layout::file_length(head.version, head.fans, head.boards, head.systems)
 }
 
 // Refusals 2, 12 and 20, of the counts that a head gives; 0 for none.
 pub fn counts_refusal(head: Head) -> u64
-    ensures { result ≡ countsRefusal head }
+    ensures { result ≡ counts_refusal head }
 {
     if refusals::outside(1, head.fans as u64, limit::FANS as u64) {
         return refusal::SIZE;
@@ -99,7 +99,7 @@ fn elsewhere(bytes: &[u8], field: usize, from: usize) -> bool
 // Is the offset of the board bytes, where a header has it, not the layout's?
 fn boards_elsewhere(bytes: &[u8], head: Head) -> bool
     requires { Given bytes.now head }
-    ensures { result ≡ boardsElsewhere bytes.now }
+    ensures { result ≡ boards_elsewhere bytes.now }
 {
     if board_lists::has_boards(head.version) {
         let from = layout::boards_offset(head.version, head.fans);
@@ -111,7 +111,7 @@ fn boards_elsewhere(bytes: &[u8], head: Head) -> bool
 // Is one of the other offsets not the layout's?
 fn lists_elsewhere(bytes: &[u8], head: Head) -> bool
     requires { Given bytes.now head }
-    ensures { result ≡ listsElsewhere bytes.now }
+    ensures { result ≡ lists_elsewhere bytes.now }
 {
     let version = head.version;
     let n = head.fans;
@@ -126,7 +126,7 @@ fn lists_elsewhere(bytes: &[u8], head: Head) -> bool
 // 13: an offset or the file's length differs from the layout.
 pub fn bad_layout(bytes: &[u8], head: Head) -> bool
     requires { Given bytes.now head }
-    ensures { result ≡ badLayout bytes.now }
+    ensures { result ≡ bad_layout bytes.now }
 {
     let offsets = lists_elsewhere(bytes, head) | boards_elsewhere(bytes, head);
     offsets | (bytes.len() != length_given(head))
@@ -134,8 +134,8 @@ pub fn bad_layout(bytes: &[u8], head: Head) -> bool
 
 // The board bytes of a file, one for each fan; none where the version has no boards.
 fn board_bytes(bytes: &[u8], version: u64, n: usize) -> &[u8]
-    requires { (n < 2 ^ 16) × (switchboardsOffset version n ≤ length bytes.now) }
-    ensures { result.now ≡ boardsBy bytes.now version n }
+    requires { (n < 2 ^ 16) × (switchboards_offset version n ≤ length bytes.now) }
+    ensures { result.now ≡ boards_by bytes.now version n }
 {
     let from = layout::boards_offset(version, n);
     let upto = from + layout::board_fans(version, n);
@@ -145,8 +145,8 @@ fn board_bytes(bytes: &[u8], version: u64, n: usize) -> &[u8]
 // 21: a fan is on a board that there is not.
 fn misplaced(bytes: &[u8], head: Head) -> bool
     requires given { Given bytes.now head }
-    requires laid { badLayout bytes.now ≡ false }
-    ensures { result ≡ misplacedIn bytes.now }
+    requires laid { bad_layout bytes.now ≡ false }
+    ensures { result ≡ misplaced_in bytes.now }
 {
     let n = head.fans;
     let boards = board_bytes(bytes, head.version, n);
@@ -156,7 +156,7 @@ fn misplaced(bytes: &[u8], head: Head) -> bool
 // Refusals 2, 12, 20, 13 and 21, of a file whose header is there; 0 for none.
 fn body_refusal(bytes: &[u8], head: Head) -> u64
     requires { Given bytes.now head }
-    ensures { result ≡ bodyRefusal bytes.now }
+    ensures { result ≡ body_refusal bytes.now }
 {
     let counted = counts_refusal(head);
     if counted != 0 {
@@ -173,7 +173,7 @@ fn body_refusal(bytes: &[u8], head: Head) -> u64
 
 // A refusal, with a head of zeros beside it.
 pub fn refused(refusal: u64) -> Opened
-    ensures { result ≡ refusedBy refusal }
+    ensures { result ≡ refused_by refusal }
 {
     let head = Head {
         version: 0,
@@ -209,7 +209,7 @@ pub fn open(file: &[u8]) -> Opened
 // The refusal of a file that is not of version 1: 10 where it has none, 11 where it has another; 0 for version 1,
 // whatever follows.
 pub fn other_refusal(bytes: &[u8]) -> u64
-    ensures { result ≡ otherRefusal bytes.now }
+    ensures { result ≡ other_refusal bytes.now }
 {
     if bytes.len() < layout::SHORTEST_HEADER {
         return refusal::SHORT;
@@ -223,7 +223,7 @@ pub fn other_refusal(bytes: &[u8]) -> u64
 // A file's survival numbers, and zeros.
 pub fn survival_in(file: &[u8], head: Head) -> [u32; limit::FANS]
     requires { Headed file.now head }
-    ensures { result ≡ padded mostFans 0 (deckIn file.now).survival }
+    ensures { result ≡ padded most_fans 0 (deck_in file.now).survival }
 {
     let from = layout::header_length(head.version);
     arrays::survival_in(file, from, head.fans)
@@ -232,7 +232,7 @@ pub fn survival_in(file: &[u8], head: Head) -> [u32; limit::FANS]
 // Its weights, and zeros.
 pub fn weights_in(file: &[u8], head: Head) -> [u16; limit::FANS]
     requires { Headed file.now head }
-    ensures { result ≡ padded mostFans 0 (deckIn file.now).weights }
+    ensures { result ≡ padded most_fans 0 (deck_in file.now).weights }
 {
     let from = layout::weights_offset(head.version, head.fans);
     arrays::weights_in(file, from, head.fans)
@@ -241,7 +241,7 @@ pub fn weights_in(file: &[u8], head: Head) -> [u16; limit::FANS]
 // Its fans' board numbers, where they stand.
 pub fn boards_in(file: &[u8], head: Head) -> &[u8]
     requires { Headed file.now head }
-    ensures { result.now ≡ (deckIn file.now).boards }
+    ensures { result.now ≡ (deck_in file.now).boards }
 {
     board_bytes(file, head.version, head.fans)
 }
@@ -249,7 +249,7 @@ pub fn boards_in(file: &[u8], head: Head) -> &[u8]
 // Its boards' survival numbers, and zeros.
 pub fn board_survival_in(file: &[u8], head: Head) -> [u32; limit::BOARDS]
     requires { Headed file.now head }
-    ensures { result ≡ padded mostBoards 0 (deckIn file.now).switchboards }
+    ensures { result ≡ padded most_boards 0 (deck_in file.now).switchboards }
 {
     let from = layout::board_survival_offset(head.version, head.fans);
     arrays::board_survival_in(file, from, head.boards)
@@ -258,7 +258,7 @@ pub fn board_survival_in(file: &[u8], head: Head) -> [u32; limit::BOARDS]
 // Its system at a place, counted from 0.
 pub fn system_in(file: &[u8], head: Head, s: usize) -> System
     requires { Placed file.now head s }
-    ensures { result ≡ systemIn file.now s }
+    ensures { result ≡ system_in file.now s }
 {
     let from = layout::systems_offset(head.version, head.fans, head.boards);
     arrays::system_at(file, from + layout::SYSTEM_BYTES * s)
@@ -268,7 +268,7 @@ pub fn system_in(file: &[u8], head: Head, s: usize) -> System
 pub fn survival_at(file: &[u8], head: Head, i: usize) -> u64
     requires headed { Headed file.now head }
     requires place { i < head.fans }
-    ensures { result ≡ get_or (deckIn file.now).survival i 0 }
+    ensures { result ≡ get_or (deck_in file.now).survival i 0 }
 {
     let from = layout::header_length(head.version);
     number::number4(file, from + layout::SURVIVAL_BYTES * i)
@@ -278,7 +278,7 @@ pub fn survival_at(file: &[u8], head: Head, i: usize) -> u64
 pub fn weight_at(file: &[u8], head: Head, i: usize) -> u64
     requires headed { Headed file.now head }
     requires place { i < head.fans }
-    ensures { result ≡ get_or (deckIn file.now).weights i 0 }
+    ensures { result ≡ get_or (deck_in file.now).weights i 0 }
 {
     let from = layout::weights_offset(head.version, head.fans);
     number::number2(file, from + layout::WEIGHT_BYTES * i)
@@ -287,7 +287,7 @@ pub fn weight_at(file: &[u8], head: Head, i: usize) -> u64
 // That fan's board number, 0 where the version has no boards.
 pub fn board_at(file: &[u8], head: Head, i: usize) -> u64
     requires { Headed file.now head }
-    ensures { result ≡ get_or (deckIn file.now).boards i 0 }
+    ensures { result ≡ get_or (deck_in file.now).boards i 0 }
 {
     let boards = boards_in(file, head);
     if i < boards.len() {
@@ -300,7 +300,7 @@ pub fn board_at(file: &[u8], head: Head, i: usize) -> u64
 pub fn board_survival_at(file: &[u8], head: Head, i: usize) -> u64
     requires headed { Headed file.now head }
     requires place { i < head.boards }
-    ensures { result ≡ get_or (deckIn file.now).switchboards i 0 }
+    ensures { result ≡ get_or (deck_in file.now).switchboards i 0 }
 {
     let from = layout::board_survival_offset(head.version, head.fans);
     number::number4(file, from + layout::SURVIVAL_BYTES * i)

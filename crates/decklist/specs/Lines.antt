@@ -4,66 +4,66 @@ use Rattle.std.specs.Prelude.{Bool, true, false, List, ◌++◌, ℕ, ◌+◌, �
 use Rattle.rules.specs.declared.Rating.{Rating}
 use Rattle.rules.specs.declared.Rating.TheVariants.{Range, Refused}
 use Rattle.rules.specs.State.{unit_of}
-use Rattle.rules.specs.File.{mostSystems, versionIn, fansIn, countIn, systemIn, deckIn, answer_in}
+use Rattle.rules.specs.File.{most_systems, version_in, fans_in, count_in, system_in, deck_in, answer_in}
 use Rattle.text.specs.Decimal.{text}
-use Rattle.text.specs.Lines.{named, namedRoom, pairText, pairRoom}
+use Rattle.text.specs.Lines.{named, named_room, pair_text, pair_room}
 use Rattle.advice.specs.declared.why.Why.{Why}
-use Rattle.advice.specs.System.{systemWhy}
-use Rattle.printing.specs.Lines.{linesText, wordedText, wordedRoom}
-use Rattle.percent.specs.Percent.{rangeText, rangeRoom}
+use Rattle.advice.specs.System.{system_why}
+use Rattle.printing.specs.Lines.{lines_text, worded_text, worded_room}
+use Rattle.percent.specs.Percent.{range_text, range_room}
 
 -- what follows low and high, in parts of the unit u: the same in percent where that is asked for, and the line's end
-abbrev pub endText : (percent : Bool) (u low high : ℕ) → List ℕ
-endText false u low high = text "\n"
-endText true u low high = rangeText u low high ++ text "\n"
+abbrev pub end_text : (percent : Bool) (u low high : ℕ) → List ℕ
+end_text false u low high = text "\n"
+end_text true u low high = range_text u low high ++ text "\n"
 
-abbrev pub endRoom : ℕ
-endRoom = rangeRoom + 1
+abbrev pub end_room : ℕ
+end_room = range_room + 1
 
 -- "then low and high, or the refusal", with why it is given where words are asked for
-abbrev pub answerText : (percent : Bool) (u low high : ℕ) → List ℕ
-answerText percent u low high = pairText (text " low ") low (text " high ") high ++ endText percent u low high
+abbrev pub answer_text : (percent : Bool) (u low high : ℕ) → List ℕ
+answer_text percent u low high = pair_text (text " low ") low (text " high ") high ++ end_text percent u low high
 
-abbrev pub answerRoom : ℕ
-answerRoom = pairRoom (text " low ") (text " high ") + endRoom
+abbrev pub answer_room : ℕ
+answer_room = pair_room (text " low ") (text " high ") + end_room
 
-abbrev pub ratingText : (percent words : Bool) (u : ℕ) (why : ℕ → Why) → Rating → List ℕ
-ratingText percent words u why (Range low high) = answerText percent u low high
-ratingText percent words u why (Refused number) = wordedText words (why number) number
+abbrev pub rating_text : (percent words : Bool) (u : ℕ) (why : ℕ → Why) → Rating → List ℕ
+rating_text percent words u why (Range low high) = answer_text percent u low high
+rating_text percent words u why (Refused number) = worded_text words (why number) number
 
-abbrev pub ratingRoom : ℕ
-ratingRoom = answerRoom + wordedRoom
+abbrev pub rating_room : ℕ
+rating_room = answer_room + worded_room
 
 -- "one line per system: its number"
-abbrev pub lineText : (percent words : Bool) (u system : ℕ) (why : ℕ → Why) → Rating → List ℕ
-lineText percent words u system why rating = named (text "system ") system ++ ratingText percent words u why rating
+abbrev pub line_text : (percent words : Bool) (u system : ℕ) (why : ℕ → Why) → Rating → List ℕ
+line_text percent words u system why rating = named (text "system ") system ++ rating_text percent words u why rating
 
-abbrev pub lineRoom : ℕ
-lineRoom = namedRoom (text "system ") + ratingRoom
+abbrev pub line_room : ℕ
+line_room = named_room (text "system ") + rating_room
 
 -- of a file's system, counted from 0, in parts of the file's unit; and of all its systems
-abbrev pub whyIn : (bytes : List ℕ) (s number : ℕ) → Why
-whyIn bytes s number = systemWhy (deckIn bytes) (systemIn bytes s) number
+abbrev pub why_in : (bytes : List ℕ) (s number : ℕ) → Why
+why_in bytes s number = system_why (deck_in bytes) (system_in bytes s) number
 
-abbrev pub systemLine : (percent words : Bool) (bytes : List ℕ) (s : ℕ) → List ℕ
-systemLine percent words bytes s = lineText percent words (unit_of (versionIn bytes)) (s + 1) (whyIn bytes s) (answer_in bytes s)
+abbrev pub system_line : (percent words : Bool) (bytes : List ℕ) (s : ℕ) → List ℕ
+system_line percent words bytes s = line_text percent words (unit_of (version_in bytes)) (s + 1) (why_in bytes s) (answer_in bytes s)
 
-abbrev pub systemsText : (percent words : Bool) (bytes : List ℕ) → List ℕ
-systemsText percent words bytes = linesText (countIn bytes) (systemLine percent words bytes)
+abbrev pub systems_text : (percent words : Bool) (bytes : List ℕ) → List ℕ
+systems_text percent words bytes = lines_text (count_in bytes) (system_line percent words bytes)
 
-abbrev pub linesRoom : ℕ
-linesRoom = lineRoom * mostSystems
+abbrev pub lines_room : ℕ
+lines_room = line_room * most_systems
 
 -- "Its first line gives n and m"
-abbrev pub headText : (n m : ℕ) → List ℕ
-headText n m = pairText (text "deck ") n (text " systems ") m ++ text "\n"
+abbrev pub head_text : (n m : ℕ) → List ℕ
+head_text n m = pair_text (text "deck ") n (text " systems ") m ++ text "\n"
 
-abbrev pub headRoom : ℕ
-headRoom = pairRoom (text "deck ") (text " systems ") + 1
+abbrev pub head_room : ℕ
+head_room = pair_room (text "deck ") (text " systems ") + 1
 
 -- all that decklist prints for a file that is not refused, and the room that it is given
-abbrev pub listText : (percent words : Bool) → List ℕ → List ℕ
-listText percent words bytes = headText (fansIn bytes) (countIn bytes) ++ systemsText percent words bytes
+abbrev pub list_text : (percent words : Bool) → List ℕ → List ℕ
+list_text percent words bytes = head_text (fans_in bytes) (count_in bytes) ++ systems_text percent words bytes
 
-abbrev pub outputRoom : ℕ
-outputRoom = 16384
+abbrev pub output_room : ℕ
+output_room = 16384

@@ -1,17 +1,17 @@
 // The lines that decklist prints, put into a buffer.
 ghost use Rattle.std.specs.Prelude.{◌+◌, ◌≤◌, length};
 ghost use Rattle.rules.specs.State.{S, unit_of};
-ghost use Rattle.rules.specs.File.{versionIn};
+ghost use Rattle.rules.specs.File.{version_in};
 ghost use Rattle.units.specs.Step.{whole};
 ghost use Rattle.text.specs.Added.{Added};
 ghost use Rattle.rules.specs.Within.{WithinUnit};
 ghost use Rattle.deck.specs.Outcome.{Headed, Placed};
-ghost use Rattle.printing.specs.Lines.{wordedText, wordedRoom, wordedPrint};
+ghost use Rattle.printing.specs.Lines.{worded_text, worded_room, worded_print};
 ghost use Rattle.printing.specs.Front.{WholeWorded};
-ghost use Rattle.decklist.specs.Lines.{endText, answerText, ratingText, whyIn, systemLine};
-ghost use Rattle.decklist.specs.Lines.{systemsText, headText, listText};
-ghost use Rattle.decklist.specs.Lines.{endRoom, answerRoom, ratingRoom, lineRoom, linesRoom};
-ghost use Rattle.decklist.specs.Lines.{headRoom, outputRoom};
+ghost use Rattle.decklist.specs.Lines.{end_text, answer_text, rating_text, why_in, system_line};
+ghost use Rattle.decklist.specs.Lines.{systems_text, head_text, list_text};
+ghost use Rattle.decklist.specs.Lines.{end_room, answer_room, rating_room, line_room, lines_room};
+ghost use Rattle.decklist.specs.Lines.{head_room, output_room};
 
 use deck::Head;
 use printing::INPUT;
@@ -24,8 +24,8 @@ pub const OUTPUT: usize = 16384;
 // What follows low and high: the same in percent where that is asked for, and the line's end.
 fn put_end(percent: bool, decimal: bool, low: u64, high: u64, out: &mut [u8], at: usize) -> usize
     requires within { (low ≤ S) × (high ≤ S) }
-    requires room { at + endRoom ≤ length out.old }
-    ensures { Added (endText percent (whole decimal) low high) out.old at out.new result }
+    requires room { at + end_room ≤ length out.old }
+    ensures { Added (end_text percent (whole decimal) low high) out.old at out.new result }
 {
     if !percent {
         return text::put(out, at, b"\n");
@@ -37,8 +37,8 @@ fn put_end(percent: bool, decimal: bool, low: u64, high: u64, out: &mut [u8], at
 // ` low L high H`, and what follows.
 fn put_answer(percent: bool, decimal: bool, low: u64, high: u64, out: &mut [u8], at: usize) -> usize
     requires within { (low ≤ S) × (high ≤ S) }
-    requires room { at + answerRoom ≤ length out.old }
-    ensures { Added (answerText percent (whole decimal) low high) out.old at out.new result }
+    requires room { at + answer_room ≤ length out.old }
+    ensures { Added (answer_text percent (whole decimal) low high) out.old at out.new result }
 {
     let end = lines::put_pair(b" low ", low, b" high ", high, out, at);
     put_end(percent, decimal, low, high, out, end)
@@ -55,9 +55,9 @@ fn put_refusal(
     at: usize,
 ) -> usize
     requires placed { Placed file.now head s }
-    requires room { at + wordedRoom ≤ length out.old }
-    ensures { let why = whyIn file.now s number in
-        Added (wordedText words why number) out.old at out.new result }
+    requires room { at + worded_room ≤ length out.old }
+    ensures { let why = why_in file.now s number in
+        Added (worded_text words why number) out.old at out.new result }
 {
     let why = advice::system::system_why(file, head, s, number);
     printing::put_worded(words, why, number, out, at)
@@ -76,9 +76,9 @@ fn put_rating(
 ) -> usize
     requires placed { Placed file.now head s }
     requires within { WithinUnit rating }
-    requires room { at + ratingRoom ≤ length out.old }
+    requires room { at + rating_room ≤ length out.old }
     ensures { let bytes = file.now in
-        let text = ratingText percent words (unit_of (versionIn bytes)) (whyIn bytes s) rating in
+        let text = rating_text percent words (unit_of (version_in bytes)) (why_in bytes s) rating in
         Added text out.old at out.new result }
 {
     match rating {
@@ -101,8 +101,8 @@ fn put_system(
     at: usize,
 ) -> usize
     requires placed { Placed file.now head s }
-    requires room { at + lineRoom ≤ length out.old }
-    ensures { let line = systemLine percent words file.now s in
+    requires room { at + line_room ≤ length out.old }
+    ensures { let line = system_line percent words file.now s in
         Added line out.old at out.new result }
 {
     let rating = systems::rate(file, head, s);
@@ -120,8 +120,8 @@ fn put_systems(
     at: usize,
 ) -> usize
     requires headed { Headed file.now head }
-    requires room { at + linesRoom ≤ length out.old }
-    ensures { Added (systemsText percent words file.now) out.old at out.new result }
+    requires room { at + lines_room ≤ length out.old }
+    ensures { Added (systems_text percent words file.now) out.old at out.new result }
 {
     let mut end = at;
     let mut s: usize = 0;
@@ -134,8 +134,8 @@ fn put_systems(
 
 // The first line.
 fn put_head(n: u64, m: u64, out: &mut [u8]) -> usize
-    requires { headRoom ≤ length out.old }
-    ensures { Added (headText n m) out.old 0 out.new result }
+    requires { head_room ≤ length out.old }
+    ensures { Added (head_text n m) out.old 0 out.new result }
 {
     let end = lines::put_pair(b"deck ", n, b" systems ", m, out, 0);
     text::put(out, end, b"\n")
@@ -143,8 +143,8 @@ fn put_head(n: u64, m: u64, out: &mut [u8]) -> usize
 
 // All that is printed for a file.
 fn put_file(percent: bool, words: bool, file: &[u8], out: &mut [u8]) -> usize
-    requires { outputRoom ≤ length out.old }
-    ensures { let text = wordedPrint words (listText percent words) file.now in
+    requires { output_room ≤ length out.old }
+    ensures { let text = worded_print words (list_text percent words) file.now in
         Added text out.old 0 out.new result }
 {
     let opened = deck::open(file);
@@ -165,8 +165,8 @@ pub fn list_front(
     out: &mut [u8],
 ) -> usize
     requires within { filled ≤ length input.now }
-    requires room { outputRoom ≤ length out.old }
-    ensures { WholeWorded words (listText percent words) input.now filled out.new result }
+    requires room { output_room ≤ length out.old }
+    ensures { WholeWorded words (list_text percent words) input.now filled out.new result }
 {
     put_file(percent, words, printing::front_of(input, filled), out)
 }

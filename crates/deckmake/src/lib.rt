@@ -2,11 +2,11 @@
 mod text; // text.rt: the loop over a text of any length
 
 ghost use Rattle.std.specs.Prelude.{◌+◌, ◌≤◌, ◌<◌, length};
-ghost use Rattle.listing.specs.Holds.{mostLines};
-ghost use Rattle.making.specs.Lines.{warningsRoom};
-ghost use Rattle.making.specs.Made.{fileRoom};
+ghost use Rattle.listing.specs.Holds.{most_lines};
+ghost use Rattle.making.specs.Lines.{warnings_room};
+ghost use Rattle.making.specs.Made.{file_room};
 ghost use Rattle.shell.specs.Status.{Status};
-ghost use Rattle.text_stream.specs.Feeding.{lineRoom, Sane};
+ghost use Rattle.text_stream.specs.Feeding.{line_room, Sane};
 ghost use Rattle.deckmake.specs.Made.{MadeFrom, EndsBy};
 
 use making::Made;
@@ -24,8 +24,8 @@ const OUT: usize = 0;
 
 // Makes the deck of all bytes that were fed, and says what is to be said of it.
 fn make_fed(feeding: Feeding, line: &[u8], file: &mut [u8], out: &mut [u8]) -> Made
-    requires sane { Sane feeding out.old × (feeding.listing.lines + 1 < mostLines) }
-    requires line_room_in_bounds { (lineRoom ≤ length line.now) × (fileRoom ≤ length file.old) × (warningsRoom ≤ length out.old) }
+    requires sane { Sane feeding out.old × (feeding.listing.lines + 1 < most_lines) }
+    requires line_room_in_bounds { (line_room ≤ length line.now) × (file_room ≤ length file.old) × (warnings_room ≤ length out.old) }
     ensures { MadeFrom feeding line.now out.old file.new out.new result }
 {
     let listing = text_stream::finish(feeding, line, out);
@@ -34,8 +34,8 @@ fn make_fed(feeding: Feeding, line: &[u8], file: &mut [u8], out: &mut [u8]) -> M
 
 // Hands that over.
 fn hand_fed(feeding: Feeding, line: &[u8], out: &mut [u8], place: usize) -> i32
-    requires sane { Sane feeding out.old × (feeding.listing.lines + 1 < mostLines) }
-    requires line_room_in_bounds { (lineRoom ≤ length line.now) × (warningsRoom ≤ length out.old) }
+    requires sane { Sane feeding out.old × (feeding.listing.lines + 1 < most_lines) }
+    requires line_room_in_bounds { (line_room ≤ length line.now) × (warnings_room ≤ length out.old) }
     ensures ends_by { EndsBy feeding line.now out.old result }
     ensures status { Status result }
 {
@@ -48,8 +48,8 @@ fn hand_fed(feeding: Feeding, line: &[u8], out: &mut [u8], place: usize) -> i32
 
 // The same of what was read of a text; nothing is made of one that could not be read.
 fn hand_text(text: Text, line: &[u8], out: &mut [u8], place: usize) -> i32
-    requires sane { Sane text.feeding out.old × (text.feeding.listing.lines + 1 < mostLines) }
-    requires line_room_in_bounds { (lineRoom ≤ length line.now) × (warningsRoom ≤ length out.old) }
+    requires sane { Sane text.feeding out.old × (text.feeding.listing.lines + 1 < most_lines) }
+    requires line_room_in_bounds { (line_room ≤ length line.now) × (warnings_room ≤ length out.old) }
     ensures ends_by { EndsBy text.feeding line.now out.old result }
     ensures status { Status result }
 {

@@ -1,8 +1,8 @@
 // The loop over a text of any length: what each read brings is fed.
 ghost use Rattle.std.specs.Prelude.{◌+◌, ◌≤◌, ◌<◌, length};
-ghost use Rattle.typed_lists.specs.Told.{toldRoom};
-ghost use Rattle.listing.specs.Holds.{mostLines};
-ghost use Rattle.text_stream.specs.Feeding.{lineRoom, Sane};
+ghost use Rattle.typed_lists.specs.Told.{told_room};
+ghost use Rattle.listing.specs.Holds.{most_lines};
+ghost use Rattle.text_stream.specs.Feeding.{line_room, Sane};
 
 use options::Asked;
 use shell::names::LABEL;
@@ -25,9 +25,9 @@ pub struct Text {
 
 // The text of an open input; a read that fails is told by its label.
 fn read_text(fd: i32, label: &[u8], line: &mut [u8], out: &mut [u8]) -> Text
-    requires { (lineRoom ≤ length line.old) × (toldRoom ≤ length out.old) }
+    requires { (line_room ≤ length line.old) × (told_room ≤ length out.old) }
     ensures { Sane result.feeding out.new ×
-        (result.feeding.listing.lines + 1 < mostLines) }
+        (result.feeding.listing.lines + 1 < most_lines) }
 {
     let mut piece = [0u8; PIECE];
     let mut feeding = text_stream::start();
@@ -54,9 +54,9 @@ fn read_text(fd: i32, label: &[u8], line: &mut [u8], out: &mut [u8]) -> Text
 
 // The text that is asked for; one that cannot be opened is told.
 pub fn read_asked(asked: Asked, line: &mut [u8], out: &mut [u8]) -> Text
-    requires { (lineRoom ≤ length line.old) × (toldRoom ≤ length out.old) }
+    requires { (line_room ≤ length line.old) × (told_room ≤ length out.old) }
     ensures { Sane result.feeding out.new ×
-        (result.feeding.listing.lines + 1 < mostLines) }
+        (result.feeding.listing.lines + 1 < most_lines) }
 {
     let mut label = [0u8; LABEL];
     let end = names::put_label(b"deckmake", asked.first, b"standard input", &mut label);

@@ -1,10 +1,10 @@
 // What deckmend writes, put into buffers: the mended file, and the lines of what was changed and cut, or of a refused
 // file.
 ghost use Rattle.std.specs.Prelude.{◌+◌, ◌*◌, ◌^◌, ◌≤◌, ◌<◌, length};
-ghost use Rattle.rules.specs.Mending.{perChange};
+ghost use Rattle.rules.specs.Mending.{per_change};
 ghost use Rattle.text.specs.Added.{Added};
-ghost use Rattle.deckmend.specs.Lines.{endText, endRoom, changeText, changeRoom, changesText, linesRoom};
-ghost use Rattle.deckmend.specs.Whole.{fileRoom, WholeMended};
+ghost use Rattle.deckmend.specs.Lines.{end_text, end_room, change_text, change_room, changes_text, lines_room};
+ghost use Rattle.deckmend.specs.Whole.{file_room, WholeMended};
 
 use printing::INPUT;
 use rules::Mending;
@@ -29,8 +29,8 @@ pub struct Told {
 
 // A named number and the line's end.
 fn put_end(name: &[u8], n: u64, out: &mut [u8], at: usize) -> usize
-    requires { at + endRoom name.now ≤ length out.old }
-    ensures { Added (endText name.now n) out.old at out.new result }
+    requires { at + end_room name.now ≤ length out.old }
+    ensures { Added (end_text name.now n) out.old at out.new result }
 {
     let end = text::put_named(name, n, out, at);
     text::put(out, end, b"\n")
@@ -38,8 +38,8 @@ fn put_end(name: &[u8], n: u64, out: &mut [u8], at: usize) -> usize
 
 // The line of a change.
 fn put_change(place: u64, old: u64, new: u64, out: &mut [u8], at: usize) -> usize
-    requires { at + changeRoom ≤ length out.old }
-    ensures { Added (changeText place old new) out.old at out.new result }
+    requires { at + change_room ≤ length out.old }
+    ensures { Added (change_text place old new) out.old at out.new result }
 {
     let end = lines::put_pair(b"byte ", place, b" was ", old, out, at);
     put_end(b" is ", new, out, end)
@@ -47,10 +47,10 @@ fn put_change(place: u64, old: u64, new: u64, out: &mut [u8], at: usize) -> usiz
 
 // The lines of the first changes of a list.
 fn put_changes(list: &[u64], changed: usize, out: &mut [u8]) -> usize
-    requires listed { perChange * changed ≤ length list.now }
-    requires room { changeRoom * changed ≤ length out.old }
-    ensures added { Added (changesText changed list.now) out.old 0 out.new result }
-    ensures reach { result ≤ changeRoom * changed }
+    requires listed { per_change * changed ≤ length list.now }
+    requires room { change_room * changed ≤ length out.old }
+    ensures added { Added (changes_text changed list.now) out.old 0 out.new result }
+    ensures reach { result ≤ change_room * changed }
 {
     let mut end: usize = 0;
     let mut i: usize = 0;
@@ -72,7 +72,7 @@ pub fn mend_front(
     out: &mut [u8],
 ) -> Told
     requires within { (filled ≤ length input.now) × (rest < 2 ^ 63) }
-    requires rooms { (fileRoom ≤ length file.old) × (linesRoom ≤ length out.old) }
+    requires rooms { (file_room ≤ length file.old) × (lines_room ≤ length out.old) }
     ensures { WholeMended input.now filled rest file.new out.new result }
 {
     let buffer: &[u8] = input;

@@ -1,14 +1,14 @@
 // The lines that deckshow prints, put into a buffer.
 ghost use Rattle.std.specs.Prelude.{◌+◌, ◌≤◌, ◌<◌, length};
-ghost use Rattle.rules.specs.File.{deckIn};
+ghost use Rattle.rules.specs.File.{deck_in};
 ghost use Rattle.text.specs.Added.{Added};
-ghost use Rattle.wording.specs.Lines.{boardRoom, fanRoom, systemRoom};
+ghost use Rattle.wording.specs.Lines.{board_room, fan_room, system_room};
 ghost use Rattle.deck.specs.Outcome.{Headed, Placed};
-ghost use Rattle.printing.specs.Lines.{printText};
+ghost use Rattle.printing.specs.Lines.{print_text};
 ghost use Rattle.printing.specs.Front.{WholePrinted};
-ghost use Rattle.deckshow.specs.Lines.{boardLine, boardsText, fanLine, fansText, systemLine, systemsText};
-ghost use Rattle.deckshow.specs.Lines.{showText};
-ghost use Rattle.deckshow.specs.Lines.{boardsRoom, fansRoom, systemsRoom, outputRoom};
+ghost use Rattle.deckshow.specs.Lines.{board_line, boards_text, fan_line, fans_text, system_line, systems_text};
+ghost use Rattle.deckshow.specs.Lines.{show_text};
+ghost use Rattle.deckshow.specs.Lines.{boards_room, fans_room, systems_room, output_room};
 
 use deck::Head;
 use printing::INPUT;
@@ -21,8 +21,8 @@ pub const OUTPUT: usize = 9481;
 fn put_board(file: &[u8], head: Head, i: usize, out: &mut [u8], at: usize) -> usize
     requires headed { Headed file.now head }
     requires place { i < head.boards }
-    requires room { at + boardRoom ≤ length out.old }
-    ensures { Added (boardLine (deckIn file.now) i) out.old at out.new result }
+    requires room { at + board_room ≤ length out.old }
+    ensures { Added (board_line (deck_in file.now) i) out.old at out.new result }
 {
     let parts = deck::board_survival_at(file, head, i);
     wording::put_board(parts, out, at)
@@ -31,8 +31,8 @@ fn put_board(file: &[u8], head: Head, i: usize, out: &mut [u8], at: usize) -> us
 // The lines of its boards.
 fn put_boards(file: &[u8], head: Head, out: &mut [u8], at: usize) -> usize
     requires headed { Headed file.now head }
-    requires room { at + boardsRoom ≤ length out.old }
-    ensures { Added (boardsText (deckIn file.now)) out.old at out.new result }
+    requires room { at + boards_room ≤ length out.old }
+    ensures { Added (boards_text (deck_in file.now)) out.old at out.new result }
 {
     let mut end = at;
     let mut i: usize = 0;
@@ -47,8 +47,8 @@ fn put_boards(file: &[u8], head: Head, out: &mut [u8], at: usize) -> usize
 fn put_fan(file: &[u8], head: Head, i: usize, out: &mut [u8], at: usize) -> usize
     requires headed { Headed file.now head }
     requires place { i < head.fans }
-    requires room { at + fanRoom ≤ length out.old }
-    ensures { Added (fanLine (deckIn file.now) i) out.old at out.new result }
+    requires room { at + fan_room ≤ length out.old }
+    ensures { Added (fan_line (deck_in file.now) i) out.old at out.new result }
 {
     let parts = deck::survival_at(file, head, i);
     let weight = deck::weight_at(file, head, i);
@@ -59,8 +59,8 @@ fn put_fan(file: &[u8], head: Head, i: usize, out: &mut [u8], at: usize) -> usiz
 // The lines of its fans.
 fn put_fans(file: &[u8], head: Head, out: &mut [u8], at: usize) -> usize
     requires headed { Headed file.now head }
-    requires room { at + fansRoom ≤ length out.old }
-    ensures { Added (fansText (deckIn file.now)) out.old at out.new result }
+    requires room { at + fans_room ≤ length out.old }
+    ensures { Added (fans_text (deck_in file.now)) out.old at out.new result }
 {
     let mut end = at;
     let mut i: usize = 0;
@@ -74,8 +74,8 @@ fn put_fans(file: &[u8], head: Head, out: &mut [u8], at: usize) -> usize
 // The line of its system at a place, counted from 0.
 fn put_system(file: &[u8], head: Head, s: usize, out: &mut [u8], at: usize) -> usize
     requires placed { Placed file.now head s }
-    requires room { at + systemRoom ≤ length out.old }
-    ensures { Added (systemLine (deckIn file.now) s) out.old at out.new result }
+    requires room { at + system_room ≤ length out.old }
+    ensures { Added (system_line (deck_in file.now) s) out.old at out.new result }
 {
     let system = deck::system_in(file, head, s);
     let rule = system.rule;
@@ -94,8 +94,8 @@ fn put_system(file: &[u8], head: Head, s: usize, out: &mut [u8], at: usize) -> u
 // The lines of its systems.
 fn put_systems(file: &[u8], head: Head, out: &mut [u8], at: usize) -> usize
     requires headed { Headed file.now head }
-    requires room { at + systemsRoom ≤ length out.old }
-    ensures { Added (systemsText (deckIn file.now)) out.old at out.new result }
+    requires room { at + systems_room ≤ length out.old }
+    ensures { Added (systems_text (deck_in file.now)) out.old at out.new result }
 {
     let mut end = at;
     let mut s: usize = 0;
@@ -109,8 +109,8 @@ fn put_systems(file: &[u8], head: Head, out: &mut [u8], at: usize) -> usize
 // All lines of its deck.
 fn put_deck(file: &[u8], head: Head, out: &mut [u8]) -> usize
     requires headed { Headed file.now head }
-    requires room { outputRoom ≤ length out.old }
-    ensures { Added (showText file.now) out.old 0 out.new result }
+    requires room { output_room ≤ length out.old }
+    ensures { Added (show_text file.now) out.old 0 out.new result }
 {
     let version = wording::put_version(head.version, out, 0);
     let boards = put_boards(file, head, out, version);
@@ -120,8 +120,8 @@ fn put_deck(file: &[u8], head: Head, out: &mut [u8]) -> usize
 
 // All that is printed for a file.
 fn put_file(file: &[u8], out: &mut [u8]) -> usize
-    requires { outputRoom ≤ length out.old }
-    ensures { Added (printText showText file.now) out.old 0 out.new result }
+    requires { output_room ≤ length out.old }
+    ensures { Added (print_text show_text file.now) out.old 0 out.new result }
 {
     let opened = deck::open(file);
     if opened.refusal != 0 {
@@ -134,8 +134,8 @@ fn put_file(file: &[u8], out: &mut [u8]) -> usize
 // All that is printed for an input, of which the buffer holds the front: all of it, or as much as the buffer takes.
 pub fn show_front(input: &[u8; INPUT], filled: usize, out: &mut [u8]) -> usize
     requires within { filled ≤ length input.now }
-    requires room { outputRoom ≤ length out.old }
-    ensures { WholePrinted showText input.now filled out.new result }
+    requires room { output_room ≤ length out.old }
+    ensures { WholePrinted show_text input.now filled out.new result }
 {
     put_file(printing::front_of(input, filled), out)
 }

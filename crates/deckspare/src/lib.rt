@@ -5,7 +5,7 @@ mod lines; // lines.rt: the lines
 ghost use Rattle.std.specs.Prelude.{◌≡◌, ◌≤◌, length};
 ghost use Rattle.io.specs.Counts.{IsPrefixLen};
 ghost use Rattle.shell.specs.Status.{Status, failed};
-ghost use Rattle.grammar.specs.Numbers.{offGrid};
+ghost use Rattle.grammar.specs.Numbers.{off_grid};
 ghost use Rattle.printing.specs.Front.{WholeEnds};
 
 use lines::Wanted;
@@ -41,7 +41,7 @@ const NUMBERS: usize = 96;
 
 // Puts the two parts that a decimal stands between.
 fn put_nearest(p: u64, out: &mut [u8; NUMBERS]) -> usize
-    requires { offGrid ≤ p }
+    requires { off_grid ≤ p }
     ensures { IsPrefixLen result out.new }
 {
     let line: &mut [u8] = out;

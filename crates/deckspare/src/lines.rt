@@ -2,10 +2,10 @@
 ghost use Rattle.std.specs.Prelude.{◌+◌, ◌≤◌, length};
 ghost use Rattle.text.specs.Added.{Added};
 ghost use Rattle.deck.specs.Outcome.{Headed, Placed};
-ghost use Rattle.printing.specs.Lines.{printText};
+ghost use Rattle.printing.specs.Lines.{print_text};
 ghost use Rattle.printing.specs.Front.{WholePrinted};
-ghost use Rattle.spare_lines.specs.System.{systemRoom};
-ghost use Rattle.deckspare.specs.Lines.{systemLines, systemsText, listText, outputRoom};
+ghost use Rattle.spare_lines.specs.System.{system_room};
+ghost use Rattle.deckspare.specs.Lines.{system_lines, systems_text, list_text, output_room};
 
 use deck::Head;
 use printing::INPUT;
@@ -25,8 +25,8 @@ pub struct Wanted {
 // What is printed of a file's system. Only the lists are copied from the file's bytes.
 fn put_system(file: &[u8], head: Head, job: Job, out: &mut [u8], at: usize) -> usize
     requires placed { Placed file.now head job.s }
-    requires room { at + systemRoom ≤ length out.old }
-    ensures { Added (systemLines file.now job) out.old at out.new result }
+    requires room { at + system_room ≤ length out.old }
+    ensures { Added (system_lines file.now job) out.old at out.new result }
 {
     let n = head.fans;
     let g = head.boards;
@@ -57,8 +57,8 @@ fn put_system(file: &[u8], head: Head, job: Job, out: &mut [u8], at: usize) -> u
 // The lines of its systems, of a spare with survival number p.
 fn put_systems(file: &[u8], head: Head, p: u64, wanted: Wanted, out: &mut [u8]) -> usize
     requires headed { Headed file.now head }
-    requires room { outputRoom ≤ length out.old }
-    ensures { Added (systemsText p wanted file.now) out.old 0 out.new result }
+    requires room { output_room ≤ length out.old }
+    ensures { Added (systems_text p wanted file.now) out.old 0 out.new result }
 {
     let mut end = 0;
     let mut s: usize = 0;
@@ -77,8 +77,8 @@ fn put_systems(file: &[u8], head: Head, p: u64, wanted: Wanted, out: &mut [u8]) 
 
 // All that is printed for a file, of the spare that a word names.
 fn put_file(word: &[u8], wanted: Wanted, file: &[u8], out: &mut [u8]) -> usize
-    requires { outputRoom ≤ length out.old }
-    ensures { let text = printText (listText word.now wanted) file.now in
+    requires { output_room ≤ length out.old }
+    ensures { let text = print_text (list_text word.now wanted) file.now in
         Added text out.old 0 out.new result }
 {
     let opened = deck::open(file);
@@ -99,8 +99,8 @@ pub fn list_front(
     out: &mut [u8],
 ) -> usize
     requires within { filled ≤ length input.now }
-    requires room { outputRoom ≤ length out.old }
-    ensures { let body = listText word.now wanted in
+    requires room { output_room ≤ length out.old }
+    ensures { let body = list_text word.now wanted in
         WholePrinted body input.now filled out.new result }
 {
     put_file(word, wanted, printing::front_of(input, filled), out)

@@ -3,8 +3,8 @@ ghost use Rattle.std.specs.Prelude.{◌≡◌, ◌+◌, ◌≤◌, ◌<◌, leng
 ghost use Rattle.rules.specs.Refusal.{most};
 ghost use Rattle.deck.specs.Outcome.{Opens};
 ghost use Rattle.options.specs.Words.{Sound};
-ghost use Rattle.deckstate.specs.Words.{faulty, fansHeard, boardHeard, boardAsked, heard, ended};
-ghost use Rattle.deckstate.specs.Words.{hearingNone, hearsWord, SaidOf};
+ghost use Rattle.deckstate.specs.Words.{faulty, fans_heard, board_heard, board_asked, heard, ended};
+ghost use Rattle.deckstate.specs.Words.{hearing_none, hears_word, SaidOf};
 
 use deck::Opened;
 use options::Asked;
@@ -64,7 +64,7 @@ fn faulty(state: u64, at: u64, wanted: u64, most: u64) -> Said
 // A word where fans may be named, the at-th.
 fn fans_heard(n: u64, at: u64, word: &[u8], state: u64) -> Said
     requires { n ≤ most }
-    ensures { result ≡ fansHeard n at word.now state }
+    ensures { result ≡ fans_heard n at word.now state }
 {
     let named = naming::name_fans(n, word, state);
     if named.wrong {
@@ -76,7 +76,7 @@ fn fans_heard(n: u64, at: u64, word: &[u8], state: u64) -> Said
 // A number where a board's is due.
 fn board_heard(g: u64, boards: &[u8], at: u64, number: u64, state: u64) -> Said
     requires { length boards.now ≤ most }
-    ensures { result ≡ boardHeard g boards.now at number state }
+    ensures { result ≡ board_heard g boards.now at number state }
 {
     if refusals::outside(1, number, g) {
         return faulty(state, at, BOARD, g);
@@ -86,7 +86,7 @@ fn board_heard(g: u64, boards: &[u8], at: u64, number: u64, state: u64) -> Said
 
 // The word that a board's number follows, where there are boards.
 fn board_asked(g: u64, at: u64, state: u64) -> Said
-    ensures { result ≡ boardAsked g at state }
+    ensures { result ≡ board_asked g at state }
 {
     if g == 0 {
         return faulty(state, at, NO_BOARD, 0);
@@ -132,7 +132,7 @@ pub struct Hearing {
 
 // Before the first word.
 fn silence() -> Hearing
-    ensures { (result ≡ hearingNone) × Sound result.asked }
+    ensures { (result ≡ hearing_none) × Sound result.asked }
 {
     let asked = options::nothing();
     let said = sound(0, false);
@@ -147,7 +147,7 @@ fn silence() -> Hearing
 fn hear(n: u64, g: u64, boards: &[u8], hearing: Hearing, place: usize, word: &[u8]) -> Hearing
     requires n_le_most { (n ≤ most) × (length boards.now ≤ most) }
     requires sound { Sound hearing.asked × (hearing.heard < place) }
-    ensures value { result ≡ hearsWord n g boards.now place word.now hearing }
+    ensures value { result ≡ hears_word n g boards.now place word.now hearing }
     ensures sound_2 { Sound result.asked × (result.heard ≤ hearing.heard + 1) }
 {
     let before = hearing.asked;

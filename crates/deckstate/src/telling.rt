@@ -1,13 +1,13 @@
 // The lines that deckstate prints, put into a buffer.
 ghost use Rattle.std.specs.Prelude.{◌+◌, ◌≤◌, length, take};
 ghost use Rattle.text.specs.Added.{Added};
-ghost use Rattle.text.specs.Lines.{namedRoom};
+ghost use Rattle.text.specs.Lines.{named_room};
 ghost use Rattle.deck.specs.Outcome.{Opens, Headed, Placed};
-ghost use Rattle.printing.specs.Lines.{printText};
+ghost use Rattle.printing.specs.Lines.{print_text};
 ghost use Rattle.printing.specs.Front.{WholePrinted};
-ghost use Rattle.deckstate.specs.Lines.{placeText, verdictText, systemLine, statesText};
-ghost use Rattle.deckstate.specs.Lines.{mostText, wantedText, wrongText};
-ghost use Rattle.deckstate.specs.Lines.{verdictRoom, lineRoom, linesRoom, outputRoom, wantedRoom, wrongRoom};
+ghost use Rattle.deckstate.specs.Lines.{place_text, verdict_text, system_line, states_text};
+ghost use Rattle.deckstate.specs.Lines.{most_text, wanted_text, wrong_text};
+ghost use Rattle.deckstate.specs.Lines.{verdict_room, line_room, lines_room, output_room, wanted_room, wrong_room};
 
 use crate::hearing;
 use deck::{Head, Opened};
@@ -22,8 +22,8 @@ pub const LINE: usize = 256;
 
 // ` fails`, and where if there is a place; the line's end.
 fn put_place(place: u64, out: &mut [u8], at: usize) -> usize
-    requires { at + verdictRoom ≤ length out.old }
-    ensures { Added (placeText place) out.old at out.new result }
+    requires { at + verdict_room ≤ length out.old }
+    ensures { Added (place_text place) out.old at out.new result }
 {
     if place == 0 {
         return text::put(out, at, b" fails\n");
@@ -34,8 +34,8 @@ fn put_place(place: u64, out: &mut [u8], at: usize) -> usize
 
 // What a line says of a system.
 fn put_verdict(verdict: Verdict, out: &mut [u8], at: usize) -> usize
-    requires { at + verdictRoom ≤ length out.old }
-    ensures { Added (verdictText verdict) out.old at out.new result }
+    requires { at + verdict_room ≤ length out.old }
+    ensures { Added (verdict_text verdict) out.old at out.new result }
 {
     match verdict {
         Verdict::Works => text::put(out, at, b" works\n"),
@@ -47,8 +47,8 @@ fn put_verdict(verdict: Verdict, out: &mut [u8], at: usize) -> usize
 // The line of a file's system, counted from 0.
 fn put_system(file: &[u8], head: Head, s: usize, state: u64, out: &mut [u8], at: usize) -> usize
     requires placed { Placed file.now head s }
-    requires room { at + lineRoom ≤ length out.old }
-    ensures { Added (systemLine state file.now s) out.old at out.new result }
+    requires room { at + line_room ≤ length out.old }
+    ensures { Added (system_line state file.now s) out.old at out.new result }
 {
     let verdict = states::state_system(file, head, s, state);
     let end = text::put_named(b"system ", s as u64 + 1, out, at);
@@ -58,8 +58,8 @@ fn put_system(file: &[u8], head: Head, s: usize, state: u64, out: &mut [u8], at:
 // The lines of its systems.
 fn put_systems(file: &[u8], head: Head, state: u64, out: &mut [u8]) -> usize
     requires headed { Headed file.now head }
-    requires room { linesRoom ≤ length out.old }
-    ensures { Added (statesText state file.now) out.old 0 out.new result }
+    requires room { lines_room ≤ length out.old }
+    ensures { Added (states_text state file.now) out.old 0 out.new result }
 {
     let mut end: usize = 0;
     let mut s: usize = 0;
@@ -73,8 +73,8 @@ fn put_systems(file: &[u8], head: Head, state: u64, out: &mut [u8]) -> usize
 // All that is printed for a file that was opened, and a state.
 fn put_file(file: &[u8], opened: Opened, state: u64, out: &mut [u8]) -> usize
     requires opens { Opens file.now opened }
-    requires room { outputRoom ≤ length out.old }
-    ensures { let text = printText (statesText state) file.now in
+    requires room { output_room ≤ length out.old }
+    ensures { let text = print_text (states_text state) file.now in
         Added text out.old 0 out.new result }
 {
     if opened.refusal != 0 {
@@ -95,16 +95,16 @@ pub fn state_front(
 ) -> usize
     requires within { filled ≤ length input.now }
     requires opens { Opens (take filled input.now) opened }
-    requires room { outputRoom ≤ length out.old }
-    ensures { WholePrinted (statesText state) input.now filled out.new result }
+    requires room { output_room ≤ length out.old }
+    ensures { WholePrinted (states_text state) input.now filled out.new result }
 {
     put_file(printing::front_of(input, filled), opened, state, out)
 }
 
 // A number between two texts.
 fn put_most(before: &[u8], most: u64, behind: &[u8], out: &mut [u8], at: usize) -> usize
-    requires { at + (namedRoom before.now + length behind.now) ≤ length out.old }
-    ensures { let text = mostText before.now most behind.now in
+    requires { at + (named_room before.now + length behind.now) ≤ length out.old }
+    ensures { let text = most_text before.now most behind.now in
         Added text out.old at out.new result }
 {
     let end = text::put_named(before, most, out, at);
@@ -113,8 +113,8 @@ fn put_most(before: &[u8], most: u64, behind: &[u8], out: &mut [u8], at: usize) 
 
 // What was wanted in the place of a wrong word.
 fn put_wanted(wanted: u64, most: u64, out: &mut [u8], at: usize) -> usize
-    requires { at + wantedRoom ≤ length out.old }
-    ensures { Added (wantedText wanted most) out.old at out.new result }
+    requires { at + wanted_room ≤ length out.old }
+    ensures { Added (wanted_text wanted most) out.old at out.new result }
 {
     match wanted {
         hearing::BOARD => put_most(b"wanted a board from 1 to ", most, b"\n", out, at),
@@ -140,8 +140,8 @@ fn put_wanted(wanted: u64, most: u64, out: &mut [u8], at: usize) -> usize
 
 // The line of a wrong word.
 pub fn put_wrong(wrong: u64, word: &[u8], wanted: u64, most: u64, out: &mut [u8]) -> usize
-    requires { wrongRoom ≤ length out.old }
-    ensures { let text = wrongText wrong word.now wanted most in
+    requires { wrong_room ≤ length out.old }
+    ensures { let text = wrong_text wrong word.now wanted most in
         Added text out.old 0 out.new result }
 {
     let mut front = [0u8; saying::SHOWN];

@@ -6,15 +6,15 @@ use mathlib.Core.List.{List, [], ◌++◌, append-nil}
 use Prim.Native.Nat.{ℕ, ◌+◌, ◌-◌, ◌≤◌}
 use native.Mathlib.Omega.{arith}
 use lib.ListN.{length, take}
-use Rattle.rules.specs.File.{countIn}
+use Rattle.rules.specs.File.{count_in}
 use Rattle.text.specs.Added.{Added}
 use Rattle.text.proofs.Adding.{none-added, added-counts}
 use Rattle.printing.specs.Front.{Fronted}
-use Rattle.printing.specs.Lines.{linesText, wordedPrint}
+use Rattle.printing.specs.Lines.{lines_text, worded_print}
 use Rattle.printing.proofs.Lined.{lines_split}
 use Rattle.printing.proofs.Printed.{same-worded}
-use Rattle.rules.specs.File.{fileRefusal}
-use Rattle.deckworth.specs.Lines.{fansText, someText, listText, half, InTwo, WholeInTwo}
+use Rattle.rules.specs.File.{file_refusal}
+use Rattle.deckworth.specs.Lines.{fans_text, some_text, list_text, half, InTwo, WholeInTwo}
 
 module _ {out after : List ℕ} {end : ℕ} where
   pub in-first : {text : List ℕ} (more : List ℕ) → Added text out 0 after end → InTwo text after end more 0
@@ -36,25 +36,25 @@ pub two-same : {text other out more : List ℕ} {end stop : ℕ} → other ≡ t
 two-same same two = record { first = two.first; second = two.second; stands = two.stands ∙ sym same }
 
 -- the lines of the systems from the first on
-pub from_first : (words : Bool) (bytes : List ℕ) (m : ℕ) → someText words bytes 0 m ≡ linesText m (fansText words bytes)
-from_first words bytes m = λ i. linesText m (λ k. fansText words bytes (from-0 k i))
+pub from_first : (words : Bool) (bytes : List ℕ) (m : ℕ) → some_text words bytes 0 m ≡ lines_text m (fans_text words bytes)
+from_first words bytes m = λ i. lines_text m (λ k. fans_text words bytes (from-0 k i))
   where
     from-0 : (k : ℕ) → 0 + k ≡ k
     from-0 k = omega arith
 
 -- the lines of both halves
-pub halves : (words : Bool) (bytes : List ℕ) (m : ℕ) → half ≤ m → someText words bytes 0 half ++ someText words bytes half (m - half) ≡ linesText m (fansText words bytes)
+pub halves : (words : Bool) (bytes : List ℕ) (m : ℕ) → half ≤ m → some_text words bytes 0 half ++ some_text words bytes half (m - half) ≡ lines_text m (fans_text words bytes)
 halves words bytes m more =
     let whole : half + (m - half) ≡ m = omega (arith, more) in
-    ap (λ t. t ++ someText words bytes half (m - half)) (from_first words bytes half)
-    ∙ lines_split half (m - half) (fansText words bytes)
-    ∙ ap (λ k. linesText k (fansText words bytes)) whole
+    ap (λ t. t ++ some_text words bytes half (m - half)) (from_first words bytes half)
+    ∙ lines_split half (m - half) (fans_text words bytes)
+    ∙ ap (λ k. lines_text k (fans_text words bytes)) whole
 
 -- for the whole input
 pub whole-in-two : (words : Bool) {buffer : List ℕ} {filled : ℕ} {file : List ℕ} → Fronted buffer filled file → {out : List ℕ} {end : ℕ} {more : List ℕ} {stop : ℕ}
-    → InTwo (wordedPrint words (listText words) file) out end more stop → WholeInTwo words buffer filled out end more stop
+    → InTwo (worded_print words (list_text words) file) out end more stop → WholeInTwo words buffer filled out end more stop
 whole-in-two words {file} is two = record {
   first = two.first;
   second = two.second;
-  stands = λ input front. two.stands ∙ same-worded words (listText words) is input front (fileRefusal file) (λ x. fileRefusal file);
+  stands = λ input front. two.stands ∙ same-worded words (list_text words) is input front (file_refusal file) (λ x. file_refusal file);
 }

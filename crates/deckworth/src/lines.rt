@@ -2,9 +2,9 @@
 ghost use Rattle.std.specs.Prelude.{◌+◌, ◌≤◌, ◌<◌, length};
 ghost use Rattle.text.specs.Added.{Added};
 ghost use Rattle.deck.specs.Outcome.{Headed, Placed};
-ghost use Rattle.printing.specs.Lines.{wordedText, wordedPrint, wordedRoom};
-ghost use Rattle.deckworth.specs.Lines.{worthText, whyIn, fanLine, fansText, someText, listText};
-ghost use Rattle.deckworth.specs.Lines.{lineRoom, fansRoom, half, halfRoom, InTwo, WholeInTwo};
+ghost use Rattle.printing.specs.Lines.{worded_text, worded_print, worded_room};
+ghost use Rattle.deckworth.specs.Lines.{worth_text, why_in, fan_line, fans_text, some_text, list_text};
+ghost use Rattle.deckworth.specs.Lines.{line_room, fans_room, half, half_room, InTwo, WholeInTwo};
 
 use deck::Head;
 use printing::INPUT;
@@ -36,9 +36,9 @@ fn put_refusal(
 ) -> usize
     requires placed { Placed file.now head s }
     requires fan { i < head.fans }
-    requires room { at + wordedRoom ≤ length out.old }
-    ensures { let why = whyIn file.now s i number in
-        Added (wordedText words why number) out.old at out.new result }
+    requires room { at + worded_room ≤ length out.old }
+    ensures { let why = why_in file.now s i number in
+        Added (worded_text words why number) out.old at out.new result }
 {
     let why = advice::system::fan_why(file, head, s, i as u64 + 1, number);
     printing::put_worded(words, why, number, out, at)
@@ -57,8 +57,8 @@ fn put_worth(
 ) -> usize
     requires placed { Placed file.now head s }
     requires fan { i < head.fans }
-    requires room { at + wordedRoom ≤ length out.old }
-    ensures { let text = worthText words (whyIn file.now s i) worth in
+    requires room { at + worded_room ≤ length out.old }
+    ensures { let text = worth_text words (why_in file.now s i) worth in
         Added text out.old at out.new result }
 {
     match worth {
@@ -82,8 +82,8 @@ fn put_fan(
 ) -> usize
     requires placed { Placed file.now head s }
     requires fan { i < head.fans }
-    requires room { at + lineRoom ≤ length out.old }
-    ensures { Added (fanLine words file.now s i) out.old at out.new result }
+    requires room { at + line_room ≤ length out.old }
+    ensures { Added (fan_line words file.now s i) out.old at out.new result }
 {
     let fan = i as u64 + 1;
     let worth = fan_worths::weigh(file, head, s, fan);
@@ -94,8 +94,8 @@ fn put_fan(
 // The lines of the fans of a file's system, counted from 0.
 fn put_fans(words: bool, file: &[u8], head: Head, s: usize, out: &mut [u8], at: usize) -> usize
     requires placed { Placed file.now head s }
-    requires room { at + fansRoom ≤ length out.old }
-    ensures { Added (fansText words file.now s) out.old at out.new result }
+    requires room { at + fans_room ≤ length out.old }
+    ensures { Added (fans_text words file.now s) out.old at out.new result }
 {
     let mut end = at;
     let mut i: usize = 0;
@@ -117,8 +117,8 @@ fn put_some(
 ) -> usize
     requires headed { Headed file.now head }
     requires few { (from + count ≤ head.systems) × (count ≤ half) }
-    requires room { halfRoom ≤ length out.old }
-    ensures { Added (someText words file.now from count) out.old 0 out.new result }
+    requires room { half_room ≤ length out.old }
+    ensures { Added (some_text words file.now from count) out.old 0 out.new result }
 {
     let mut end = 0;
     let mut k: usize = 0;
@@ -132,8 +132,8 @@ fn put_some(
 // The lines of all its systems.
 fn put_systems(words: bool, file: &[u8], head: Head, out: &mut [u8], more: &mut [u8]) -> Ends
     requires headed { Headed file.now head }
-    requires room { (halfRoom ≤ length out.old) × (halfRoom ≤ length more.old) }
-    ensures { let text = listText words file.now in
+    requires room { (half_room ≤ length out.old) × (half_room ≤ length more.old) }
+    ensures { let text = list_text words file.now in
         InTwo text out.new result.first more.new result.second }
 {
     if head.systems <= HALF {
@@ -150,8 +150,8 @@ fn put_systems(words: bool, file: &[u8], head: Head, out: &mut [u8], more: &mut 
 
 // All that is printed for a file.
 fn put_file(words: bool, file: &[u8], out: &mut [u8], more: &mut [u8]) -> Ends
-    requires { (halfRoom ≤ length out.old) × (halfRoom ≤ length more.old) }
-    ensures { let text = wordedPrint words (listText words) file.now in
+    requires { (half_room ≤ length out.old) × (half_room ≤ length more.old) }
+    ensures { let text = worded_print words (list_text words) file.now in
         InTwo text out.new result.first more.new result.second }
 {
     let opened = deck::open(file);
@@ -175,7 +175,7 @@ pub fn list_front(
     more: &mut [u8],
 ) -> Ends
     requires within { filled ≤ length input.now }
-    requires room { (halfRoom ≤ length out.old) × (halfRoom ≤ length more.old) }
+    requires room { (half_room ≤ length out.old) × (half_room ≤ length more.old) }
     ensures { let out = out.exit.now in
         WholeInTwo words input.now filled out result.first more.new result.second }
 {

@@ -10,7 +10,7 @@ use lib.Ieee.Fits.{down_pos}
 use lib.Ieee.Nearest.{div_same}
 use Rattle.rules.specs.State.{S}
 use Rattle.rules.specs.Figure.{rounded}
-use Rattle.rules.specs.Doubles.{parts, sign, own, isChance}
+use Rattle.rules.specs.Doubles.{parts, sign, own, is_chance}
 use Rattle.rules.proofs.Grid.{parts-pos}
 use Rattle.doubles.specs.Floats.{bits, Times}
 use Rattle.doubles.proofs.Reading.{reads, finite-of}
@@ -23,7 +23,7 @@ pub record Held (y : Float) (w : ℕ) : Type 0 where
   pub within : w ≤ parts * S
   pub signless : (signed ≡ false) ⊎ (w ≡ 0)
 
-pub held : (x y : Float) → T (fits binary64 x) → isChance (bits x) ≡ true → T (fits binary64 y) → Times x y → Held y (own (bits x) * S)
+pub held : (x y : Float) → T (fits binary64 x) → is_chance (bits x) ≡ true → T (fits binary64 y) → Times x y → Held y (own (bits x) * S)
 held x y f t g h =
     let k = chance-says x f t in
     let w : own (bits x) * S ≤ parts * S = mul-le-mul_right S k.1.within in

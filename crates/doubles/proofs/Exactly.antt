@@ -5,7 +5,7 @@ use lib.Ieee.Exact.{HasValue, round_exact}
 use lib.Ieee.Fits.{down_pos, div-fits, mul-fits}
 use lib.Ieee.Back.{round_whole}
 use Rattle.rules.specs.State.{S}
-use Rattle.rules.specs.Doubles.{parts, sign, own, notANumber, isChance}
+use Rattle.rules.specs.Doubles.{parts, sign, own, not_aNumber, is_chance}
 use Rattle.rules.proofs.Grid.{cell, parts_is}
 use Rattle.doubles.specs.Floats.{bits, Over, Times}
 use Rattle.rules.proofs.Tests.{both}
@@ -69,12 +69,12 @@ no_sign : (s : Bool) (v : ℕ) → (not s || eqb v 0) ≡ true → (s ≡ false)
 no_sign false v t = inl refl
 no_sign true v t = inr (eqb-true v 0 t)
 
-pub chance-says : (x : Float) → T (fits binary64 x) → isChance (bits x) ≡ true → HasValue x (sign (bits x)) (own (bits x)) parts × Chance (sign (bits x)) (own (bits x))
-unfolding isChance
+pub chance-says : (x : Float) → T (fits binary64 x) → is_chance (bits x) ≡ true → HasValue x (sign (bits x)) (own (bits x)) parts × Chance (sign (bits x)) (own (bits x))
+unfolding is_chance
 chance-says x f t =
     let b = bits x in
-    let z = both (not (notANumber b) && (not (sign b) || eqb (own b) 0)) (leb (own b) parts) t in
-    let y = both (not (notANumber b)) (not (sign b) || eqb (own b) 0) z.0 in
+    let z = both (not (not_aNumber b) && (not (sign b) || eqb (own b) 0)) (leb (own b) parts) t in
+    let y = both (not (not_aNumber b)) (not (sign b) || eqb (own b) 0) z.0 in
     let w = leb-true (own b) parts z.1 in
     (reads x f (finite-of x (le_trans w (more parts))), record { within = w; signless = no_sign (sign b) (own b) y.1 })
   where
@@ -119,7 +119,7 @@ times-of (inf t) s v g l h = absurd h
 times-of (fin true m e) s v g l h = subst (λ (b : Bool). HasValue (round binary64 true (m * up e * (1 * 2 ^ 30)) (down e * 1)) b (v * S) parts) h.0 (times-value true m e v g l h.1)
 times-of (fin false m e) s v g l h = subst (λ (b : Bool). HasValue (round binary64 false (m * up e * (1 * 2 ^ 30)) (down e * 1)) b (v * S) parts) h.0 (times-value false m e v g l h.1)
 
-pub times : (x : Float) → T (fits binary64 x) → isChance (bits x) ≡ true → Times x (mul binary64 x unit)
+pub times : (x : Float) → T (fits binary64 x) → is_chance (bits x) ≡ true → Times x (mul binary64 x unit)
 times x f t =
     let k = chance-says x f t in
     let r = spelling (mul binary64 x unit) (sign (bits x)) (own (bits x) * S) (mul-fits binary64 x unit) (times-of x (sign (bits x)) (own (bits x)) (own-digits (bits x)) k.1.within k.0) in

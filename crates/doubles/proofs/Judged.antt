@@ -3,7 +3,7 @@ use Rattle.std.proofs.Common.{◌≡◌, ℕ, ◌+◌, ◌*◌, ◌<◌, ◌≤�
 use native.Mathlib.Nat.{eq_of_mul-eq-mul_right}
 use lib.Ieee.{Float, nan, inf, fin, binary64, up, down, le, to_bits, fits}
 use lib.Ieee.Fits.{down_pos, and_i, and_l, eq→eqb}
-use Rattle.rules.specs.Doubles.{parts, spelt, own, isChance}
+use Rattle.rules.specs.Doubles.{parts, spelt, own, is_chance}
 use Rattle.rules.proofs.Grid.{parts-pos}
 use Rattle.doubles.specs.Floats.{bits}
 use Rattle.doubles.proofs.Reading.{reads, chance-is}
@@ -113,9 +113,9 @@ negative m e v h =
     ∙ and-true (eqb (0 * 1 * down e) (m * up e * 1) && eqb (0 * 1 * down e) 0)
     ∙ at_least (m * up e) (down e) v parts (down_pos e) parts-pos h
 
-pub judged : (x : Float) → T (fits binary64 x) → (le nought x && le x one) ≡ isChance (bits x)
-judged nan f = unfold le isChance own spelt parts to_bits in refl
-judged (inf true) f = unfold le isChance own spelt parts to_bits in refl
-judged (inf false) f = unfold le isChance own spelt parts to_bits in refl
+pub judged : (x : Float) → T (fits binary64 x) → (le nought x && le x one) ≡ is_chance (bits x)
+judged nan f = unfold le is_chance own spelt parts to_bits in refl
+judged (inf true) f = unfold le is_chance own spelt parts to_bits in refl
+judged (inf false) f = unfold le is_chance own spelt parts to_bits in refl
 judged (fin false m e) f = plain m e (own (bits (fin false m e))) (reads (fin false m e) f tt).1 ∙ sym (chance-is false m e f)
 judged (fin true m e) f = negative m e (own (bits (fin true m e))) (reads (fin true m e) f tt).1 ∙ sym (chance-is true m e f)

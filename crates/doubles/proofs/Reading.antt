@@ -8,7 +8,7 @@ use lib.Ieee.Fits.{down_pos}
 use lib.Ieee.Scale.{finite}
 use lib.Ieee.Bits.{of_bits-to_bits, nan_bits_is}
 use Rattle.rules.specs.State.{S}
-use Rattle.rules.specs.Doubles.{parts, sign, exponent, fraction, spelt, own, notANumber, isChance}
+use Rattle.rules.specs.Doubles.{parts, sign, exponent, fraction, spelt, own, not_aNumber, is_chance}
 use Rattle.rules.proofs.Grid.{cell}
 use Rattle.doubles.specs.Floats.{bits}
 
@@ -103,14 +103,14 @@ finite-of (inf true) h = absurd (le→leb _ _ h)
 finite-of (inf false) h = absurd (le→leb _ _ h)
 finite-of (fin s m e) h = tt
 
-no_nan : (s : Bool) (m : ℕ) (e : ℤ) → T (fits binary64 (fin s m e)) → notANumber (bits (fin s m e)) ≡ false
+no_nan : (s : Bool) (m : ℕ) (e : ℤ) → T (fits binary64 (fin s m e)) → not_aNumber (bits (fin s m e)) ≡ false
 unfolding nan_bits is_nan
 no_nan s m e h = nan_bits_is binary64 (bits (fin s m e)) ∙ ap is_nan (of_bits-to_bits binary64 (fin s m e) h)
 
 -- of a finite float
 pub chance-is : (s : Bool) (m : ℕ) (e : ℤ) → T (fits binary64 (fin s m e))
-    → isChance (bits (fin s m e)) ≡ ((not s || eqb (own (bits (fin s m e))) 0) && leb (own (bits (fin s m e))) parts)
-unfolding isChance
+    → is_chance (bits (fin s m e)) ≡ ((not s || eqb (own (bits (fin s m e))) 0) && leb (own (bits (fin s m e))) parts)
+unfolding is_chance
 chance-is s m e h =
     let b = bits (fin s m e) in
     ap (λ (t : Bool). not t && (not (sign b) || eqb (own b) 0) && leb (own b) parts) (no_nan s m e h)

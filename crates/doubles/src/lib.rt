@@ -2,7 +2,7 @@
 // below and above.
 ghost use Rattle.std.specs.Prelude.{◌≡◌, ◌≤◌, true};
 ghost use Rattle.rules.specs.State.{S};
-ghost use Rattle.rules.specs.Doubles.{isChance, whole_of, onGrid};
+ghost use Rattle.rules.specs.Doubles.{is_chance, whole_of, on_grid};
 ghost use Rattle.doubles.specs.Floats.{bits, Over, Times};
 
 // 2^30.
@@ -18,7 +18,7 @@ pub fn divided(x: u64) -> f64
 
 // Is x a chance? A NaN fails both comparisons, and negative zero passes both.
 pub fn is_chance(x: f64) -> bool
-    ensures { result ≡ isChance (bits x) }
+    ensures { result ≡ is_chance (bits x) }
 {
     let from_zero = x >= 0.0;
     let to_one = x <= 1.0;
@@ -27,7 +27,7 @@ pub fn is_chance(x: f64) -> bool
 
 // x times 2^30, with nothing lost.
 fn multiplied(x: f64) -> f64
-    requires { isChance (bits x) ≡ true }
+    requires { is_chance (bits x) ≡ true }
     ensures { Times x result }
 {
     x * UNIT
@@ -35,7 +35,7 @@ fn multiplied(x: f64) -> f64
 
 // The whole number just below x times 2^30, or just above: the same one where nothing is cut off.
 pub fn whole(up: bool, x: f64) -> u64
-    requires { isChance (bits x) ≡ true }
+    requires { is_chance (bits x) ≡ true }
     ensures { result ≡ whole_of up (bits x) }
 {
     let product = multiplied(x);
@@ -50,8 +50,8 @@ pub fn whole(up: bool, x: f64) -> u64
 
 // Is nothing cut off?
 pub fn on_grid(x: f64) -> bool
-    requires { isChance (bits x) ≡ true }
-    ensures { result ≡ onGrid (bits x) }
+    requires { is_chance (bits x) ≡ true }
+    ensures { result ≡ on_grid (bits x) }
 {
     whole(false, x) == whole(true, x)
 }

@@ -1,9 +1,9 @@
 // The worth of each fan of the deck as a bar, in deck order, over the deck's fans as dots.
 ghost use Rattle.std.specs.Prelude.{◌+◌, ◌*◌, ◌≤◌, length};
 ghost use Rattle.rules.specs.State.{S};
-ghost use Rattle.drawn.specs.Drawn.{Drawable, mostDrawn};
+ghost use Rattle.drawn.specs.Drawn.{Drawable, most_drawn};
 ghost use Rattle.forms.specs.Within.{Within};
-ghost use Rattle.drawing.specs.Drawing.{mostLine, mostLetters};
+ghost use Rattle.drawing.specs.Drawing.{most_line, most_letters};
 
 use crate::brackets;
 use drawn::{Shape, Worths};
@@ -33,7 +33,7 @@ const TALLEST: u64 = 9500;
 
 // How far down the line is: farther where the drawing is wide, so that bars are as tall on the page.
 fn line_of(fans: u64) -> u64
-    ensures { result ≤ mostLine }
+    ensures { result ≤ most_line }
 {
     if fans <= SOME { TALL / 2 } else { TALL }
 }
@@ -72,7 +72,7 @@ fn put_end(
     out: &mut [u8],
     at: usize,
 ) -> usize
-    requires within { (largest ≤ S) × (i ≤ mostDrawn) × (shift ≤ 10) }
+    requires within { (largest ≤ S) × (i ≤ most_drawn) × (shift ≤ 10) }
     requires room { at ≤ length out.old }
     ensures { Within result out.new }
 {
@@ -121,7 +121,7 @@ fn put_bars(worths: Worths, line: u64, out: &mut [u8], at: usize) -> usize
 
 // How wide the drawing is.
 fn width_of(fans: u64) -> u64
-    requires { fans ≤ mostDrawn }
+    requires { fans ≤ most_drawn }
     ensures { result ≤ 640 }
 {
     drawn::bounded(FEW, fans, FANS as u64) * FAN
@@ -129,15 +129,15 @@ fn width_of(fans: u64) -> u64
 
 // How large letters are, by the drawing's width.
 fn letters_of(fans: u64) -> u64
-    requires { fans ≤ mostDrawn }
-    ensures { result ≤ mostLetters }
+    requires { fans ≤ most_drawn }
+    ensures { result ≤ most_letters }
 {
     width_of(fans) / 30 + 2
 }
 
 // Dots from one fan to another, in a row.
 fn put_row(row: &[u8], from: u64, upto: u64, y: u64, out: &mut [u8], at: usize) -> usize
-    requires within { (from ≤ mostDrawn) × (upto ≤ mostDrawn) × (1 ≤ from) × (1 ≤ upto) }
+    requires within { (from ≤ most_drawn) × (upto ≤ most_drawn) × (1 ≤ from) × (1 ≤ upto) }
     requires room { at ≤ length out.old }
     ensures { Within result out.new }
 {
@@ -158,7 +158,7 @@ fn labelled(fans: u64, fan: u64) -> bool {
 
 // A fan's number under its dot, where it is put.
 fn put_label(fans: u64, fan: u64, y: u64, out: &mut [u8], at: usize) -> usize
-    requires within { (1 ≤ fan) × (fan ≤ mostDrawn) }
+    requires within { (1 ≤ fan) × (fan ≤ most_drawn) }
     requires room { at ≤ length out.old }
     ensures { Within result out.new }
 {
@@ -171,7 +171,7 @@ fn put_label(fans: u64, fan: u64, y: u64, out: &mut [u8], at: usize) -> usize
 
 // The numbers of so many fans.
 fn put_labels(fans: u64, y: u64, out: &mut [u8], at: usize) -> usize
-    requires within { fans ≤ mostDrawn }
+    requires within { fans ≤ most_drawn }
     requires room { at ≤ length out.old }
     ensures { Within result out.new }
 {
@@ -186,14 +186,14 @@ fn put_labels(fans: u64, y: u64, out: &mut [u8], at: usize) -> usize
 
 // How tall the drawing is below its dots' numbers: with brackets where the rule has windows.
 fn height_with(window: u64) -> u64
-    ensures { result ≤ mostLine }
+    ensures { result ≤ most_line }
 {
     if window == 0 { 5 } else { 23 }
 }
 
 // The drawing's frame, a little wider than its fans, and the line that the bars stand on.
 fn put_frame(fans: u64, line: u64, height: u64, out: &mut [u8], at: usize) -> usize
-    requires within { fans ≤ mostDrawn }
+    requires within { fans ≤ most_drawn }
     requires room { at ≤ length out.old }
     ensures { Within result out.new }
 {
@@ -241,8 +241,8 @@ fn goes_down(worths: Worths) -> bool {
 
 // How far down the dots are: below all bars.
 fn dots_of(worths: Worths, line: u64) -> u64
-    requires { line ≤ mostLine }
-    ensures { result ≤ 2 * mostLine + 10 }
+    requires { line ≤ most_line }
+    ensures { result ≤ 2 * most_line + 10 }
 {
     if goes_down(worths) {
         return 2 * line + 10;
@@ -252,7 +252,7 @@ fn dots_of(worths: Worths, line: u64) -> u64
 
 // The dots of the deck and of the stretch, and their numbers.
 fn put_fans(shape: Shape, y: u64, numbers: u64, out: &mut [u8], at: usize) -> usize
-    requires within { Drawable shape × (y ≤ 2 * mostLine + 10) }
+    requires within { Drawable shape × (y ≤ 2 * most_line + 10) }
     requires room { at ≤ length out.old }
     ensures { Within result out.new }
 {

@@ -1,6 +1,6 @@
 // The rule's windows: brackets under the row, an arc on the ring, and which fans they hold.
 ghost use Rattle.std.specs.Prelude.{◌≤◌, length};
-ghost use Rattle.drawn.specs.Drawn.{Drawable, mostDrawn};
+ghost use Rattle.drawn.specs.Drawn.{Drawable, most_drawn};
 ghost use Rattle.forms.specs.Within.{Within};
 
 use crate::bars::FAN;
@@ -8,7 +8,7 @@ use drawn::Shape;
 
 // A bracket under the fans from one to another.
 fn put_bracket(bracket: &[u8], from: u64, upto: u64, y: u64, out: &mut [u8], at: usize) -> usize
-    requires within { (1 ≤ from) × (from ≤ mostDrawn) × (upto ≤ mostDrawn) }
+    requires within { (1 ≤ from) × (from ≤ most_drawn) × (upto ≤ most_drawn) }
     requires room { at ≤ length out.old }
     ensures { Within result out.new }
 {
@@ -19,7 +19,7 @@ fn put_bracket(bracket: &[u8], from: u64, upto: u64, y: u64, out: &mut [u8], at:
 // The first fan of the last window: on a ring the last fan.
 fn last_from(shape: Shape) -> u64
     requires { Drawable shape × (1 ≤ shape.window) }
-    ensures { (1 ≤ result) × (result ≤ mostDrawn) }
+    ensures { (1 ≤ result) × (result ≤ most_drawn) }
 {
     if shape.ring {
         return shape.upto;
@@ -30,7 +30,7 @@ fn last_from(shape: Shape) -> u64
 // The last fan of the last window.
 fn last_upto(shape: Shape) -> u64
     requires { Drawable shape × (1 ≤ shape.window) }
-    ensures { result ≤ mostDrawn }
+    ensures { result ≤ most_drawn }
 {
     if shape.ring && shape.window != 1 {
         return shape.from + shape.window - 2;

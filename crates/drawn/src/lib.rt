@@ -1,7 +1,7 @@
 // What is drawn of a system: its fans and windows, and what each fan is worth.
 ghost use Rattle.std.specs.Prelude.{◌≤◌};
 ghost use Rattle.rules.specs.State.{S};
-ghost use Rattle.drawn.specs.Drawn.{mostDrawn, Drawable};
+ghost use Rattle.drawn.specs.Drawn.{most_drawn, Drawable};
 
 use rules::{Rule, System, kind, limit, version};
 use text::lines;
@@ -40,7 +40,7 @@ pub fn bounded(least: u64, x: u64, most: u64) -> u64
 
 // How long a rule's windows are: kinds 4 and 5 have it as their first number, kinds 6 to 8 as their second.
 fn window_of(rule: Rule) -> u64
-    ensures { result ≤ mostDrawn }
+    ensures { result ≤ most_drawn }
 {
     let kind = rule.kind;
     let width = match kind {

@@ -6,8 +6,8 @@ use lib.ListN.{take}
 use Rattle.rules.specs.Answer.{unless}
 use Rattle.rules.specs.Refusal.{first_of}
 use Rattle.rules.specs.File.{number_at}
-use Rattle.deck.specs.Head.{countsRefusal}
-use Rattle.ending.specs.Ending.{asks, fileAt, rest_at}
+use Rattle.deck.specs.Head.{counts_refusal}
+use Rattle.ending.specs.Ending.{asks, file_at, rest_at}
 
 -- a deck of one fan and one system; and a header of version 9, which no file has
 abbrev pub small : List ℕ
@@ -18,13 +18,13 @@ abbrev pub unknown : List ℕ
 unknown = 9 ∷ 0 ∷ 0 ∷ 0 ∷ 1 ∷ 0 ∷ 1 ∷ 0 ∷ 20 ∷ 0 ∷ 0 ∷ 0 ∷ 24 ∷ 0 ∷ 0 ∷ 0 ∷ 26 ∷ 0 ∷ 0 ∷ 0 ∷ []
 
 -- a file and what stands behind it, a refused one likewise, and one that is cut short
-pub files : (fileAt (small ++ small) ≡ small)
+pub files : (file_at (small ++ small) ≡ small)
     × (rest_at (small ++ small) ≡ small)
-    × (fileAt (unknown ++ small) ≡ unknown)
+    × (file_at (unknown ++ small) ≡ unknown)
     × (rest_at (unknown ++ small) ≡ small)
-    × (fileAt (take 30 small) ≡ take 30 small)
+    × (file_at (take 30 small) ≡ take 30 small)
     × (rest_at (take 30 small) ≡ [])
     × (asks (take 19 small) ≡ 20)
     × (asks (take 20 small) ≡ 36)
-unfolding asks number_at countsRefusal first_of unless
+unfolding asks number_at counts_refusal first_of unless
 files = (refl, refl, refl, refl, refl, refl, refl, refl)

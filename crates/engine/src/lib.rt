@@ -1,7 +1,7 @@
 // The engine: low and high of a list that can be rated, worked in the lent table by the room of its kind.
 //
 // No room has an array of its own beside that table: rings work one lead, or one number of clean ones, at a time.
-ghost use Rattle.rules.specs.State.{besideOf};
+ghost use Rattle.rules.specs.State.{beside_of};
 ghost use Rattle.rules.specs.Figure.{figure};
 ghost use Rattle.rules.specs.Accepted.{Ratable};
 ghost use Rattle.units.specs.Step.{whole};
@@ -18,8 +18,8 @@ pub fn rate(
     more: &[u64],
     table: &mut [u64],
 ) -> Ends
-    requires { Ratable (whole decimal) rule survival.now (besideOf rule weights.now more.now) table.old }
-    ensures figure { let beside = besideOf rule weights.now more.now in
+    requires { Ratable (whole decimal) rule survival.now (beside_of rule weights.now more.now) table.old }
+    ensures figure { let beside = beside_of rule weights.now more.now in
         Both (λ up. figure up (whole decimal) rule survival.now beside) result }
     ensures kept { Kept table.old table.new }
 {

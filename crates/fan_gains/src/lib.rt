@@ -1,9 +1,9 @@
 // The gain of a spare to a system of a file.
 ghost use Rattle.std.specs.Prelude.{[], ◌≡◌, replicate};
-ghost use Rattle.rules.specs.Asked.{questionOf, asked_of};
+ghost use Rattle.rules.specs.Asked.{question_of, asked_of};
 ghost use Rattle.rules.specs.Refusal.{cells};
-ghost use Rattle.rules.specs.Gain.{gainOf};
-ghost use Rattle.rules.specs.File.{gainIn, gainLoadingOf};
+ghost use Rattle.rules.specs.Gain.{gain_of};
+ghost use Rattle.rules.specs.File.{gain_in, gain_loading_of};
 ghost use Rattle.deck.specs.Outcome.{Placed};
 
 use deck::Head;
@@ -20,10 +20,10 @@ fn weigh_lists(
     boards: &[u8],
     switchboards: &[u32],
 ) -> Worth
-    ensures { let question = questionOf version system.rule system.a system.b in
+    ensures { let question = question_of version system.rule system.a system.b in
         let q = asked_of question survival.now weights.now []
         boards.now switchboards.now in
-        result ≡ gainOf q spare.fan spare.p (replicate cells 0) }
+        result ≡ gain_of q spare.fan spare.p (replicate cells 0) }
 {
     let rule = system.rule;
     let question = Question {
@@ -49,7 +49,7 @@ fn weigh_lists(
 // from the file's bytes.
 pub fn weigh(file: &[u8], head: Head, s: usize, spare: Spare) -> Worth
     requires { Placed file.now head s }
-    ensures { result ≡ gainIn file.now s spare.fan spare.p }
+    ensures { result ≡ gain_in file.now s spare.fan spare.p }
 {
     let n = head.fans;
     let g = head.boards;
@@ -71,7 +71,7 @@ pub fn weigh(file: &[u8], head: Head, s: usize, spare: Spare) -> Worth
 
 // The gain of a spare to a file's system, counted from 1: the file's refusal, then 14, then the system's own, then 17.
 pub fn weigh_file(file: &[u8], system: u64, spare: Spare) -> Worth
-    ensures { result ≡ gainLoadingOf file.now system spare.fan spare.p }
+    ensures { result ≡ gain_loading_of file.now system spare.fan spare.p }
 {
     let opened = deck::open(file);
     let refused = systems::refusal(opened, system);

@@ -1,9 +1,9 @@
 // The worth of a fan to a system of a file.
 ghost use Rattle.std.specs.Prelude.{[], ◌≡◌, replicate};
-ghost use Rattle.rules.specs.Asked.{questionOf, asked_of};
+ghost use Rattle.rules.specs.Asked.{question_of, asked_of};
 ghost use Rattle.rules.specs.Refusal.{cells};
-ghost use Rattle.rules.specs.Worth.{worthOf};
-ghost use Rattle.rules.specs.File.{worthIn, worthLoadingOf};
+ghost use Rattle.rules.specs.Worth.{worth_of};
+ghost use Rattle.rules.specs.File.{worth_in, worth_loading_of};
 ghost use Rattle.deck.specs.Outcome.{Placed};
 
 use deck::Head;
@@ -20,10 +20,10 @@ fn weigh_lists(
     boards: &[u8],
     switchboards: &[u32],
 ) -> Worth
-    ensures { let question = questionOf version system.rule system.a system.b in
+    ensures { let question = question_of version system.rule system.a system.b in
         let q = asked_of question survival.now weights.now []
         boards.now switchboards.now in
-        result ≡ worthOf q fan (replicate cells 0) }
+        result ≡ worth_of q fan (replicate cells 0) }
 {
     let rule = system.rule;
     let question = Question {
@@ -49,7 +49,7 @@ fn weigh_lists(
 // from the file's bytes.
 pub fn weigh(file: &[u8], head: Head, s: usize, fan: u64) -> Worth
     requires { Placed file.now head s }
-    ensures { result ≡ worthIn file.now s fan }
+    ensures { result ≡ worth_in file.now s fan }
 {
     let n = head.fans;
     let g = head.boards;
@@ -71,7 +71,7 @@ pub fn weigh(file: &[u8], head: Head, s: usize, fan: u64) -> Worth
 
 // The worth of a fan to a file's system, counted from 1: the file's refusal, then 14, then the system's own, then 17.
 pub fn weigh_file(file: &[u8], system: u64, fan: u64) -> Worth
-    ensures { result ≡ worthLoadingOf file.now system fan }
+    ensures { result ≡ worth_loading_of file.now system fan }
 {
     let opened = deck::open(file);
     let refused = systems::refusal(opened, system);

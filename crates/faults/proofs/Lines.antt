@@ -7,7 +7,7 @@ use native.Mathlib.Numerals.{add-one}
 use lib.ListN.{length, get_or, drop, length-drop}
 use lib.Seq.{drop-cons, drop-length, take-suc, get_or-drop}
 use borrow.Author.Tests.{eq-eqb, ne_eqb}
-use Rattle.grammar.specs.Words.{newline, closed, linesOn, lines_of}
+use Rattle.grammar.specs.Words.{newline, closed, lines_on, lines_of}
 use Rattle.grammar.specs.Stands.{part}
 use Rattle.faults.specs.Lines.{LineAt}
 
@@ -16,7 +16,7 @@ pub record Reached (table : List ℕ) (k line from i : ℕ) : Type 0 where
   pub low : from ≤ i
   pub high : i ≤ length table
   pub passed : line ≤ k
-  pub same : get_or (linesOn (part table from i) (drop i table)) (k - line) [] ≡ get_or (lines_of table) k []
+  pub same : get_or (lines_on (part table from i) (drop i table)) (k - line) [] ≡ get_or (lines_of table) k []
 
 only : (so_far : List ℕ) → get_or (closed so_far []) 0 [] ≡ so_far
 only [] = refl
@@ -41,19 +41,19 @@ module _ (table : List ℕ) (k : ℕ) where
 
       -- a byte that ends no line
       pub more : (get_or table i 0 ≡ newline → ⊥) → Reached table k line from (i + 1)
-      unfolding linesOn
+      unfolding lines_on
       more other =
           let e : suc i - from ≡ suc (i - from) = omega (arith, r.low) in
           let f : from + (i - from) ≡ i = omega (arith, r.low) in
           let s : i - from < length (drop from table) = simp length-drop (omega (arith, r.low)) in
           let longer : part table from (suc i) ≡ part table from i ++ (get_or table i 0 ∷ []) =
           rw (e, take-suc (drop from table) (i - from) 0 s, get_or-drop from table (i - from) 0, f) in
-          let on : linesOn (part table from i) (drop i table) ≡ linesOn (part table from (suc i)) left =
+          let on : lines_on (part table from i) (drop i table) ≡ lines_on (part table from (suc i)) left =
           rw (longer, drop-cons table i 0 l, ne_eqb (get_or table i 0) newline other) in
           record { low = omega (arith, r.low); high = omega arith; passed = r.passed; same = rw add-one (rw on at r.same) }
 
-      ended : get_or table i 0 ≡ newline → linesOn (part table from i) (drop i table) ≡ part table from i ∷ linesOn [] left
-      unfolding linesOn
+      ended : get_or table i 0 ≡ newline → lines_on (part table from i) (drop i table) ≡ part table from i ∷ lines_on [] left
+      unfolding lines_on
       ended here = rw (drop-cons table i 0 l, eq-eqb (get_or table i 0) newline here)
 
       -- the end of a line before the one looked for, and of that one
@@ -74,8 +74,8 @@ module _ (table : List ℕ) (k : ℕ) where
           record { low = r.low; high = r.high; line = rw (ended here, e) at r.same }
 
     module _ (e : length table ≤ i) where
-      last : linesOn (part table from i) (drop i table) ≡ closed (part table from i) []
-      unfolding linesOn
+      last : lines_on (part table from i) (drop i table) ≡ closed (part table from i) []
+      unfolding lines_on
       last = let f : i ≡ length table = omega (arith, r.high) in rw (f, drop-length table)
 
       -- what follows the last line's end

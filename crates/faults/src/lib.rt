@@ -4,13 +4,13 @@ mod wanted; // wanted.rt: what was wanted
 
 ghost use Rattle.std.specs.Prelude.{◌+◌, ◌≤◌, length};
 ghost use Rattle.text.specs.Added.{Added};
-ghost use Rattle.grammar.specs.Text.{faultAt};
-ghost use Rattle.faults.specs.Told.{spotText, spotRoom, faultText, faultRoom};
+ghost use Rattle.grammar.specs.Text.{fault_at};
+ghost use Rattle.faults.specs.Told.{spot_text, spot_room, fault_text, fault_room};
 
 // Puts where a fault is.
 fn put_spot(line: u64, word: &[u8], out: &mut [u8], at: usize) -> usize
-    requires { at + spotRoom ≤ length out.old }
-    ensures { Added (spotText line word.now) out.old at out.new result }
+    requires { at + spot_room ≤ length out.old }
+    ensures { Added (spot_text line word.now) out.old at out.new result }
 {
     let number = text::put_named(b"line ", line, out, at);
     let end = text::put(out, number, b": ");
@@ -26,8 +26,8 @@ pub fn put_fault(
     out: &mut [u8],
     at: usize,
 ) -> usize
-    requires { at + faultRoom ≤ length out.old }
-    ensures { Added (faultText (faultAt line word.now wanted named)) out.old at
+    requires { at + fault_room ≤ length out.old }
+    ensures { Added (fault_text (fault_at line word.now wanted named)) out.old at
         out.new result }
 {
     let spot = put_spot(line, word, out, at);

@@ -1,7 +1,7 @@
 // A word as it is told.
 ghost use Rattle.std.specs.Prelude.{◌≡◌, map, ◌+◌, ◌≤◌, length};
 ghost use Rattle.text.specs.Added.{Added};
-ghost use Rattle.faults.specs.Told.{plain, shown, shownRoom};
+ghost use Rattle.faults.specs.Told.{plain, shown, shown_room};
 
 // How much of a longer word is told.
 const MOST_SHOWN: usize = 20;
@@ -34,7 +34,7 @@ fn put_plain(word: &[u8], out: &mut [u8], at: usize) -> usize
 
 // Puts a word, of a longer one its first bytes and two points.
 pub fn put_shown(word: &[u8], out: &mut [u8], at: usize) -> usize
-    requires { at + shownRoom ≤ length out.old }
+    requires { at + shown_room ≤ length out.old }
     ensures { Added (shown word.now) out.old at out.new result }
 {
     if word.len() == 0 {

@@ -1,10 +1,10 @@
 // What was wanted, by a fault's number: the words of a table, and the numbers that two of them end in.
 ghost use Rattle.std.specs.Prelude.{◌≡◌, [], ◌+◌, ◌-◌, ◌≤◌, length, get_or};
 ghost use Rattle.text.specs.Added.{Added};
-ghost use Rattle.grammar.specs.Numbers.{offGrid};
+ghost use Rattle.grammar.specs.Numbers.{off_grid};
 ghost use Rattle.grammar.specs.Words.{lines_of};
-ghost use Rattle.faults.specs.Wanted.{byPlace, byName, wordsFor, wordsRoom, numbersFor, numbersRoom, wantedText};
-ghost use Rattle.faults.specs.Wanted.{wantedRoom};
+ghost use Rattle.faults.specs.Wanted.{by_place, by_name, words_for, words_room, numbers_for, numbers_room, wanted_text};
+ghost use Rattle.faults.specs.Wanted.{wanted_room};
 ghost use Rattle.faults.specs.Lines.{LineAt};
 
 use grammar::words::Span;
@@ -62,8 +62,8 @@ fn put_line(table: &[u8], k: u64, out: &mut [u8], at: usize) -> usize
 
 // What is wanted at a place.
 fn put_place(place: u64, out: &mut [u8], at: usize) -> usize
-    requires { at + wordsRoom ≤ length out.old }
-    ensures { Added (get_or byPlace place []) out.old at out.new result }
+    requires { at + words_room ≤ length out.old }
+    ensures { Added (get_or by_place place []) out.old at out.new result }
 {
     put_line(
         b"\nversion, fan, fans, board or system\nfan, fans, board or system\n1, 2 or 3\na number of fans from 1 to 64\n\
@@ -82,8 +82,8 @@ fn put_place(place: u64, out: &mut [u8], at: usize) -> usize
 
 // What is wanted at a fault with a name.
 fn put_name(name: u64, out: &mut [u8], at: usize) -> usize
-    requires { at + wordsRoom ≤ length out.old }
-    ensures { Added (get_or byName name []) out.old at out.new result }
+    requires { at + words_room ≤ length out.old }
+    ensures { Added (get_or by_name name []) out.old at out.new result }
 {
     put_line(
         b"version 3, which has boards\na decimal on the grid of 2^30, as \nat most 64 fans\nat most 4 boards\nat most 32 systems\n\
@@ -96,8 +96,8 @@ fn put_name(name: u64, out: &mut [u8], at: usize) -> usize
 
 // The words for a fault's number.
 fn put_words(wanted: u64, out: &mut [u8], at: usize) -> usize
-    requires { at + wordsRoom ≤ length out.old }
-    ensures { Added (wordsFor wanted) out.old at out.new result }
+    requires { at + words_room ≤ length out.old }
+    ensures { Added (words_for wanted) out.old at out.new result }
 {
     if wanted >= NO_BOARDS {
         return put_name(wanted - NO_BOARDS, out, at);
@@ -110,7 +110,7 @@ fn put_words(wanted: u64, out: &mut [u8], at: usize) -> usize
 
 // The lower of the two parts that a decimal stands between.
 fn below(named: u64) -> u64
-    ensures { result ≡ named - offGrid }
+    ensures { result ≡ named - off_grid }
 {
     if named < OFF_GRID {
         return 0;
@@ -120,8 +120,8 @@ fn below(named: u64) -> u64
 
 // The numbers that the words end in.
 fn put_numbers(wanted: u64, named: u64, out: &mut [u8], at: usize) -> usize
-    requires { at + numbersRoom ≤ length out.old }
-    ensures { Added (numbersFor wanted named) out.old at out.new result }
+    requires { at + numbers_room ≤ length out.old }
+    ensures { Added (numbers_for wanted named) out.old at out.new result }
 {
     if wanted == BETWEEN_PARTS {
         let parts = below(named);
@@ -136,8 +136,8 @@ fn put_numbers(wanted: u64, named: u64, out: &mut [u8], at: usize) -> usize
 
 // Puts what was wanted.
 pub fn put_wanted(wanted: u64, named: u64, out: &mut [u8], at: usize) -> usize
-    requires { at + wantedRoom ≤ length out.old }
-    ensures { Added (wantedText wanted named) out.old at out.new result }
+    requires { at + wanted_room ≤ length out.old }
+    ensures { Added (wanted_text wanted named) out.old at out.new result }
 {
     let end = put_words(wanted, out, at);
     put_numbers(wanted, named, out, end)

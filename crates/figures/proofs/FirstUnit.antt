@@ -7,51 +7,51 @@ use Prim.Native.Nat.{ℕ, suc, ◌-◌}
 use lib.ListN.{length}
 use Rattle.rules.specs.declared.Rule.{Rule}
 use Rattle.rules.specs.declared.Rating.{Rating}
-use Rattle.rules.specs.State.{S, unit_of, besideOf}
+use Rattle.rules.specs.State.{S, unit_of, beside_of}
 use Rattle.rules.specs.Figure.{figure, low, high}
 use Rattle.rules.specs.Stretch.{stretch}
-use Rattle.rules.specs.Asked.{Asked, questionOf, asked_of, roundedOf}
-use Rattle.rules.specs.Refusal.{first_of, badKind, badSize, badStretch, someAbove, badWeights, in_range, shortTable, figuresRefusal}
-use Rattle.rules.specs.Answer.{Rates, tableAfter}
-use Rattle.rules.proofs.WithoutBoards.{refusalBefore, refusal-before, rounded-before}
+use Rattle.rules.specs.Asked.{Asked, question_of, asked_of, rounded_of}
+use Rattle.rules.specs.Refusal.{first_of, bad_kind, bad_size, bad_stretch, some_above, bad_weights, in_range, short_table, figures_refusal}
+use Rattle.rules.specs.Answer.{Rates, table_after}
+use Rattle.rules.proofs.WithoutBoards.{refusal_before, refusal-before, rounded-before}
 use Rattle.rules.proofs.Answer.{rates-same}
 use Rattle.figures.specs.Outcome.{Rated}
 
 module _ (rule : Rule) (a b : ℕ) (survival weights more : List ℕ) where
   abbrev beside : List ℕ
-  beside = besideOf rule (stretch a b weights) more
+  beside = beside_of rule (stretch a b weights) more
 
   -- 4 against 2^30, and no 11
   unfoldable pub refusalOfOne : (table : List ℕ) → ℕ
   refusalOfOne table =
       first_of
-      ((1, badKind rule)
-      ∷ (2, badSize (length survival))
-      ∷ (3, badStretch a b (length survival))
-      ∷ (4, someAbove S (stretch a b survival))
-      ∷ (5, badWeights rule (length survival) weights (stretch a b weights))
+      ((1, bad_kind rule)
+      ∷ (2, bad_size (length survival))
+      ∷ (3, bad_stretch a b (length survival))
+      ∷ (4, some_above S (stretch a b survival))
+      ∷ (5, bad_weights rule (length survival) weights (stretch a b weights))
       ∷ (6, not (in_range rule (suc b - a) beside))
-      ∷ (7, shortTable table)
+      ∷ (7, short_table table)
       ∷ [])
 
   pub record RatedOfOne (t₀ t : List ℕ) (r : Rating) : Type 0 where
     pub answer : Rates r (refusalOfOne t₀) (low S rule (stretch a b survival) beside) (high S rule (stretch a b survival) beside)
-    pub table : t ≡ tableAfter (refusalOfOne t₀) t₀
+    pub table : t ≡ table_after (refusalOfOne t₀) t₀
 
   module _ (boards switchboards : List ℕ) where
     abbrev q : Asked
-    q = asked_of (questionOf 1 rule a b) survival weights more boards switchboards
+    q = asked_of (question_of 1 rule a b) survival weights more boards switchboards
 
-    refusal-same : (table : List ℕ) → figuresRefusal q table ≡ refusalOfOne table
-    unfolding refusalBefore refusalOfOne first_of unit_of
+    refusal-same : (table : List ℕ) → figures_refusal q table ≡ refusalOfOne table
+    unfolding refusal_before refusalOfOne first_of unit_of
     refusal-same table = refusal-before q refl table
 
-    figure-same : (up : Bool) → roundedOf up q ≡ figure up S rule (stretch a b survival) beside
+    figure-same : (up : Bool) → rounded_of up q ≡ figure up S rule (stretch a b survival) beside
     unfolding unit_of
     figure-same up = rounded-before q refl up
 
     pub first-as-before : {t₀ t : List ℕ} {r : Rating} → Rated q t₀ t r → RatedOfOne t₀ t r
     first-as-before {t₀} {t} {r} h = record {
       answer = rates-same r (refusal-same t₀) (λ e. (figure-same false, figure-same true)) h.answer;
-      table = h.table ∙ ap (λ x. tableAfter x t₀) (refusal-same t₀);
+      table = h.table ∙ ap (λ x. table_after x t₀) (refusal-same t₀);
     }

@@ -1,7 +1,7 @@
 // How long a case is.
 ghost use Rattle.std.specs.Prelude.{◌≡◌, true, false, ◌+◌, ◌≤◌, length};
-ghost use Rattle.casefile.specs.Rooms.{mostNumbers};
-ghost use Rattle.figures_case.specs.Whole.{otherWords, mostCells, Whole};
+ghost use Rattle.casefile.specs.Rooms.{most_numbers};
+ghost use Rattle.figures_case.specs.Whole.{other_words, most_cells, Whole};
 
 use crate::{CELLS, FANS, HEAD, MOST_CELLS, OTHERS, PAIRED, PLACED, Sizes, WEIGHED};
 use casefile::{MOST_NUMBERS, words};
@@ -26,12 +26,12 @@ fn cut_short() -> Sizes
 // end within the file, and does each number fit its list?
 fn fits(bytes: &[u8], at: usize, n: usize, w: usize, m: usize, p: usize, g: usize) -> bool
     requires begins { at ≤ length bytes.now }
-    requires few { n ≤ mostNumbers }
-    requires light { w ≤ mostNumbers }
-    requires paired { m ≤ mostNumbers }
-    requires placed { p ≤ mostNumbers }
-    requires boarded { g ≤ mostNumbers }
-    ensures { result ≡ true → at + otherWords + n + w + m + p + g ≤ length bytes.now }
+    requires few { n ≤ most_numbers }
+    requires light { w ≤ most_numbers }
+    requires paired { m ≤ most_numbers }
+    requires placed { p ≤ most_numbers }
+    requires boarded { g ≤ most_numbers }
+    ensures { result ≡ true → at + other_words + n + w + m + p + g ≤ length bytes.now }
 {
     if words::whole(bytes) < at + OTHERS + n + w + m + p + g {
         return false;
@@ -52,10 +52,10 @@ fn fits(bytes: &[u8], at: usize, n: usize, w: usize, m: usize, p: usize, g: usiz
 // many cells.
 fn boarded_at(bytes: &[u8], at: usize, n: usize, w: usize, m: usize, room: usize) -> Sizes
     requires begins { at ≤ length bytes.now }
-    requires few { n ≤ mostNumbers }
-    requires light { w ≤ mostNumbers }
-    requires paired { m ≤ mostNumbers }
-    requires celled { room ≤ mostCells }
+    requires few { n ≤ most_numbers }
+    requires light { w ≤ most_numbers }
+    requires paired { m ≤ most_numbers }
+    requires celled { room ≤ most_cells }
     ensures { result.whole ≡ true → Whole bytes.now at result }
 {
     let p = words::word(bytes, at + PAIRED + n + w + m);

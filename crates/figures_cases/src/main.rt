@@ -4,7 +4,7 @@ mod lists; // lists.rt: a case's lists
 
 ghost use Rattle.std.specs.Prelude.{◌+◌, ◌≤◌, length};
 ghost use Rattle.io.specs.Counts.{IsPrefixLen};
-ghost use Rattle.figures_case.specs.Whole.{headWords, Whole};
+ghost use Rattle.figures_case.specs.Whole.{head_words, Whole};
 
 use casefile::{cases, tables, words};
 use figures_case::line::{Answer, put_line};
@@ -20,7 +20,7 @@ const WORTH: u64 = 1;
 
 // What the case at `at` asks beside its lists.
 fn question_at(bytes: &[u8], at: usize) -> Question
-    requires { at + headWords ≤ length bytes.now }
+    requires { at + head_words ≤ length bytes.now }
 {
     let version = words::word(bytes, at + VERSION);
     let rule = cases::rule_at(bytes, at + RULE);
@@ -45,7 +45,7 @@ fn asked(
     switchboards: &[u32],
     table: &mut [u64],
 ) -> Answer
-    requires { at + headWords ≤ length bytes.now }
+    requires { at + head_words ≤ length bytes.now }
 {
     let question = question_at(bytes, at);
     if words::word(bytes, at + CALL) == WORTH {

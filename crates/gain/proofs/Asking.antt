@@ -8,10 +8,10 @@ use Rattle.rules.specs.declared.Spare.{Spare}
 use Rattle.rules.specs.declared.Worth.{Worth}
 use Rattle.rules.specs.declared.Worth.TheVariants as ends
 use Rattle.rules.specs.State.{S}
-use Rattle.rules.specs.Asked.{Asked, unitIn}
-use Rattle.rules.specs.Refusal.{cells, figuresRefusal}
+use Rattle.rules.specs.Asked.{Asked, unit_in}
+use Rattle.rules.specs.Refusal.{cells, figures_refusal}
 use Rattle.rules.specs.Worth.{swapped}
-use Rattle.rules.specs.Gain.{gainRefusal, swappedBoth}
+use Rattle.rules.specs.Gain.{gain_refusal, swapped_both}
 use Rattle.rules.proofs.Sure.{swapped-accepted}
 use Rattle.rules.proofs.Gain.{gain-accepted, gain-small, gain-chosen}
 use Rattle.places.specs.Cells.{Kept}
@@ -22,11 +22,11 @@ use Rattle.swaps.specs.Swapping.{Swappable}
 use Rattle.swaps.proofs.Replaced as swaps
 use Rattle.gain.specs.Outcome.{Found}
 
-module _ (q : Asked) (w : Spare) (table : List ℕ) (none : gainRefusal q w.fan w.p table ≡ 0) where
-  accepted : figuresRefusal q table ≡ 0
+module _ (q : Asked) (w : Spare) (table : List ℕ) (none : gain_refusal q w.fan w.p table ≡ 0) where
+  accepted : figures_refusal q table ≡ 0
   accepted = gain-accepted q w.fan w.p table none
 
-  small : w.p ≤ unitIn q
+  small : w.p ≤ unit_in q
   small = gain-small q w.fan w.p table none
 
   pub room : cells ≤ length table
@@ -36,10 +36,10 @@ module _ (q : Asked) (w : Spare) (table : List ℕ) (none : gainRefusal q w.fan 
   swappable = let in-it = gain-chosen q w.fan w.p table none in record { none = accepted; first = in-it; second = in-it; small = small }
 
   -- the rating as it is, in the table as the other has left it
-  pub as-it-is : (later : List ℕ) → Kept table later → figuresRefusal q later ≡ 0
+  pub as-it-is : (later : List ℕ) → Kept table later → figures_refusal q later ≡ 0
   as-it-is = swaps.kept-accepted q table accepted
 
-  module _ {t t' : List ℕ} {after before : Ends} (a : Worked (swappedBoth w.fan w.fan w.p q) table t after) (b : Worked q t t' before) where
+  module _ {t t' : List ℕ} {after before : Ends} (a : Worked (swapped_both w.fan w.fan w.p q) table t after) (b : Worked q t t' before) where
     pub after-within : (after.low ≤ S) × (after.high ≤ S)
     after-within = swaps.rated-within (swapped w.fan w.p q) table (swapped-accepted q table w.fan w.p accepted small) (swaps.worked-once w.fan w.p q a)
 

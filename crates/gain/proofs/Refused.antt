@@ -4,15 +4,15 @@ use Prim.Native.Nat.{ℕ}
 use mathlib.Core.Path.{◌≡◌, refl}
 use mathlib.Core.Bool.{Bool, true, false, not, ◌||◌}
 use mathlib.Core.List.{List, [], ◌∷◌}
-use Rattle.rules.specs.Asked.{Asked, length_of, size_of, weightsOf, read_of, boardsOf, boardCount}
-use Rattle.rules.specs.Refusal.{first_of, badVersion, badKind, badSize, badStretch, badBoards, misplaced, badWeights, in_range, shortTable, numbersAbove, ratingRefusal, figuresRefusal}
-use Rattle.gain.specs.Outcome.{withSpare}
+use Rattle.rules.specs.Asked.{Asked, length_of, size_of, weights_of, read_of, boards_of, board_count}
+use Rattle.rules.specs.Refusal.{first_of, bad_version, bad_kind, bad_size, bad_stretch, bad_boards, misplaced, bad_weights, in_range, short_table, numbers_above, rating_refusal, figures_refusal}
+use Rattle.gain.specs.Outcome.{with_spare}
 
 -- 4 and those behind it, and those before it one by one
 abbrev later : (four five six seven : Bool) → List (ℕ × Bool)
 later four five six seven = (4, four) ∷ (5, five) ∷ (6, six) ∷ (7, seven) ∷ []
 
-four-given : (four five six seven : Bool) → withSpare true (first_of (later four five six seven)) ≡ 4
+four-given : (four five six seven : Bool) → with_spare true (first_of (later four five six seven)) ≡ 4
 unfolding first_of
 four-given true five six seven = refl
 four-given false true six seven = refl
@@ -24,7 +24,7 @@ abbrev listed : (eleven one two three twenty placed : Bool) → List (ℕ × Boo
 listed eleven one two three twenty placed rest = (11, eleven) ∷ (1, one) ∷ (2, two) ∷ (3, three) ∷ (20, twenty) ∷ (21, placed) ∷ rest
 
 all-given : (eleven one two three twenty placed four five six seven : Bool)
-    → withSpare true (first_of (listed eleven one two three twenty placed (later four five six seven)))
+    → with_spare true (first_of (listed eleven one two three twenty placed (later four five six seven)))
     ≡ first_of (listed eleven one two three twenty placed (later true five six seven))
 unfolding first_of
 all-given true one two three twenty placed four five six seven = refl
@@ -35,10 +35,10 @@ all-given false false false false true placed four five six seven = refl
 all-given false false false false false true four five six seven = refl
 all-given false false false false false false four five six seven = four-given four five six seven
 
-pub with-spare : (above : Bool) (q : Asked) (table : List ℕ) → withSpare above (figuresRefusal q table) ≡ ratingRefusal (above || numbersAbove q) q table
-unfolding figuresRefusal
+pub with-spare : (above : Bool) (q : Asked) (table : List ℕ) → with_spare above (figures_refusal q table) ≡ rating_refusal (above || numbers_above q) q table
+unfolding figures_refusal
 with-spare false q table = refl
 with-spare true q table =
-    all-given (badVersion q.version) (badKind q.rule) (badSize (length_of q)) (badStretch q.a q.b (length_of q)) (badBoards q.version (boardCount q))
-    (misplaced q.version (length_of q) (boardCount q) q.boards (boardsOf q)) (numbersAbove q) (badWeights q.rule (length_of q) q.weights (weightsOf q))
-    (not (in_range q.rule (size_of q) (read_of q))) (shortTable table)
+    all-given (bad_version q.version) (bad_kind q.rule) (bad_size (length_of q)) (bad_stretch q.a q.b (length_of q)) (bad_boards q.version (board_count q))
+    (misplaced q.version (length_of q) (board_count q) q.boards (boards_of q)) (numbers_above q) (bad_weights q.rule (length_of q) q.weights (weights_of q))
+    (not (in_range q.rule (size_of q) (read_of q))) (short_table table)

@@ -1,16 +1,16 @@
 // The gain of a spare in the place of one fan: low and high with it in place, less high and low as they are.
 ghost use Rattle.std.specs.Prelude.{◌≡◌};
 ghost use Rattle.rules.specs.Asked.{asked_of};
-ghost use Rattle.rules.specs.Refusal.{ratingRefusal};
-ghost use Rattle.rules.specs.Gain.{spareAbove, gainRefusal};
-ghost use Rattle.gain.specs.Outcome.{withSpare, Found, Answered, Gained};
+ghost use Rattle.rules.specs.Refusal.{rating_refusal};
+ghost use Rattle.rules.specs.Gain.{spare_above, gain_refusal};
+ghost use Rattle.gain.specs.Outcome.{with_spare, Found, Answered, Gained};
 
 use rules::{Question, Spare, Worth};
 use swaps::Swap;
 
 // The figures' own refusal with the spare's number among those of 4: it comes before 5, 6 and 7, and after the rest.
 fn with_spare(above: bool, own: u64) -> u64
-    ensures { result ≡ withSpare above own }
+    ensures { result ≡ with_spare above own }
 {
     if !above {
         return own;
@@ -38,7 +38,7 @@ pub fn refusal(
 ) -> u64
     ensures { let q = asked_of question survival.now weights.now more.now
         boards.now switchboards.now in
-        result ≡ ratingRefusal (spareAbove q p) q table.now }
+        result ≡ rating_refusal (spare_above q p) q table.now }
 {
     let own = asked::refusal(
         question,
@@ -65,7 +65,7 @@ fn rate_spare(
     table: &mut [u64],
 ) -> Worth
     requires { let q = asked_of question survival.now weights.now more.now boards.now switchboards.now in
-        gainRefusal q spare.fan spare.p table.old ≡ 0 }
+        gain_refusal q spare.fan spare.p table.old ≡ 0 }
     ensures { let q = asked_of question survival.now weights.now more.now
         boards.now switchboards.now in
         Found q spare table.old table.new result }

@@ -12,12 +12,12 @@ use borrow.Author.Tests.{le-leb, ne_eqb}
 use Rattle.rules.specs.Figure.{rounded, mixed, value}
 use Rattle.rules.proofs.Rounding.{nothing}
 use Rattle.memory.specs.declared.owed.Owed.{Owed}
-use Rattle.memory.specs.Owed.{owed, owedWorked, owedWorks, owing}
+use Rattle.memory.specs.Owed.{owed, owed_worked, owed_works, owing}
 use Rattle.memory.proofs.Moves.{owed-worked-before}
 use Rattle.memory.proofs.Owing.{owed-works, owed-fails, owed-ends, owed-dead}
 use Rattle.places.specs.declared.Ends.{Ends}
 use Rattle.units.specs.declared.debt.Shares.{Shares}
-use Rattle.places.specs.Cells.{Both, MustWork, Place, Workable, cell_at, one, sharesAt, value_of}
+use Rattle.places.specs.Cells.{Both, MustWork, Place, Workable, cell_at, one, shares_at, value_of}
 use Rattle.places.proofs.Cells.{both_at, both-as}
 use Rattle.places.proofs.Values.{Chance, valued-dead, valued-suc, valued-within}
 use Rattle.gaps.specs.Gaps.{Due, Shared}
@@ -34,7 +34,7 @@ module _ {u : ℕ} (whole : 0 < u) (r : ℕ) (survival : List ℕ) (up : Bool) w
 
   -- one that owes
   pub due-before : (m : Owed) (i : ℕ) → 1 ≤ m.owed → m.owed < r
-      → value_of u (owing r) survival m up (i + 1) ≡ rounded up u (mixed u (get_or survival i 0) (value_of u (owing r) survival (owedWorked m) up i) 0)
+      → value_of u (owing r) survival m up (i + 1) ≡ rounded up u (mixed u (get_or survival i 0) (value_of u (owing r) survival (owed_worked m) up i) 0)
   due-before m i some alive =
       ap (value_of u (owing r) survival m up) (add-one i)
       ∙ valued-suc u (owing r) survival i m up
@@ -70,7 +70,7 @@ module _ {u : ℕ} (whole : 0 < u) (r : ℕ) (survival : List ℕ) (up : Bool) w
       spread false = nothing up u (get_or survival i 0) whole
 
 -- with no components left
-pub end-valued : (u r : ℕ) (survival : List ℕ) (m : Owed) → m.owed < r → {works : Bool} {e : Ends} → works ≡ owedWorks m → Both (λ up. cond works u 0) e
+pub end-valued : (u r : ℕ) (survival : List ℕ) (m : Owed) → m.owed < r → {works : Bool} {e : Ends} → works ≡ owed_works m → Both (λ up. cond works u 0) e
     → Both (λ up. value_of u (owing r) survival m up 0) e
 unfolding value
 end-valued u r survival m alive end = both-as (λ up. rw (end, owed-ends r 0 m alive))
@@ -81,13 +81,13 @@ module _ {u r : ℕ} {hand : Owed} {i : ℕ} {survival : List ℕ} {ends : Ends}
   due-place = record { low = omega (arith, y.size, y.list.size); room = y.list.room }
 
   module _ (p q : ℕ) (is : Chance u survival i p q) where
-    pub due-must : {s : Shares} → Both (λ up. cell_at t up (shares + i)) (sharesAt s) → MustWork u p q s ends
+    pub due-must : {s : Shares} → Both (λ up. cell_at t up (shares + i)) (shares_at s) → MustWork u p q s ends
     due-must b = record {
       survival = rw is.read (y.list.units i);
       rest = is.rest;
       shared = record {
-        of-p = rw (is.read, b.low) (y.shared.row false i y.size);
-        of-q = rw (is.read, b.high) (y.shared.row true i y.size);
+        of_p = rw (is.read, b.low) (y.shared.row false i y.size);
+        of_q = rw (is.read, b.high) (y.shared.row true i y.size);
       };
       left = valued-within y.list.whole (owing r) survival y.list.units i hand y.value;
     }

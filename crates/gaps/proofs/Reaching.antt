@@ -11,7 +11,7 @@ use lib.ListN.{length, get_or}
 use Rattle.rules.specs.Figure.{rounded, mixed}
 use Rattle.rules.specs.Refusal.{most}
 use Rattle.memory.specs.declared.owed.Owed.{Owed}
-use Rattle.memory.specs.Owed.{owed, owedFailed, owedWorks, owing}
+use Rattle.memory.specs.Owed.{owed, owed_failed, owed_works, owing}
 use Rattle.places.specs.declared.Ends.{Ends}
 use Rattle.places.specs.Cells.{Both, Put, Kept, Place, cell_at, one, value_of}
 use Rattle.places.specs.Map.{half}
@@ -48,7 +48,7 @@ module _ {u r x left : ℕ} {survival t : List ℕ} (y : Holds u r x left surviv
   cut-place i l = record { low = omega (arith, y.asked.list.size); room = y.asked.list.room }
 
   pub cut-is : (m : Owed) (i : ℕ) → m ≡ owed x (r - 1) → i < length survival → i ≤ r - 1 → {e : Ends}
-      → Both (λ up. cond (owedWorks (owed m.clean (m.owed - i))) (cell_at t up (half + i)) 0) e → Both (λ up. value_of u (owing r) survival (owed x (r - 1)) up i) e
+      → Both (λ up. cond (owed_works (owed m.clean (m.owed - i))) (cell_at t up (half + i)) 0) e → Both (λ up. value_of u (owing r) survival (owed x (r - 1)) up i) e
   cut-is m i is size short =
       both-as (λ up.
       rw is
@@ -80,13 +80,13 @@ module _ {u r : ℕ} {m : Owed} {i : ℕ} {survival t : List ℕ} (y : Passable 
     paid-is = both-as (λ up. rw nothing-owed (ap (λ g. value_of u (owing r) survival (owed m.clean g) up i) (omega arith)))
 
 pub past_is : {u r : ℕ} {m : Owed} {i : ℕ} {survival t : List ℕ} → Passable u r m i survival t → i ≤ m.owed → {e : Ends}
-    → Both (λ up. cond (owedWorks (owed m.clean (m.owed - i))) (cell_at t up (half + i)) 0) e → Both (λ up. value_of u (owing r) survival m up i) e
+    → Both (λ up. cond (owed_works (owed m.clean (m.owed - i))) (cell_at t up (half + i)) 0) e → Both (λ up. value_of u (owing r) survival m up i) e
 past_is {m = m} {i = i} y l b =
     let is = ap (owed m.clean) y.due in
     rw (← is) at (cut-is y.holds m i is y.size (omega (arith, y.due)) b)
 
 -- with no components left
-pub begun : {u r : ℕ} {m : Owed} {survival t t' : List ℕ} {works : Bool} {e : Ends} → Begun u r m survival t → works ≡ owedWorks m → Both (λ up. cond works u 0) e → Put 0 e t t'
+pub begun : {u r : ℕ} {m : Owed} {survival t t' : List ℕ} {works : Bool} {e : Ends} → Begun u r m survival t → works ≡ owed_works m → Both (λ up. cond works u 0) e → Put 0 e t t'
     → Reached u r m.clean 0 survival t t' (record { free = m; left = 0 })
 begun {u} {r} {m} {survival} y end b p =
     let small = y.asked.list.size in
@@ -103,7 +103,7 @@ begun {u} {r} {m} {survival} y end b p =
     }
 
 -- the debt of a failed component
-pub failed-is : (r : ℕ) (free : Owed) {m : Owed} → free.owed ≡ 0 → m ≡ owedFailed r free → m ≡ owed free.clean (r - 1)
+pub failed-is : (r : ℕ) (free : Owed) {m : Owed} → free.owed ≡ 0 → m ≡ owed_failed r free → m ≡ owed free.clean (r - 1)
 failed-is r free none is = is ∙ rw none
 
 -- the memory at hand: its value, and where the table holds it
@@ -123,8 +123,8 @@ module _ {u r x left : ℕ} {survival : List ℕ} {works fails : Ends} {t₀ t :
     none = none;
     size = l;
     list = y.holds.asked.list;
-    works-small = valued-within y.holds.asked.list.whole (owing r) survival y.holds.asked.list.units left (owed x 0) y.value;
-    fails-small = valued-within y.holds.asked.list.whole (owing r) survival y.holds.asked.list.units left (owed x (r - 1)) f;
+    works_small = valued-within y.holds.asked.list.whole (owing r) survival y.holds.asked.list.units left (owed x 0) y.value;
+    fails_small = valued-within y.holds.asked.list.whole (owing r) survival y.holds.asked.list.units left (owed x (r - 1)) f;
   }
 
   pub stands-more : {t' : List ℕ} {e : Ends} → Both (λ up. rounded up u (mixed u (get_or survival left 0) (one up works) (one up fails))) e → Put (left + 1) e t t'

@@ -9,11 +9,11 @@ use native.Mathlib.Omega.{arith}
 use lib.ListN.{length, get_or}
 use Rattle.rules.specs.State.{number_of}
 use Rattle.rules.specs.Memory.{machine_of, row6, row7, ended, end7}
-use Rattle.rules.specs.Figure.{rounded, mixed, value, figureOf}
+use Rattle.rules.specs.Figure.{rounded, mixed, value, figure_of}
 use Rattle.memory.specs.declared.owed.Owed.{Owed}
 use Rattle.memory.specs.declared.owed.Clean.{Clean}
-use Rattle.memory.specs.Owed.{owed, cleanAfter, cleanWorked, cleanFailed, owing}
-use Rattle.memory.specs.Open.{cleanOpen}
+use Rattle.memory.specs.Owed.{owed, clean_after, clean_worked, clean_failed, owing}
+use Rattle.memory.specs.Open.{clean_open}
 use Rattle.memory.proofs.Owing.{owed-row6, owed-row7}
 use Rattle.memory.proofs.Opening.{clean-start, clean-works, clean-fails}
 use Rattle.places.specs.declared.Ends.{Ends}
@@ -21,7 +21,7 @@ use Rattle.places.specs.Cells.{Both, Kept, cell_at, value_of}
 use Rattle.places.proofs.Cells.{both_at, both-as, workable-kept, kept-none, kept_trans}
 use Rattle.places.proofs.Values.{valued-within, valued-suc}
 use Rattle.gaps.specs.declared.Known.{Known}
-use Rattle.gaps.specs.Gaps.{Asked, Settled, Begun, Reached, Passable, Bringable, Closable, closedValue}
+use Rattle.gaps.specs.Gaps.{Asked, Settled, Begun, Reached, Passable, Bringable, Closable, closed_value}
 use Rattle.gaps.proofs.Reaching.{holds_at}
 
 pub asked-kept : {u r : ℕ} {survival t₀ t : List ℕ} → Kept t₀ t → Asked u r survival t₀ → Asked u r survival t
@@ -36,7 +36,7 @@ pub reached-as : {u r x x' upto : ℕ} {survival t₀ t : List ℕ} {s : Known} 
 reached-as {u} {r} {upto = upto} {survival} {t₀} {t} {s} e = subst (λ x. Reached u r x upto survival t₀ t s) e
 
 pub line-is : {u r : ℕ} {survival t₀ t : List ℕ} {s : Known} → Reached u r (r - 1) (length survival) survival t₀ t s → {e : Ends} → Both (λ up. cell_at t up (length survival)) e
-    → Both (λ up. figureOf (row6 r) up u survival) e
+    → Both (λ up. figure_of (row6 r) up u survival) e
 line-is {u} {r} {survival} z b =
     both-as (λ up. (owed-row6 r (omega (arith, z.holds.asked.two)) (length survival)).values up u (number_of survival)) (holds_at z.holds (length survival) (omega arith) b)
 
@@ -46,20 +46,20 @@ module _ (r : ℕ) (survival : List ℕ) where
 
   -- the value of the open clean ones with i components left
   abbrev opened : (u : ℕ) (up : Bool) (i : ℕ) → ℕ
-  opened u up i = value_of u (machine_of (row7 r)) survival (cleanOpen r n i) up i
+  opened u up i = value_of u (machine_of (row7 r)) survival (clean_open r n i) up i
 
   -- the debt that a failed component closes them with
   abbrev pub closed : (i : ℕ) → Owed
   closed i = owed (min (n - suc i) (r - 1)) (r - 1)
 
   open-first : (u : ℕ) (up : Bool) → u ≡ opened u up 0
-  unfolding value ended end7 cleanOpen
+  unfolding value ended end7 clean_open
   open-first u up = refl
 
   open_more : (u : ℕ) → 2 ≤ r → (up : Bool) (i : ℕ) → i < n → rounded up u (mixed u (get_or survival i 0) (opened u up i) (value_of u (owing r) survival (closed i) up i)) ≡ opened u up (i + 1)
   open_more u two up i left =
       rw (add-one i)
-      (sym (valued-suc u (machine_of (row7 r)) survival i (cleanOpen r n (suc i)) up
+      (sym (valued-suc u (machine_of (row7 r)) survival i (clean_open r n (suc i)) up
       ∙ rw (
         clean-works r n i left,
         clean-fails r n i left,
@@ -67,17 +67,17 @@ module _ (r : ℕ) (survival : List ℕ) where
       )))
 
   -- the debt as the code makes it
-  pub closed_is : (i : ℕ) {c : Clean} {m : Owed} → c ≡ cleanAfter r (n - i - 1) → m ≡ cleanFailed r c → m ≡ closed i
+  pub closed_is : (i : ℕ) {c : Clean} {m : Owed} → c ≡ clean_after r (n - i - 1) → m ≡ clean_failed r c → m ≡ closed i
   closed_is i after failed = let e : n - i - 1 ≡ n - suc i = omega arith in failed ∙ rw (after, e)
 
 -- the clean ones at hand, of which i components less were read than of all: before the first, at the next, and what a working one brings those to that are worked out
-pub hand_first : (r n : ℕ) → cleanAfter r n ≡ cleanAfter r (n - 0)
-hand_first r n = ap (cleanAfter r) (omega arith)
+pub hand_first : (r n : ℕ) → clean_after r n ≡ clean_after r (n - 0)
+hand_first r n = ap (clean_after r) (omega arith)
 
-pub hand-next : (r n i : ℕ) → cleanAfter r (n - i - 1) ≡ cleanAfter r (n - (i + 1))
-hand-next r n i = ap (cleanAfter r) (omega arith)
+pub hand-next : (r n i : ℕ) → clean_after r (n - i - 1) ≡ clean_after r (n - (i + 1))
+hand-next r n i = ap (clean_after r) (omega arith)
 
-pub hand-worked : (r n i : ℕ) {c w h : Clean} → c ≡ cleanAfter r (n - i - 1) → w ≡ cleanWorked r c → h ≡ cleanAfter r (n - i) → i < n → w.clean ≡ h.clean
+pub hand-worked : (r n i : ℕ) {c w h : Clean} → c ≡ clean_after r (n - i - 1) → w ≡ clean_worked r c → h ≡ clean_after r (n - i) → i < n → w.clean ≡ h.clean
 hand-worked r n i at works hand more =
     let k = n - i - 1 in
     let was : min (min k (r - 1) + 1) (r - 1) ≡ min (n - i) (r - 1) = omega arith in
@@ -105,7 +105,7 @@ closing-first {u} {r} {survival} z is b = record {
   value = both-as (λ up. rw is (open-first r survival u up)) b;
 }
 
-pub closing-last : {u r : ℕ} {survival t₀ t : List ℕ} {i : ℕ} {s : Known} {e : Ends} → length survival ≤ i → Closing u r survival t₀ i s e t → Both (λ up. figureOf (row7 r) up u survival) e
+pub closing-last : {u r : ℕ} {survival t₀ t : List ℕ} {i : ℕ} {s : Known} {e : Ends} → length survival ≤ i → Closing u r survival t₀ i s e t → Both (λ up. figure_of (row7 r) up u survival) e
 closing-last {u} {r} {survival} {i = i} l v =
     let e : i ≡ length survival = omega (arith, v.most) in
     both-as (λ up. ap (λ m. value_of u (machine_of (row7 r)) survival m up (length survival)) (clean-start r (length survival))) (rw e at v.value)
@@ -127,10 +127,10 @@ module _ {u r : ℕ} {survival t₀ t : List ℕ} {i : ℕ} {s : Known} {ends : 
     pub closing-closable : Closable u r m i survival ends t'
     closing-closable = record {
       passable = closing-passable;
-      works-small = valued-within v.asked.list.whole (machine_of (row7 r)) survival v.asked.list.units i _ v.value;
+      works_small = valued-within v.asked.list.whole (machine_of (row7 r)) survival v.asked.list.units i _ v.value;
     }
 
-    pub closing-more : {e : Ends} → Both (closedValue u r m i survival ends) e → Closing u r survival t₀ (i + 1) s' e t'
+    pub closing-more : {e : Ends} → Both (closed_value u r m i survival ends) e → Closing u r survival t₀ (i + 1) s' e t'
     closing-more b = record {
       asked = v.asked;
       most = omega arith;

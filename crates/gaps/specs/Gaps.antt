@@ -38,13 +38,13 @@ pub record Owing (u r : ℕ) (m : Owed) (from upto : ℕ) (survival : List ℕ) 
   pub value : Both (λ up. value_of u (owing r) survival m up from) end
 
 -- the value of a memory that owes as many as are left
-abbrev pub settledValue : (u r : ℕ) (survival : List ℕ) → Bool → ℕ → ℕ
-settledValue u r survival up i = value_of u (owing r) survival (owed 0 i) up i
+abbrev pub settled_value : (u r : ℕ) (survival : List ℕ) → Bool → ℕ → ℕ
+settled_value u r survival up i = value_of u (owing r) survival (owed 0 i) up i
 
 -- these, as far as a debt goes back, and the shares
 pub record Settled (u r : ℕ) (survival t : List ℕ) : Type 0 where
   pub shared : Shared u survival t
-  pub row : Shelf (settledValue u r survival) t half (min (length survival) (r - 1) + 1)
+  pub row : Shelf (settled_value u r survival) t half (min (length survival) (r - 1) + 1)
 
 -- the memory that owes nothing past x clean ones, known with up to `left` components left
 pub record Holds (u r x left : ℕ) (survival t : List ℕ) : Type 0 where
@@ -104,14 +104,14 @@ pub record Stepping (u : ℕ) (free : Owed) (i : ℕ) (survival : List ℕ) (wor
   pub none : free.owed ≡ 0
   pub size : i < length survival
   pub list : Workable u survival t
-  pub works-small : Within u works
-  pub fails-small : Within u fails
+  pub works_small : Within u works
+  pub fails_small : Within u fails
 
 -- the ring's open clean ones, of the value `works` with i components left, and the memory that a failed one closes them with
 pub record Closable (u r : ℕ) (m : Owed) (i : ℕ) (survival : List ℕ) (works : Ends) (t : List ℕ) : Type 0 where
   pub passable : Passable u r m i survival t
-  pub works-small : Within u works
+  pub works_small : Within u works
 
 -- the rounded step of the two
-abbrev pub closedValue : (u r : ℕ) (m : Owed) (i : ℕ) (survival : List ℕ) (works : Ends) → Bool → ℕ
-closedValue u r m i survival works up = rounded up u (mixed u (get_or survival i 0) (one up works) (value_of u (owing r) survival m up i))
+abbrev pub closed_value : (u r : ℕ) (m : Owed) (i : ℕ) (survival : List ℕ) (works : Ends) → Bool → ℕ
+closed_value u r m i survival works up = rounded up u (mixed u (get_or survival i 0) (one up works) (value_of u (owing r) survival m up i))

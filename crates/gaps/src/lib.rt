@@ -9,10 +9,10 @@ mod free; // free.rt: the memory that owes nothing, known for more and more comp
 mod owed; // owed.rt: memories that owe
 
 ghost use Rattle.rules.specs.Memory.{row6, row7};
-ghost use Rattle.rules.specs.Figure.{figureOf};
+ghost use Rattle.rules.specs.Figure.{figure_of};
 ghost use Rattle.units.specs.Step.{whole};
 ghost use Rattle.places.specs.Cells.{Both, Kept};
-ghost use Rattle.gaps.specs.Gaps.{Asked, Closable, closedValue};
+ghost use Rattle.gaps.specs.Gaps.{Asked, Closable, closed_value};
 
 use memory::owed::{Clean, Owed};
 use places::Ends;
@@ -27,7 +27,7 @@ pub struct Known {
 // Kind 6.
 pub fn line(decimal: bool, r: usize, survival: &[u32], table: &mut [u64]) -> Ends
     requires { Asked (whole decimal) r survival.now table.old }
-    ensures figure { Both (λ up. figureOf (row6 r) up (whole decimal) survival.now) result }
+    ensures figure { Both (λ up. figure_of (row6 r) up (whole decimal) survival.now) result }
     ensures kept { Kept table.old table.new }
 {
     let n = survival.len();
@@ -48,7 +48,7 @@ fn one_more(
     table: &[u64],
 ) -> Ends
     requires { Closable (whole decimal) r m i survival.now works table.now }
-    ensures { Both (closedValue (whole decimal) r m i survival.now works) result }
+    ensures { Both (closed_value (whole decimal) r m i survival.now works) result }
 {
     let fails = owed::past(decimal, r, m, i, survival, table);
     let p = places::chance(survival, i);
@@ -66,7 +66,7 @@ fn close(
     table: &[u64],
 ) -> Ends
     requires { Closable (whole decimal) r m i survival.now works table.now }
-    ensures { Both (closedValue (whole decimal) r m i survival.now works) result }
+    ensures { Both (closed_value (whole decimal) r m i survival.now works) result }
 {
     if decimal {
         return one_more(true, r, m, i, survival, works, table);
@@ -77,7 +77,7 @@ fn close(
 // Kind 7: the clean ones, from all n taken back to none. A component that fails closes them.
 pub fn ring(decimal: bool, r: usize, survival: &[u32], table: &mut [u64]) -> Ends
     requires { Asked (whole decimal) r survival.now table.old }
-    ensures figure { Both (λ up. figureOf (row7 r) up (whole decimal) survival.now) result }
+    ensures figure { Both (λ up. figure_of (row7 r) up (whole decimal) survival.now) result }
     ensures kept { Kept table.old table.new }
 {
     let n = survival.len();

@@ -1,6 +1,6 @@
 // Memories that owe: each component must work until the debt is paid.
 ghost use Rattle.std.specs.Prelude.{cond, ◌+◌, ◌-◌, ◌≤◌};
-ghost use Rattle.memory.specs.Owed.{owed, owing, owedWorks};
+ghost use Rattle.memory.specs.Owed.{owed, owing, owed_works};
 ghost use Rattle.units.specs.Step.{whole};
 ghost use Rattle.places.specs.Cells.{Both, Kept, Place, Workable, cell_at, value_of};
 ghost use Rattle.places.specs.Map.{half};
@@ -102,7 +102,7 @@ pub fn settle(decimal: bool, r: usize, survival: &[u32], table: &mut [u64])
 // for the rest.
 pub fn cut_short(decimal: bool, m: Owed, i: usize, table: &[u64]) -> Ends
     requires { Place (half + i) table.now × (i ≤ m.owed) }
-    ensures { let works = owedWorks (owed m.clean (m.owed - i)) in
+    ensures { let works = owed_works (owed m.clean (m.owed - i)) in
         Both (λ up. cond works (cell_at table.now up (half + i)) 0) result }
 {
     let last = m.worked_many(i);

@@ -4,8 +4,8 @@ use mathlib.Core.List.{[], ◌∷◌}
 use Prim.Native.Nat.{◌+◌}
 use Rattle.rules.specs.State.{unit_of}
 use Rattle.text.specs.Decimal.{text}
-use Rattle.grammar.specs.Words.{linesOn, lines_of, wordsOn, words_of}
-use Rattle.grammar.specs.Numbers.{digitsOn, whole, none, pointIn, decimalAt, fraction, share, offGrid, parts}
+use Rattle.grammar.specs.Words.{lines_on, lines_of, words_on, words_of}
+use Rattle.grammar.specs.Numbers.{digits_on, whole, none, point_in, decimal_at, fraction, share, off_grid, parts}
 
 pub words : (words_of (text " fan\t0.5 \r") ≡ (text "fan" ∷ text "0.5" ∷ []))
     × (words_of (text "fan 1#2 3") ≡ (text "fan" ∷ text "1" ∷ []))
@@ -13,7 +13,7 @@ pub words : (words_of (text " fan\t0.5 \r") ≡ (text "fan" ∷ text "0.5" ∷ [
     × (lines_of (text "a\n\nb") ≡ (text "a" ∷ [] ∷ text "b" ∷ []))
     × (lines_of (text "a\n") ≡ (text "a" ∷ []))
     × (lines_of [] ≡ [])
-unfolding linesOn wordsOn
+unfolding lines_on words_on
 words = (refl, refl, refl, refl, refl, refl)
 
 pub numbers : (whole (text "007") ≡ 7)
@@ -32,7 +32,7 @@ pub numbers : (whole (text "007") ≡ 7)
     × (fraction (text "0.5.5") ≡ none)
     × (parts 2 (text "0.9995") ≡ 999500000)
     × (parts 1 (text "0.5") ≡ 536870912)
-    × (parts 1 (text "0.9") ≡ offGrid + 966367641)
+    × (parts 1 (text "0.9") ≡ off_grid + 966367641)
     × (parts 1 (text "half") ≡ none)
-unfolding digitsOn whole pointIn decimalAt share parts unit_of
+unfolding digits_on whole point_in decimal_at share parts unit_of
 numbers = (refl, refl, refl, refl, refl, refl, refl, refl, refl, refl, refl, refl, refl, refl, refl, refl, refl, refl)

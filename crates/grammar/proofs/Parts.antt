@@ -8,7 +8,7 @@ use lib.ListN.{length, take, drop, length-drop}
 use lib.Seq.{take_all}
 use borrow.Author.Tests.{eq-eqb, ne_eqb, lt-ltb, le-ltb}
 use Rattle.rules.specs.State.{unit_of}
-use Rattle.grammar.specs.Numbers.{none, whole, most, billion, joined, decimalAt, fraction, offGrid, share, parts}
+use Rattle.grammar.specs.Numbers.{none, whole, most, billion, joined, decimal_at, fraction, off_grid, share, parts}
 
 -- a product with a power of ten fits
 pub ten-fits : (x k : ℕ) → x ≤ none → k ≤ most → x * 10 ^ k ≤ none * 10 ^ most
@@ -19,13 +19,13 @@ pub rest_all : (word : List ℕ) (from : ℕ) → take (length word - from) (dro
 rest_all word from = take_all (length word - from) (drop from word) (simp length-drop (omega arith))
 
 module _ (word : List ℕ) (point : ℕ) where
-  pub no-digits : length word - point < 2 → decimalAt word point ≡ none
-  unfolding decimalAt
+  pub no-digits : length word - point < 2 → decimal_at word point ≡ none
+  unfolding decimal_at
   no-digits h = let e : length word - point - 1 < 1 = omega arith in rw (lt-ltb (length word - point - 1) 1 e)
 
   module _ (some : 2 ≤ length word - point) where
-    pub many-digits : most < length word - (point + 1) → decimalAt word point ≡ none
-    unfolding decimalAt
+    pub many-digits : most < length word - (point + 1) → decimal_at word point ≡ none
+    unfolding decimal_at
     many-digits h =
         let e : 1 ≤ length word - point - 1 = omega arith in
         let f : most < length word - point - 1 = omega arith in
@@ -35,13 +35,13 @@ module _ (word : List ℕ) (point : ℕ) where
       digits_same : length word - point - 1 ≡ length word - (point + 1)
       digits_same = omega arith
 
-      pub above-one : billion < value → decimalAt word point ≡ none
-      unfolding decimalAt
+      pub above-one : billion < value → decimal_at word point ≡ none
+      unfolding decimal_at
       above-one h =
           rw (digits_same, le-ltb (length word - (point + 1)) 1 (omega arith), le-ltb most (length word - (point + 1)) few, ← is, lt-ltb billion value h)
 
-      pub in-billionths : value ≤ billion → decimalAt word point ≡ value
-      unfolding decimalAt
+      pub in-billionths : value ≤ billion → decimal_at word point ≡ value
+      unfolding decimal_at
       in-billionths h =
           rw (digits_same, le-ltb (length word - (point + 1)) 1 (omega arith), le-ltb most (length word - (point + 1)) few, ← is, le-ltb billion value h)
 
@@ -55,7 +55,7 @@ module _ (version billionths : ℕ) where
     unfolding share
     share-whole e = rw (ne_eqb billionths none some, ← is, eq-eqb (all % billion) 0 e)
 
-    pub share-between : (all % billion ≡ 0 → ⊥) → share version billionths ≡ offGrid + all / billion
+    pub share-between : (all % billion ≡ 0 → ⊥) → share version billionths ≡ off_grid + all / billion
     unfolding share
     share-between e = rw (ne_eqb billionths none some, ← is, ne_eqb (all % billion) 0 e)
 

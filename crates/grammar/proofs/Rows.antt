@@ -11,9 +11,9 @@ use borrow.Author.Tests.{eqb-true, leb-true, ltb-true}
 use Rattle.rules.specs.Below.{within, some, first}
 use Rattle.rules.proofs.Windows.{some-none}
 use Rattle.rules.proofs.Lowest.{there-or-not}
-use Rattle.grammar.specs.Numbers.{lettersOn}
+use Rattle.grammar.specs.Numbers.{letters_on}
 use Rattle.grammar.specs.Grammar.{sets, taken, reading, rows, grammar}
-use Rattle.grammar.specs.Line.{cell, takes, rowFor, placeAfter}
+use Rattle.grammar.specs.Line.{cell, takes, row_for, place_after}
 
 pub both : (a b : Bool) → a && b ≡ true → (a ≡ true) × (b ≡ true)
 both true b e = (refl, e)
@@ -32,7 +32,7 @@ all-rows p e i l = go (p i) refl
 
 -- each row sets a number that there is
 pub set-few : (i : ℕ) → i < rows → cell i 4 < sets
-unfolding some grammar lettersOn
+unfolding some grammar letters_on
 set-few i l = ltb-true (cell i 4) sets (all-rows (λ k. ltb (cell k 4) sets) refl i l)
 
 -- what is found first is found
@@ -47,19 +47,19 @@ found-holds p (suc k) l = go (some p k) (p k) refl refl (found-holds p k) l
     go false false e f ih h = absurd (omega arith)
 
 module _ (version place : ℕ) (word : List ℕ) where
-  pub place_out : ltb (rowFor version place word) rows ≡ false → placeAfter version place word ≡ taken + place
-  unfolding placeAfter
+  pub place_out : ltb (row_for version place word) rows ≡ false → place_after version place word ≡ taken + place
+  unfolding place_after
   place_out q = rw q
 
   abbrev row : ℕ
-  row = rowFor version place word
+  row = row_for version place word
 
   abbrev read : ℕ
   read = reading version (cell row 1) word
 
   module _ (l : row < rows) where
     fits : takes version place word row ≡ true
-    unfolding rowFor
+    unfolding row_for
     fits = found-holds (takes version place word) rows l
 
     pub here : cell row 0 ≡ place

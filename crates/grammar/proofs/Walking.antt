@@ -10,7 +10,7 @@ use lib.Dec.{eqb}
 use lib.ListN.{length, get_or, drop, length-drop}
 use lib.Seq.{drop-cons, drop-length, take-suc, get_or-drop, length-take-le}
 use borrow.Author.Tests.{ne_eqb}
-use Rattle.grammar.specs.Words.{comment, blank, closed, wordsOn}
+use Rattle.grammar.specs.Words.{comment, blank, closed, words_on}
 use Rattle.grammar.specs.Stands.{part, Skipped, Passed, Spanned}
 
 not-comment : (b : ℕ) → blank b ≡ true → eqb b comment ≡ false
@@ -32,8 +32,8 @@ closed_some [] rest l = absurd (omega arith)
 closed_some (b ∷ w) rest l = refl
 
 module _ (line : List ℕ) (i : ℕ) (l : i < length line) where
-  pub skip-on : blank (get_or line i 0) ≡ true → wordsOn [] (drop (suc i) line) ≡ wordsOn [] (drop i line)
-  unfolding wordsOn
+  pub skip-on : blank (get_or line i 0) ≡ true → words_on [] (drop (suc i) line) ≡ words_on [] (drop i line)
+  unfolding words_on
   skip-on e = rw (drop-cons line i 0 l, not-comment _ e, e)
 
   pub part-more : (at : ℕ) → at ≤ i → part line at (suc i) ≡ part line at i ++ (get_or line i 0 ∷ [])
@@ -44,28 +44,28 @@ module _ (line : List ℕ) (i : ℕ) (l : i < length line) where
       rw (e, take-suc (drop at line) (i - at) 0 s, get_or-drop at line (i - at) 0, f)
 
   pub pass_on : (at : ℕ) → at ≤ i → eqb (get_or line i 0) comment ≡ false → blank (get_or line i 0) ≡ false
-      → wordsOn (part line at i) (drop i line) ≡ wordsOn (part line at (suc i)) (drop (suc i) line)
-  unfolding wordsOn
+      → words_on (part line at i) (drop i line) ≡ words_on (part line at (suc i)) (drop (suc i) line)
+  unfolding words_on
   pass_on at h n b = rw (part-more at h, drop-cons line i 0 l, n, b)
 
-  pub at-comment : (w : List ℕ) → eqb (get_or line i 0) comment ≡ true → wordsOn w (drop i line) ≡ closed w (wordsOn [] (drop i line))
-  unfolding wordsOn
+  pub at-comment : (w : List ℕ) → eqb (get_or line i 0) comment ≡ true → words_on w (drop i line) ≡ closed w (words_on [] (drop i line))
+  unfolding words_on
   at-comment w e = rw (drop-cons line i 0 l, e)
 
-  pub at-blank : (w : List ℕ) → blank (get_or line i 0) ≡ true → wordsOn w (drop i line) ≡ closed w (wordsOn [] (drop i line))
-  unfolding wordsOn
+  pub at-blank : (w : List ℕ) → blank (get_or line i 0) ≡ true → words_on w (drop i line) ≡ closed w (words_on [] (drop i line))
+  unfolding words_on
   at-blank w e = rw (drop-cons line i 0 l, not-comment _ e, e)
 
-  no_word : blank (get_or line i 0) ≡ false → eqb (get_or line i 0) comment || blank (get_or line i 0) ≡ true → wordsOn [] (drop i line) ≡ []
-  unfolding wordsOn
+  no_word : blank (get_or line i 0) ≡ false → eqb (get_or line i 0) comment || blank (get_or line i 0) ≡ true → words_on [] (drop i line) ≡ []
+  unfolding words_on
   no_word b e = rw (drop-cons line i 0 l, or-alone (eqb (get_or line i 0) comment) (blank (get_or line i 0)) b e)
 
-pub at-end : (line : List ℕ) (i : ℕ) (w : List ℕ) → i ≡ length line → wordsOn w (drop i line) ≡ closed w (wordsOn [] (drop i line))
-unfolding wordsOn
+pub at-end : (line : List ℕ) (i : ℕ) (w : List ℕ) → i ≡ length line → words_on w (drop i line) ≡ closed w (words_on [] (drop i line))
+unfolding words_on
 at-end line i w e = rw (e, drop-length line)
 
-no_more : (line : List ℕ) (i : ℕ) → i ≡ length line → wordsOn [] (drop i line) ≡ []
-unfolding wordsOn
+no_more : (line : List ℕ) (i : ℕ) → i ≡ length line → words_on [] (drop i line) ≡ []
+unfolding words_on
 no_more line i e = rw (e, drop-length line)
 
 pub spanned : (line : List ℕ) (at from upto : ℕ) → Skipped line at from → Passed line from upto → Spanned line at from upto
@@ -82,6 +82,6 @@ spanned line at from upto s p = record {
         let h : upto - from ≤ length (drop from line) = simp length-drop (omega (arith, p.high)) in
         rw (length-take-le (upto - from) (drop from line) h) (omega arith)
 
-    ends : (from ≡ length line) ⊎ (from < length line) → from ≡ upto → wordsOn [] (drop from line) ≡ []
+    ends : (from ≡ length line) ⊎ (from < length line) → from ≡ upto → words_on [] (drop from line) ≡ []
     ends (inr l) e = no_word line from l (s.stops l) (rw (← e) at (p.stops (rw e at l)))
     ends (inl e) h = no_more line from e

@@ -17,17 +17,17 @@ closed [] rest = rest
 closed (b ∷ so_far) rest = (b ∷ so_far) ∷ rest
 
 -- the lines of a text; what follows the last newline is a line unless it is empty
-unfoldable pub linesOn : (so_far text : List ℕ) → List (List ℕ)
-linesOn so_far [] = closed so_far []
-linesOn so_far (b ∷ text) = cond (eqb b newline) (so_far ∷ linesOn [] text) (linesOn (so_far ++ (b ∷ [])) text)
+unfoldable pub lines_on : (so_far text : List ℕ) → List (List ℕ)
+lines_on so_far [] = closed so_far []
+lines_on so_far (b ∷ text) = cond (eqb b newline) (so_far ∷ lines_on [] text) (lines_on (so_far ++ (b ∷ [])) text)
 
 abbrev pub lines_of : (text : List ℕ) → List (List ℕ)
-lines_of text = linesOn [] text
+lines_of text = lines_on [] text
 
 -- the words of a line, up to a comment
-unfoldable pub wordsOn : (so_far line : List ℕ) → List (List ℕ)
-wordsOn so_far [] = closed so_far []
-wordsOn so_far (b ∷ line) = cond (eqb b comment) (closed so_far []) (cond (blank b) (closed so_far (wordsOn [] line)) (wordsOn (so_far ++ (b ∷ [])) line))
+unfoldable pub words_on : (so_far line : List ℕ) → List (List ℕ)
+words_on so_far [] = closed so_far []
+words_on so_far (b ∷ line) = cond (eqb b comment) (closed so_far []) (cond (blank b) (closed so_far (words_on [] line)) (words_on (so_far ++ (b ∷ [])) line))
 
 abbrev pub words_of : (line : List ℕ) → List (List ℕ)
-words_of line = wordsOn [] line
+words_of line = words_on [] line

@@ -1,7 +1,7 @@
 // One line: from place to place by its words, up to its end or to the first word that the place does not take.
 ghost use Rattle.std.specs.Prelude.{◌≡◌, ◌<◌, ◌≤◌, set};
 ghost use Rattle.grammar.specs.Grammar.{sets, grammar};
-ghost use Rattle.grammar.specs.Line.{placeAfter, setAfter, start_of, goesOn, readLine};
+ghost use Rattle.grammar.specs.Line.{place_after, set_after, start_of, goes_on, read_line};
 ghost use Rattle.grammar.specs.Reads.{Reads};
 
 use crate::{entries, table, words};
@@ -51,8 +51,8 @@ fn step(
     before: [u64; SETS],
 ) -> Stepped
     requires { (table.now ≡ grammar) × (place ≤ 63) }
-    ensures { (result.place ≡ placeAfter version place word.now) ×
-        (result.set ≡ setAfter version place word.now before) }
+    ensures { (result.place ≡ place_after version place word.now) ×
+        (result.set ≡ set_after version place word.now before) }
 {
     let row = table::row_for(table, version, place, word);
     if row == entries::ROWS {
@@ -79,7 +79,7 @@ fn start_of(begun: bool) -> u64
 
 // Whether a line goes on from a place.
 fn goes_on(place: u64) -> bool
-    ensures { result ≡ goesOn place }
+    ensures { result ≡ goes_on place }
 {
     if place < 1 {
         return false;
@@ -90,7 +90,7 @@ fn goes_on(place: u64) -> bool
 // A line's words one after another, from its first place.
 pub fn read_line(table: &[u64; table::ENTRIES], version: u64, begun: bool, line: &[u8]) -> Read
     requires { table.now ≡ grammar }
-    ensures { Reads line.now result (readLine version begun line.now) }
+    ensures { Reads line.now result (read_line version begun line.now) }
 {
     let mut place = start_of(begun);
     let mut set = [0u64; SETS];

@@ -1,7 +1,7 @@
 // What a word is read as: its letters, a whole number, a decimal, a survival number.
 ghost use Rattle.std.specs.Prelude.{◌≡◌, true, ◌^◌, ◌≤◌, length};
-ghost use Rattle.grammar.specs.Numbers.{withLetter, lettersOf, none, digit, withDigit, whole};
-ghost use Rattle.grammar.specs.Numbers.{most, pointIn, joined, fraction, share, parts};
+ghost use Rattle.grammar.specs.Numbers.{with_letter, letters_of, none, digit, with_digit, whole};
+ghost use Rattle.grammar.specs.Numbers.{most, point_in, joined, fraction, share, parts};
 
 use rules::version;
 
@@ -19,7 +19,7 @@ const MOST_DIGITS: usize = 9;
 
 // A letter more.
 fn with_letter(number: u64, letter: u8) -> u64
-    ensures { result ≡ withLetter number letter }
+    ensures { result ≡ with_letter number letter }
 {
     if number < SEVEN {
         return number * 257 + letter as u64 + 1;
@@ -29,7 +29,7 @@ fn with_letter(number: u64, letter: u8) -> u64
 
 // A word by its letters.
 pub fn letters(word: &[u8]) -> u64
-    ensures { result ≡ lettersOf word.now }
+    ensures { result ≡ letters_of word.now }
 {
     let mut number: u64 = 0;
     let mut i = 0;
@@ -52,7 +52,7 @@ fn is_digit(b: u8) -> bool
 // A digit more.
 fn with_digit(number: u64, b: u8) -> u64
     requires { (number ≤ none) × (digit b ≡ true) }
-    ensures { (result ≡ withDigit number b) × (result ≤ none) }
+    ensures { (result ≡ with_digit number b) × (result ≤ none) }
 {
     let next = number * 10 + (b - 48) as u64;
     if next < NONE {
@@ -83,7 +83,7 @@ pub fn whole(word: &[u8]) -> u64
 
 // Where the first point stands; the word's length where there is none.
 fn point(word: &[u8]) -> usize
-    ensures { (result ≡ pointIn word.now) × (result ≤ length word.now) }
+    ensures { (result ≡ point_in word.now) × (result ≤ length word.now) }
 {
     let mut i = 0;
     while i < word.len() {

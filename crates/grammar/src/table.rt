@@ -1,7 +1,7 @@
 // What may follow what in a line: the table of the grammar, and the row that takes a word.
 ghost use Rattle.std.specs.Prelude.{◌≡◌, ◌<◌, ◌≤◌};
 ghost use Rattle.grammar.specs.Grammar.{reading, rows, grammar};
-ghost use Rattle.grammar.specs.Line.{takes, rowFor, valueBy};
+ghost use Rattle.grammar.specs.Line.{takes, row_for, value_by};
 
 use crate::entries::ROWS;
 use rules::version;
@@ -64,7 +64,7 @@ fn row_takes(table: &[u64; ENTRIES], version: u64, place: u64, word: &[u8], i: u
 // What a row sets: by a word its own value, by a number that number.
 pub fn value_by(table: &[u64; ENTRIES], version: u64, row: usize, word: &[u8]) -> u64
     requires { (table.now ≡ grammar) × (row < rows) }
-    ensures { result ≡ valueBy version row word.now }
+    ensures { result ≡ value_by version row word.now }
 {
     let at = row * PER_ROW;
     let way = table[at + 1];
@@ -77,7 +77,7 @@ pub fn value_by(table: &[u64; ENTRIES], version: u64, row: usize, word: &[u8]) -
 // The first row that takes a word at a place; ROWS where none does.
 pub fn row_for(table: &[u64; ENTRIES], version: u64, place: u64, word: &[u8]) -> usize
     requires { table.now ≡ grammar }
-    ensures { (result ≡ rowFor version place word.now) × (result ≤ rows) }
+    ensures { (result ≡ row_for version place word.now) × (result ≤ rows) }
 {
     let mut i = 0;
     while i < ROWS {

@@ -8,8 +8,8 @@ use native.Mathlib.Numerals.{add-one, add-two}
 use native.Mathlib.Omega.{arith}
 use lib.ListN.{length, get_or, take, drop, length-append, length-take, length-drop}
 use lib.Seq.{drop-cons, take-add, drop-drop, get_or-take, get_or-drop}
-use Rattle.rules.specs.Below.{listBelow}
-use Rattle.rules.specs.File.{bytes_of, number_at, nthNumber, numbersFrom, all_bytes}
+use Rattle.rules.specs.Below.{list_below}
+use Rattle.rules.specs.File.{bytes_of, number_at, nth_number, numbers_from, all_bytes}
 use Rattle.layout.specs.Fits.{Under, Bytes}
 use Rattle.rules.proofs.Lists.{below-is}
 use Rattle.layout.proofs.Under.{under_rest}
@@ -107,18 +107,18 @@ pub record Stands (width : ℕ) (xs bytes : List ℕ) (at : ℕ) : Type 0 where
 
 -- reading the bytes of a list gives the list, and the bytes of a list that was read are those that were read
 pub number-within : {width : ℕ} {xs bytes : List ℕ} {at : ℕ} → Stands width xs bytes at → Under (256 ^ width) xs
-    → (i : ℕ) → i < length xs → nthNumber width bytes at i ≡ get_or xs i 0
+    → (i : ℕ) → i < length xs → nth_number width bytes at i ≡ get_or xs i 0
 number-within {width} {xs} s small i h =
     rw (s.parts, ← s.place, append_assoc, number-right width s.before (all_bytes width xs ++ s.after) (width * i))
     (number_in width xs s.after i small h)
 
 pub numbers-back : {width : ℕ} {xs bytes : List ℕ} {at : ℕ} → Stands width xs bytes at → Under (256 ^ width) xs
-    → (n : ℕ) → length xs ≡ n → numbersFrom width bytes at n ≡ xs
+    → (n : ℕ) → length xs ≡ n → numbers_from width bytes at n ≡ xs
 numbers-back {xs} s small n l = below-is xs 0 n _ l (λ i h. number-within s small i (rw l h))
 
 pub bytes_back : (width : ℕ) (bytes : List ℕ) (at n : ℕ) → Bytes bytes → at + width * n ≤ length bytes
-    → all_bytes width (numbersFrom width bytes at n) ≡ take (width * n) (drop at bytes)
-unfolding all_bytes listBelow
+    → all_bytes width (numbers_from width bytes at n) ≡ take (width * n) (drop at bytes)
+unfolding all_bytes list_below
 bytes_back width bytes at zero small h = rw mul-zero
 bytes_back width bytes at (suc n) small h =
     let e : width * suc n ≡ width * n + width = rw mul-suc (omega arith) in
@@ -127,13 +127,13 @@ bytes_back width bytes at (suc n) small h =
       e,
       take-add (width * n) width (drop at bytes),
       drop-drop (width * n) at bytes,
-      all_append width (numbersFrom width bytes at n) (nthNumber width bytes at n ∷ []),
+      all_append width (numbers_from width bytes at n) (nth_number width bytes at n ∷ []),
       bytes_back width bytes at n small (omega arith),
     )
     (ap (λ x. take (width * n) (drop at bytes) ++ x) (append-nil _ ∙ bytes-number width bytes (at + width * n) small fits))
 
 -- single bytes as they stand
-pub bytes-are : (bytes : List ℕ) (at n : ℕ) → at + n ≤ length bytes → take n (drop at bytes) ≡ numbersFrom 1 bytes at n
+pub bytes-are : (bytes : List ℕ) (at n : ℕ) → at + n ≤ length bytes → take n (drop at bytes) ≡ numbers_from 1 bytes at n
 unfolding number_at
 bytes-are bytes at n fits =
     sym

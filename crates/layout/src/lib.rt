@@ -2,8 +2,8 @@
 pub mod number; // number.rt: numbers that bytes spell
 
 ghost use Rattle.std.specs.Prelude.{◌≡◌, ◌^◌, ◌≤◌, ◌<◌};
-ghost use Rattle.rules.specs.File.{headerLength, boardFans, weightsOffset, boardsOffset, switchboardsOffset};
-ghost use Rattle.rules.specs.File.{systemsOffset, fileLength};
+ghost use Rattle.rules.specs.File.{header_length, board_fans, weights_offset, boards_offset, switchboards_offset};
+ghost use Rattle.rules.specs.File.{systems_offset, file_length};
 
 pub const VERSION_FIELD: usize = 0;
 
@@ -38,7 +38,7 @@ pub const SYSTEM_BYTES: usize = 10;
 
 // How long the header is, which is where the survival numbers begin.
 pub fn header_length(version: u64) -> usize
-    ensures { (result ≡ headerLength version) × (result < 2 ^ 16) }
+    ensures { (result ≡ header_length version) × (result < 2 ^ 16) }
 {
     if board_lists::has_boards(version) {
         return LONGER_HEADER;
@@ -48,7 +48,7 @@ pub fn header_length(version: u64) -> usize
 
 // Of how many of n fans a file has the board number.
 pub fn board_fans(version: u64, n: usize) -> usize
-    ensures { (result ≡ boardFans version n) × (result ≤ n) }
+    ensures { (result ≡ board_fans version n) × (result ≤ n) }
 {
     if board_lists::has_boards(version) {
         return n;
@@ -59,7 +59,7 @@ pub fn board_fans(version: u64, n: usize) -> usize
 // Where the weights of n fans begin.
 pub fn weights_offset(version: u64, n: usize) -> usize
     requires { n < 2 ^ 16 }
-    ensures { (result ≡ weightsOffset version n) × (result < 2 ^ 20) }
+    ensures { (result ≡ weights_offset version n) × (result < 2 ^ 20) }
 {
     header_length(version) + SURVIVAL_BYTES * n
 }
@@ -67,7 +67,7 @@ pub fn weights_offset(version: u64, n: usize) -> usize
 // Where their board numbers begin.
 pub fn boards_offset(version: u64, n: usize) -> usize
     requires { n < 2 ^ 16 }
-    ensures { (result ≡ boardsOffset version n) × (result < 2 ^ 21) }
+    ensures { (result ≡ boards_offset version n) × (result < 2 ^ 21) }
 {
     weights_offset(version, n) + WEIGHT_BYTES * n
 }
@@ -75,7 +75,7 @@ pub fn boards_offset(version: u64, n: usize) -> usize
 // Where the boards' survival numbers begin.
 pub fn board_survival_offset(version: u64, n: usize) -> usize
     requires { n < 2 ^ 16 }
-    ensures { (result ≡ switchboardsOffset version n) × (result < 2 ^ 22) }
+    ensures { (result ≡ switchboards_offset version n) × (result < 2 ^ 22) }
 {
     boards_offset(version, n) + BOARD_BYTES * board_fans(version, n)
 }
@@ -83,7 +83,7 @@ pub fn board_survival_offset(version: u64, n: usize) -> usize
 // Where the systems of a deck of n fans and g boards begin.
 pub fn systems_offset(version: u64, n: usize, g: usize) -> usize
     requires { (n < 2 ^ 16) × (g < 2 ^ 32) }
-    ensures { (result ≡ systemsOffset version n g) × (result < 2 ^ 35) }
+    ensures { (result ≡ systems_offset version n g) × (result < 2 ^ 35) }
 {
     board_survival_offset(version, n) + SURVIVAL_BYTES * g
 }
@@ -91,7 +91,7 @@ pub fn systems_offset(version: u64, n: usize, g: usize) -> usize
 // How long a file of n fans, g boards and m systems is.
 pub fn file_length(version: u64, n: usize, g: usize, m: usize) -> usize
     requires { (n < 2 ^ 16) × (g < 2 ^ 32) × (m < 2 ^ 16) }
-    ensures { result ≡ fileLength version n g m }
+    ensures { result ≡ file_length version n g m }
 {
     systems_offset(version, n, g) + SYSTEM_BYTES * m
 }

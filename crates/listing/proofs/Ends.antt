@@ -9,29 +9,29 @@ use native.Mathlib.Omega.{arith}
 use lib.ListN.{length, get_or, take, drop, length-drop}
 use lib.Seq.{take_all, take-add, take-suc, take-length}
 use borrow.Author.Tests.{ne_eqb}
-use Rattle.grammar.specs.Words.{newline, linesOn, lines_of}
+use Rattle.grammar.specs.Words.{newline, lines_on, lines_of}
 use Rattle.grammar.specs.Stands.{part}
 use Rattle.grammar.proofs.Walking.{part-more}
 use Rattle.listing.specs.Lines.{OneLine, LineEnds, LinesEnd}
 
 pub one_none : {bytes : List ℕ} → bytes ≡ [] → OneLine bytes
-one_none none so_far rest = ap (λ x. linesOn so_far (x ++ rest)) none ∙ ap (λ x. linesOn x rest) (sym (append-nil so_far) ∙ ap (λ x. so_far ++ x) (sym none))
+one_none none so_far rest = ap (λ x. lines_on so_far (x ++ rest)) none ∙ ap (λ x. lines_on x rest) (sym (append-nil so_far) ∙ ap (λ x. so_far ++ x) (sym none))
 
 -- a byte more
 one_more : (bytes : List ℕ) (b : ℕ) → OneLine bytes → (b ≡ newline → ⊥) → OneLine (bytes ++ (b ∷ []))
-unfolding linesOn
+unfolding lines_on
 one_more bytes b one other so_far rest =
-    ap (linesOn so_far) (append_assoc bytes (b ∷ []) rest)
+    ap (lines_on so_far) (append_assoc bytes (b ∷ []) rest)
     ∙ one so_far (b ∷ rest)
-    ∙ ap (λ t. cond t ((so_far ++ bytes) ∷ linesOn [] rest) (linesOn ((so_far ++ bytes) ++ (b ∷ [])) rest)) (ne_eqb b newline other)
-    ∙ ap (λ x. linesOn x rest) (append_assoc so_far bytes (b ∷ []))
+    ∙ ap (λ t. cond t ((so_far ++ bytes) ∷ lines_on [] rest) (lines_on ((so_far ++ bytes) ++ (b ∷ [])) rest)) (ne_eqb b newline other)
+    ∙ ap (λ x. lines_on x rest) (append_assoc so_far bytes (b ∷ []))
 
 pub one_on : (text : List ℕ) (at i : ℕ) → at ≤ i → i < length text → OneLine (part text at i) → (get_or text i 0 ≡ newline → ⊥) → OneLine (part text at (i + 1))
 one_on text at i low l one other = rw (add-one i, part-more text i l at low) (one_more (part text at i) (get_or text i 0) one other)
 
 -- a line and its newline
-pub line-ended : (bytes so_far rest : List ℕ) → OneLine bytes → linesOn so_far (bytes ++ newline ∷ rest) ≡ (so_far ++ bytes) ∷ lines_of rest
-unfolding linesOn
+pub line-ended : (bytes so_far rest : List ℕ) → OneLine bytes → lines_on so_far (bytes ++ newline ∷ rest) ≡ (so_far ++ bytes) ∷ lines_of rest
+unfolding lines_on
 line-ended bytes so_far rest one = one so_far (newline ∷ rest)
 
 -- a text that ends with a line: whatever follows, its lines come first
@@ -39,7 +39,7 @@ abbrev pub Whole : List ℕ → Type 0
 Whole front = (rest : List ℕ) → lines_of (front ++ rest) ≡ lines_of front ++ lines_of rest
 
 pub whole-none : Whole []
-unfolding linesOn
+unfolding lines_on
 whole-none rest = refl
 
 module _ (text : List ℕ) (at : ℕ) (front : Whole (take at text)) where
@@ -64,7 +64,7 @@ module _ (text : List ℕ) (at : ℕ) (front : Whole (take at text)) where
         ∙ ap (λ x. lines_of (take at text) ++ x) (line-ended (part text at end) [] rest e.one)
 
     lines-so-far : lines_of next ≡ lines_of (take at text) ++ (part text at end ∷ [])
-    unfolding linesOn
+    unfolding lines_on
     lines-so-far = ap lines_of (sym (append-nil next)) ∙ together []
 
     pub lines-on : lines_of (take (end + 1) text) ≡ lines_of (take at text) ++ (part text at end ∷ [])

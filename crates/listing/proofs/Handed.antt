@@ -4,10 +4,10 @@ use mathlib.Core.List.{List, [], ◌∷◌}
 use Prim.Native.Nat.{ℕ, ◌*◌}
 use native.Mathlib.Omega.{arith}
 use lib.ListN.{length, take, length-take}
-use Rattle.rules.specs.File.{perSystem}
+use Rattle.rules.specs.File.{per_system}
 use Rattle.rules.specs.Writing.{Typed, typed_of}
-use Rattle.grammar.specs.Text.{Listed, Fault, faultsOf, typedBy, typedText}
-use Rattle.faults.specs.Told.{mostTold}
+use Rattle.grammar.specs.Text.{Listed, Fault, faults_of, typed_by, typed_text}
+use Rattle.faults.specs.Told.{most_told}
 use Rattle.listing.specs.declared.Listing.{Listing}
 use Rattle.typed_lists.specs.declared.told.Told.{Told}
 use Rattle.typed_lists.specs.Lists.{TypedNumbers}
@@ -18,9 +18,9 @@ use Rattle.listing.specs.Holds.{Holds, Sane, HoldsText}
 abbrev pub handed : Listing → (numbers : List ℕ) → Typed
 handed l numbers =
     typed_of l.version (take l.fans.count l.fans.survival) (take l.fans.count l.fans.weights) (take l.fans.count l.fans.boards)
-    (take l.boards l.switchboards) (take (l.systems.count * perSystem) numbers)
+    (take l.boards l.switchboards) (take (l.systems.count * per_system) numbers)
 
-pub held-typed : {l : Listing} {s : Listed} {out : List ℕ} → Holds l s out → (numbers : List ℕ) → TypedNumbers l.fans.count l.systems numbers → handed l numbers ≡ typedBy s
+pub held-typed : {l : Listing} {s : Listed} {out : List ℕ} → Holds l s out → (numbers : List ℕ) → TypedNumbers l.fans.count l.systems numbers → handed l numbers ≡ typed_by s
 held-typed {l} {s} h numbers n =
     let five = (n s.systems h.systems).stands in
     rw (h.fans.parts.stands, h.fans.weighed.stands, h.fans.placed.stands, h.boards.stands, five, h.version, ← h.fans.parts.counted)
@@ -39,20 +39,20 @@ sane-held h = record {
 
 -- of a whole text
 module _ {l : Listing} (text : List ℕ) {out : List ℕ} (h : HoldsText l text out) where
-  pub text-typed : (numbers : List ℕ) → TypedNumbers l.fans.count l.systems numbers → handed l numbers ≡ typedText text
-  unfolding typedText
+  pub text-typed : (numbers : List ℕ) → TypedNumbers l.fans.count l.systems numbers → handed l numbers ≡ typed_text text
+  unfolding typed_text
   text-typed numbers n = held-typed h numbers n
 
-  pub text-told : Telling l.told (faultsOf text) out
-  unfolding faultsOf
+  pub text-told : Telling l.told (faults_of text) out
+  unfolding faults_of
   text-told = h.told
 
 pub none_told : {t : Told} {faults : List Fault} {out : List ℕ} → Telling t faults out → t.count ≡ 0 → faults ≡ []
-none_told {t} {faults} h z = go faults (omega (arith, h.count, length-take mostTold faults))
+none_told {t} {faults} h z = go faults (omega (arith, h.count, length-take most_told faults))
   where
     go : (x : List Fault) → length x ≡ 0 → x ≡ []
     go [] e = refl
     go (f ∷ x) e = absurd (omega arith)
 
 pub some-told : {t : Told} {faults : List Fault} {out : List ℕ} → Telling t faults out → faults ≡ [] → t.count ≡ 0
-some-told h e = h.count ∙ ap (λ x. length (take mostTold x)) e
+some-told h e = h.count ∙ ap (λ x. length (take most_told x)) e

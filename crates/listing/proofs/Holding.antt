@@ -7,11 +7,11 @@ use lib.ListN.{length, get_or}
 use borrow.Author.Tests.{eq-eqb, ne_eqb, lt-ltb, le-ltb}
 use Rattle.grammar.specs.declared.line.Read.{Read as LineRead}
 use Rattle.grammar.specs.Words.{words_of}
-use Rattle.grammar.specs.Grammar.{ofBelow}
+use Rattle.grammar.specs.Grammar.{of_below}
 use Rattle.grammar.specs.Stands.{part}
-use Rattle.grammar.specs.Line.{Read, readLine}
+use Rattle.grammar.specs.Line.{Read, read_line}
 use Rattle.grammar.specs.Reads.{Reads, Within}
-use Rattle.grammar.specs.Text.{Listed, longestLine, longLine, faultAt, told, counted, orTold, added, thing, wordy, withLine}
+use Rattle.grammar.specs.Text.{Listed, longest_line, long_line, fault_at, told, counted, or_told, added, thing, wordy, with_line}
 use Rattle.grammar.proofs.Bounds.{within-line}
 use Rattle.listing.specs.declared.Listing.{Listing}
 use Rattle.listing.specs.Holds.{Holds, Steps}
@@ -22,29 +22,29 @@ pub step-as : {n : ℕ} {before after : Listing} {out then : List ℕ} {step sam
 step-as steps is = record { sane = steps.sane; few = steps.few; holds = λ s h. rw (is s) (steps.holds s h) }
 
 module _ {l r : Listing} {out then : List ℕ} (s : Listed) (h : Holds l s out) (more most wanted : ℕ) (first : List ℕ) (next : Listed) where
-  pub none_left : most < more → Steps 0 l out r then (λ x. told x (faultAt l.lines first wanted 0)) → Holds r (orTold more most wanted first s next) then
+  pub none_left : most < more → Steps 0 l out r then (λ x. told x (fault_at l.lines first wanted 0)) → Holds r (or_told more most wanted first s next) then
   none_left q e = rw (lt-ltb most more q) (rw h.lines at (e.holds s h))
 
-  pub some_left : more ≤ most → Holds r next then → Holds r (orTold more most wanted first s next) then
+  pub some_left : more ≤ most → Holds r next then → Holds r (or_told more most wanted first s next) then
   some_left q e = rw (le-ltb most more q) e
 
 -- a line with words, by how its reading ends
-module _ (l : Listing) (line : List ℕ) (read : LineRead) (reads : Reads line read (readLine l.version l.begun line)) where
+module _ (l : Listing) (line : List ℕ) (read : LineRead) (reads : Reads line read (read_line l.version l.begun line)) where
   pub within-read : Within read.set
   within-read = rw reads.set (within-line l.version l.begun line)
 
   module _ {out : List ℕ} (s : Listed) (h : Holds l s out) where
     abbrev right : Read
-    right = readLine s.version s.begun line
+    right = read_line s.version s.begun line
 
-    same : readLine l.version l.begun line ≡ right
-    same = ap₂ (λ v b. readLine v b line) h.version h.begun
+    same : read_line l.version l.begun line ≡ right
+    same = ap₂ (λ v b. read_line v b line) h.version h.begun
 
     ends : read.ended ≡ right.ended
     ends = reads.ended ∙ ap (λ x. x.ended) same
 
     pub with-fault : {r : Listing} {then : List ℕ} (first : List ℕ) (n : ℕ) → n ≡ s.lines + 1 → (read.ended ≡ 0 → ⊥)
-        → Holds r (told (counted s true) (faultAt n (part line read.from read.upto) read.ended (get_or read.set ofBelow 0))) then
+        → Holds r (told (counted s true) (fault_at n (part line read.from read.upto) read.ended (get_or read.set of_below 0))) then
         → Holds r (thing (counted s true) first right) then
     unfolding thing
     with-fault first n is some e =
@@ -60,16 +60,16 @@ module _ (l : Listing) (line : List ℕ) (read : LineRead) (reads : Reads line r
 
 -- a line that is too long, one without words, one with words
 module _ {r : Listing} {then : List ℕ} (s : Listed) (line : List ℕ) where
-  pub long-line : longestLine < length line → Holds r (told (counted s s.begun) (faultAt (s.lines + 1) [] longLine 0)) then → Holds r (withLine s line) then
-  unfolding withLine
-  long-line l e = rw (lt-ltb longestLine (length line) l) e
+  pub long-line : longest_line < length line → Holds r (told (counted s s.begun) (fault_at (s.lines + 1) [] long_line 0)) then → Holds r (with_line s line) then
+  unfolding with_line
+  long-line l e = rw (lt-ltb longest_line (length line) l) e
 
-  module _ (l : length line ≤ longestLine) where
-    pub blank-line : words_of line ≡ [] → Holds r (counted s s.begun) then → Holds r (withLine s line) then
-    unfolding withLine wordy
-    blank-line w e = rw (le-ltb longestLine (length line) l, w) e
+  module _ (l : length line ≤ longest_line) where
+    pub blank-line : words_of line ≡ [] → Holds r (counted s s.begun) then → Holds r (with_line s line) then
+    unfolding with_line wordy
+    blank-line w e = rw (le-ltb longest_line (length line) l, w) e
 
     pub wordy-line : (first : List ℕ) (words : List (List ℕ)) → words_of line ≡ first ∷ words
-        → Holds r (thing (counted s true) first (readLine s.version s.begun line)) then → Holds r (withLine s line) then
-    unfolding withLine wordy
-    wordy-line first words w e = rw (le-ltb longestLine (length line) l, w) e
+        → Holds r (thing (counted s true) first (read_line s.version s.begun line)) then → Holds r (with_line s line) then
+    unfolding with_line wordy
+    wordy-line first words w e = rw (le-ltb longest_line (length line) l, w) e

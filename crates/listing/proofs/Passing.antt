@@ -8,11 +8,11 @@ use lib.ListN.{length, get_or, drop}
 use lib.Seq.{drop-cons}
 use borrow.Author.Tests.{eq-eqb, ne_eqb, lt-ltb, le-ltb}
 use Rattle.text.specs.Decimal.{decimal}
-use Rattle.grammar.specs.Text.{Fault, faultAt, noSuchBoard, unplaced}
+use Rattle.grammar.specs.Text.{Fault, fault_at, no_such_board, unplaced}
 use Rattle.typed_lists.specs.declared.told.Told.{Told}
 use Rattle.listing.specs.declared.ending.ToldLast.{ToldLast}
 use Rattle.typed_lists.specs.Told.{Roomy, MoreTold}
-use Rattle.listing.specs.Ending.{isUnplaced, PassedFan}
+use Rattle.listing.specs.Ending.{is_unplaced, PassedFan}
 use Rattle.typed_lists.proofs.Telling.{told_none, told-then}
 use Rattle.listing.proofs.Ends.{beyond}
 
@@ -44,13 +44,13 @@ module _ {g : ℕ} {boards lines : List ℕ} {before : Told} {out : List ℕ} {i
   }
     where
       test : Bool
-      test = isUnplaced g p.line (get_or lines i 0) (get_or boards i 0)
+      test = is_unplaced g p.line (get_or lines i 0) (get_or boards i 0)
 
       new : List Fault
-      new = cond test (faultAt (get_or lines i 0) (decimal (get_or boards i 0)) noSuchBoard g ∷ []) []
+      new = cond test (fault_at (get_or lines i 0) (decimal (get_or boards i 0)) no_such_board g ∷ []) []
 
       split : unplaced g p.line (drop i boards) (drop i lines)
-          ≡ cond test (faultAt (get_or lines i 0) (decimal (get_or boards i 0)) noSuchBoard g ∷ unplaced g (get_or lines i 0) (drop (suc i) boards) (drop (suc i) lines)) (unplaced g p.line (drop (suc i) boards) (drop (suc i) lines))
+          ≡ cond test (fault_at (get_or lines i 0) (decimal (get_or boards i 0)) no_such_board g ∷ unplaced g (get_or lines i 0) (drop (suc i) boards) (drop (suc i) lines)) (unplaced g p.line (drop (suc i) boards) (drop (suc i) lines))
       split = rw (drop-cons boards i 0 l, drop-cons lines i 0 m)
 
   pub passing-all : {p : ToldLast} {then : List ℕ} → Passing g boards lines before out p then i → length boards ≤ i → MoreTold before out p.told then (unplaced g 0 boards lines)
@@ -59,11 +59,11 @@ module _ {g : ℕ} {boards lines : List ℕ} {before : Told} {out : List ℕ} {i
 
 -- whether a fan is told, test by test
 module _ (g told line board : ℕ) where
-  pub placed : board ≤ g → isUnplaced g told line board ≡ false
+  pub placed : board ≤ g → is_unplaced g told line board ≡ false
   placed h = rw (le-ltb g board h)
 
-  pub told-already : g < board → line ≡ told → isUnplaced g told line board ≡ false
+  pub told-already : g < board → line ≡ told → is_unplaced g told line board ≡ false
   told-already h e = rw (lt-ltb g board h, eq-eqb line told e)
 
-  pub not_yet : g < board → (line ≡ told → ⊥) → isUnplaced g told line board ≡ true
+  pub not_yet : g < board → (line ≡ told → ⊥) → is_unplaced g told line board ≡ true
   not_yet h n = rw (lt-ltb g board h, ne_eqb line told n)

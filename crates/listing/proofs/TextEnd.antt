@@ -7,7 +7,7 @@ use native.Mathlib.Omega.{arith}
 use lib.Dec.{eqb}
 use lib.ListN.{length, take}
 use borrow.Author.Tests.{eq-eqb, ne_eqb}
-use Rattle.grammar.specs.Text.{Listed, Fault, noFan, noSystem, noBoard, missing, unplaced, lastFaults}
+use Rattle.grammar.specs.Text.{Listed, Fault, no_fan, no_system, no_board, missing, unplaced, last_faults}
 use Rattle.listing.specs.declared.Listing.{Listing}
 use Rattle.typed_lists.specs.declared.told.Told.{Told}
 use Rattle.typed_lists.specs.Told.{Roomy, Telling}
@@ -29,14 +29,14 @@ module _ {l : Listing} {s : Listed} {out : List ℕ} (h : Holds l s out) where
   -- what the lists lack, as the counts say it
   abbrev pub lacks : List Fault
   lacks =
-      missing l.lines (eqb l.fans.count 0) noFan
-      ++ missing l.lines (eqb l.systems.count 0) noSystem
-      ++ missing l.lines (eqb l.version 3 && eqb l.boards 0) noBoard
+      missing l.lines (eqb l.fans.count 0) no_fan
+      ++ missing l.lines (eqb l.systems.count 0) no_system
+      ++ missing l.lines (eqb l.version 3 && eqb l.boards 0) no_board
 
   abbrev elsewhere : List Fault
-  elsewhere = cond (eqb (length s.switchboards) 0) [] (unplaced (length s.switchboards) 0 s.boards s.fanLines)
+  elsewhere = cond (eqb (length s.switchboards) 0) [] (unplaced (length s.switchboards) 0 s.boards s.fan_lines)
 
-  same-last : lacks ++ elsewhere ≡ lastFaults s
+  same-last : lacks ++ elsewhere ≡ last_faults s
   same-last =
       rw (h.lines, h.version, ← h.fans.parts.counted, h.systems.count, ← h.boards.counted)
 

@@ -1,31 +1,31 @@
 -- A listing and the buffer of its faults hold what has been read of a text.
 use Rattle.std.specs.Prelude.{◌≡◌, Bool, List, ◌++◌, ℕ, ◌+◌, ◌≤◌, length}
-use Rattle.rules.specs.Refusal.{mostBoards}
-use Rattle.rules.specs.File.{mostSystems}
-use Rattle.grammar.specs.Text.{Listed, nothing, counted, lastFaults, listed}
+use Rattle.rules.specs.Refusal.{most_boards}
+use Rattle.rules.specs.File.{most_systems}
+use Rattle.grammar.specs.Text.{Listed, nothing, counted, last_faults, listed}
 use Rattle.listing.specs.declared.Listing.{Listing}
 use Rattle.typed_lists.specs.Lists.{Stored, Fanned, Lined, Ruled}
-use Rattle.typed_lists.specs.Told.{toldRoom, Roomy, Telling}
+use Rattle.typed_lists.specs.Told.{told_room, Roomy, Telling}
 
 pub record Holds (l : Listing) (s : Listed) (out : List ℕ) : Type 0 where
   pub lines : l.lines ≡ s.lines
   pub version : l.version ≡ s.version
   pub begun : l.begun ≡ s.begun
-  pub fans : Fanned l.fans s.survival s.weights s.boards s.fanLines
-  pub boards : Stored mostBoards l.boards l.switchboards s.switchboards
+  pub fans : Fanned l.fans s.survival s.weights s.boards s.fan_lines
+  pub boards : Stored most_boards l.boards l.switchboards s.switchboards
   pub systems : Ruled l.systems s.systems
   pub told : Telling l.told s.faults out
 
 -- nothing has been read, and all faults can be told
 abbrev pub Starts : Listing → Type 0
-Starts l = (out : List ℕ) → toldRoom ≤ length out → Holds l nothing out
+Starts l = (out : List ℕ) → told_room ≤ length out → Holds l nothing out
 
 -- what is counted has room in its arrays
 pub record Counted (l : Listing) : Type 0 where
   pub fans : Lined l.fans
-  pub boards : l.boards ≤ mostBoards
-  pub switchboards : length l.switchboards ≡ mostBoards
-  pub systems : l.systems.count ≤ mostSystems
+  pub boards : l.boards ≤ most_boards
+  pub switchboards : length l.switchboards ≡ most_boards
+  pub systems : l.systems.count ≤ most_systems
 
 -- and so has what may still be told: as each step asks
 pub record Sane (l : Listing) (out : List ℕ) : Type 0 where
@@ -45,8 +45,8 @@ pub record Counts (before after : Listing) (begun : Bool) : Type 0 where
   pub holds : (out : List ℕ) (s : Listed) → Holds before s out → Holds after (counted s begun) out
 
 -- lines are counted up to 2^62, which no text reaches
-abbrev pub mostLines : ℕ
-mostLines = 4611686018427387904
+abbrev pub most_lines : ℕ
+most_lines = 4611686018427387904
 
 -- the end of the text: what can be told only then
 abbrev pub ended : Listed → Listed
@@ -57,10 +57,10 @@ ended s = record {
   survival = s.survival;
   weights = s.weights;
   boards = s.boards;
-  fanLines = s.fanLines;
+  fan_lines = s.fan_lines;
   switchboards = s.switchboards;
   systems = s.systems;
-  faults = s.faults ++ lastFaults s;
+  faults = s.faults ++ last_faults s;
 }
 
 -- a whole text: what it lists and its faults

@@ -1,6 +1,6 @@
 // What a line that has been read adds; its first word is told where there is no room for that.
 ghost use Rattle.grammar.specs.Reads.{Within};
-ghost use Rattle.grammar.specs.Text.{faultAt, told, addedFans, addedBoard, addedSystem, added};
+ghost use Rattle.grammar.specs.Text.{fault_at, told, added_fans, added_board, added_system, added};
 ghost use Rattle.listing.specs.Holds.{Sane, Steps};
 
 use crate::Listing;
@@ -44,7 +44,7 @@ pub fn tell(
 ) -> Listing
     requires { Sane listing out.old }
     ensures { Steps 0 listing out.old result out.new
-        (λ s. told s (faultAt line word.now wanted named)) }
+        (λ s. told s (fault_at line word.now wanted named)) }
 {
     let before = listing.told;
     let after = told::plus(before, line, word, wanted, named, out);
@@ -56,7 +56,7 @@ pub fn tell(
 // Some fans.
 fn added_fans(listing: Listing, first: &[u8], set: [u64; SETS], out: &mut [u8]) -> Listing
     requires { Sane listing out.old × Within set }
-    ensures { Steps 0 listing out.old result out.new (λ s. addedFans s first.now set) }
+    ensures { Steps 0 listing out.old result out.new (λ s. added_fans s first.now set) }
 {
     let before = listing.fans;
     let more = set[OF_NUMBER];
@@ -75,7 +75,7 @@ fn added_fans(listing: Listing, first: &[u8], set: [u64; SETS], out: &mut [u8]) 
 // A board.
 fn added_board(listing: Listing, first: &[u8], set: [u64; SETS], out: &mut [u8]) -> Listing
     requires { Sane listing out.old × Within set }
-    ensures { Steps 0 listing out.old result out.new (λ s. addedBoard s first.now set) }
+    ensures { Steps 0 listing out.old result out.new (λ s. added_board s first.now set) }
 {
     let g = listing.boards;
     if g + 1 > limit::BOARDS {
@@ -92,7 +92,7 @@ fn added_board(listing: Listing, first: &[u8], set: [u64; SETS], out: &mut [u8])
 // A system.
 fn added_system(listing: Listing, first: &[u8], set: [u64; SETS], out: &mut [u8]) -> Listing
     requires { Sane listing out.old × Within set }
-    ensures { Steps 0 listing out.old result out.new (λ s. addedSystem s first.now set) }
+    ensures { Steps 0 listing out.old result out.new (λ s. added_system s first.now set) }
 {
     let before = listing.systems;
     if before.count + 1 > limit::SYSTEMS {

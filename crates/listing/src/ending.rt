@@ -1,9 +1,9 @@
 // What can be told only at a text's end: what it lacks, and its fans on boards that are not there.
 ghost use Rattle.std.specs.Prelude.{[], ◌∷◌, ◌<◌, take};
 ghost use Rattle.text.specs.Decimal.{decimal};
-ghost use Rattle.grammar.specs.Text.{faultAt, noSuchBoard, missing, unplaced};
+ghost use Rattle.grammar.specs.Text.{fault_at, no_such_board, missing, unplaced};
 ghost use Rattle.typed_lists.specs.Lists.{Lined};
-ghost use Rattle.listing.specs.Holds.{mostLines};
+ghost use Rattle.listing.specs.Holds.{most_lines};
 ghost use Rattle.typed_lists.specs.Told.{Roomy, MoreTold};
 ghost use Rattle.listing.specs.Ending.{PassedFan};
 
@@ -18,7 +18,7 @@ const DIGITS: usize = 20;
 
 // What a text lacks, told with the line after its last.
 pub fn missing(before: Told, lines: u64, lacks: bool, wanted: u64, out: &mut [u8]) -> Told
-    requires { Roomy before out.old × (lines < mostLines) }
+    requires { Roomy before out.old × (lines < most_lines) }
     ensures { MoreTold before out.old result out.new (missing lines lacks wanted) }
 {
     if !lacks {
@@ -31,7 +31,7 @@ pub fn missing(before: Told, lines: u64, lacks: bool, wanted: u64, out: &mut [u8
 fn tell_board(before: Told, line: u64, board: u8, g: usize, out: &mut [u8]) -> Told
     requires { Roomy before out.old }
     ensures { MoreTold before out.old result out.new
-        (faultAt line (decimal board) noSuchBoard g ∷ []) }
+        (fault_at line (decimal board) no_such_board g ∷ []) }
 {
     let mut word = [0u8; DIGITS];
     let end = text::put_number(&mut word, 0, board as u64);

@@ -6,9 +6,9 @@ pub mod lines; // lines.rt: where its lines end
 ghost use Rattle.std.specs.Prelude.{◌≡◌, true, ◌&&◌, eqb, ◌+◌, ◌≤◌, ◌<◌, length};
 ghost use Rattle.grammar.specs.Grammar.{grammar};
 ghost use Rattle.grammar.specs.Stands.{part};
-ghost use Rattle.grammar.specs.Text.{counted, thing, withLine};
-ghost use Rattle.grammar.specs.Line.{readLine};
-ghost use Rattle.listing.specs.Holds.{Starts, Sane, Steps, Counts, mostLines, ended};
+ghost use Rattle.grammar.specs.Text.{counted, thing, with_line};
+ghost use Rattle.grammar.specs.Line.{read_line};
+ghost use Rattle.listing.specs.Holds.{Starts, Sane, Steps, Counts, most_lines, ended};
 ghost use Rattle.listing.specs.Lines.{ReadLines};
 
 use grammar::table::ENTRIES;
@@ -75,7 +75,7 @@ pub fn none() -> Listing
 
 // One line more, and whether a thing stands there then.
 fn count_line(listing: Listing, begun: bool) -> Listing
-    requires { listing.lines < mostLines }
+    requires { listing.lines < most_lines }
     ensures { Counts listing result begun }
 {
     let mut next = listing;
@@ -93,11 +93,11 @@ fn with_words(
     upto: usize,
     out: &mut [u8],
 ) -> Listing
-    requires { (table.now ≡ grammar) × Sane listing out.old × (listing.lines < mostLines) × (from ≤ upto) ×
+    requires { (table.now ≡ grammar) × Sane listing out.old × (listing.lines < most_lines) × (from ≤ upto) ×
         (upto ≤ length line.now) }
     ensures { Steps 1 listing out.old result out.new
         (λ s. thing (counted s true) (part line.now from upto)
-        (readLine s.version s.begun line.now)) }
+        (read_line s.version s.begun line.now)) }
 {
     let read = line::read_line(table, listing.version, listing.begun, line);
     let set = read.set;
@@ -119,8 +119,8 @@ fn with_words(
 
 // One line more.
 fn with_line(table: &[u64; ENTRIES], listing: Listing, line: &[u8], out: &mut [u8]) -> Listing
-    requires { (table.now ≡ grammar) × Sane listing out.old × (listing.lines < mostLines) }
-    ensures { Steps 1 listing out.old result out.new (λ s. withLine s line.now) }
+    requires { (table.now ≡ grammar) × Sane listing out.old × (listing.lines < most_lines) }
+    ensures { Steps 1 listing out.old result out.new (λ s. with_line s line.now) }
 {
     if line.len() > LONGEST_LINE {
         let next = count_line(listing, listing.begun);
@@ -137,8 +137,8 @@ fn with_line(table: &[u64; ENTRIES], listing: Listing, line: &[u8], out: &mut [u
 
 // One line more, by itself.
 pub fn read_line(listing: Listing, line: &[u8], out: &mut [u8]) -> Listing
-    requires { Sane listing out.old × (listing.lines < mostLines) }
-    ensures { Steps 1 listing out.old result out.new (λ s. withLine s line.now) }
+    requires { Sane listing out.old × (listing.lines < most_lines) }
+    ensures { Steps 1 listing out.old result out.new (λ s. with_line s line.now) }
 {
     let table = table::table();
     with_line(&table, listing, line, out)
@@ -153,7 +153,7 @@ pub struct Reached {
 
 // All lines that end in a text; its last one may go on.
 pub fn read_lines(listing: Listing, text: &[u8], out: &mut [u8]) -> Reached
-    requires { Sane listing out.old × (listing.lines + length text.now ≤ mostLines) }
+    requires { Sane listing out.old × (listing.lines + length text.now ≤ most_lines) }
     ensures { ReadLines text.now listing out.old result out.new }
 {
     let table = table::table();
@@ -182,7 +182,7 @@ fn boardless(version: u64, boards: usize) -> bool
 
 // The text's end: the listing with what the text lacks told, and the fans on boards that are not there.
 pub fn last(listing: Listing, out: &mut [u8]) -> Listing
-    requires { Sane listing out.old × (listing.lines < mostLines) }
+    requires { Sane listing out.old × (listing.lines < most_lines) }
     ensures { Steps 0 listing out.old result out.new ended }
 {
     let fans = listing.fans;

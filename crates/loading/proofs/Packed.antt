@@ -9,24 +9,24 @@ use Rattle.rules.specs.declared.System.{System}
 use Rattle.rules.specs.declared.Rating.{Rating}
 use Rattle.rules.specs.declared.Rating.TheVariants.{Refused}
 use Rattle.rules.specs.Refusal.{cells}
-use Rattle.rules.specs.File.{Deck, askedBy, badNumber, fileRefusal, systemOf, packed, loadingOf}
+use Rattle.rules.specs.File.{Deck, asked_by, bad_number, file_refusal, system_of, packed, loading_of}
 use Rattle.rules.proofs.Unless.{unless-by}
 use Rattle.rules.proofs.Accepted.{first-le, first-none}
-use Rattle.packing.specs.Packing.{mostRefusal, Packable}
+use Rattle.packing.specs.Packing.{most_refusal, Packable}
 use Rattle.packing.proofs.Packed.{figures-packable, packed-tells}
 use Rattle.loading.specs.Outcome.{Answered}
 
-system-packable : (d : Deck) (s : System) → Packable (systemOf d s)
-unfolding systemOf
-system-packable d s = figures-packable (askedBy d s) (replicate cells 0)
+system-packable : (d : Deck) (s : System) → Packable (system_of d s)
+unfolding system_of
+system-packable d s = figures-packable (asked_by d s) (replicate cells 0)
 
-pub loading-packable : (bytes : List ℕ) (s : ℕ) → Packable (loadingOf bytes s)
-unfolding loadingOf fileRefusal
+pub loading-packable : (bytes : List ℕ) (s : ℕ) → Packable (loading_of bytes s)
+unfolding loading_of file_refusal
 loading-packable bytes s =
     unless-by Packable _ Refused _
     (first-le 10 _ _ (omega arith) (first-le 11 _ _ (omega arith) (first-le 10 _ _ (omega arith) (first-le 2 _ _ (omega arith) (first-le 12 _ _ (omega arith)
-    (first-le 20 _ _ (omega arith) (first-le 13 _ _ (omega arith) (first-le 21 _ _ (omega arith) (first-none mostRefusal)))))))))
-    (λ e. numbered (badNumber bytes s) _ (system-packable _ _))
+    (first-le 20 _ _ (omega arith) (first-le 13 _ _ (omega arith) (first-le 21 _ _ (omega arith) (first-none most_refusal)))))))))
+    (λ e. numbered (bad_number bytes s) _ (system-packable _ _))
   where
     numbered : (b : Bool) (answer : Rating) → Packable answer → Packable (cond b (Refused 14) answer)
     numbered true answer h = omega arith
@@ -37,5 +37,5 @@ pub one-outcome : {bytes : List ℕ} {s r q : ℕ} → Answered bytes s r → An
 one-outcome h k = h.number ∙ sym k.number
 
 -- and equal numbers come of equal answers
-pub one_answer : (bytes other : List ℕ) (s t : ℕ) → packed (loadingOf bytes s) ≡ packed (loadingOf other t) → loadingOf bytes s ≡ loadingOf other t
+pub one_answer : (bytes other : List ℕ) (s t : ℕ) → packed (loading_of bytes s) ≡ packed (loading_of other t) → loading_of bytes s ≡ loading_of other t
 one_answer bytes other s t e = packed-tells _ _ (loading-packable bytes s) (loading-packable other t) e

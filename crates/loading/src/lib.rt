@@ -1,7 +1,7 @@
 // The loading computer's calls: a deck file's bytes and a system number in, its figures as one 64-bit number out; with
 // a fan, its worth, or the gain of a spare in its place.
 ghost use Rattle.std.specs.Prelude.{◌≡◌};
-ghost use Rattle.loading.specs.Outcome.{Answered, Parted, number_of, endsAfter, Told, Gained};
+ghost use Rattle.loading.specs.Outcome.{Answered, Parted, number_of, ends_after, Told, Gained};
 
 use rules::{Spare, Worth};
 
@@ -31,7 +31,7 @@ pub extern "C" fn foambeetle_unit(file: &[u8]) -> u64
 // A worth or a gain as C gets it: 0 and both ends, or the refusal and the ends as they were.
 pub fn tell(worth: Worth, ends: &mut [i64; 2]) -> u64
     ensures number { result ≡ number_of worth }
-    ensures ends { ends.new ≡ endsAfter worth ends.old }
+    ensures ends { ends.new ≡ ends_after worth ends.old }
 {
     match worth {
         Worth::Ends { lower, upper } => {

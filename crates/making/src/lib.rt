@@ -1,11 +1,11 @@
 // What is made of a text, put into buffers: the deck file, and the warnings of its systems or the faults that were
 // told.
 ghost use Rattle.std.specs.Prelude.{◌+◌, ◌≤◌, length};
-ghost use Rattle.rules.specs.File.{mostSystems};
+ghost use Rattle.rules.specs.File.{most_systems};
 ghost use Rattle.text.specs.Added.{Added};
 ghost use Rattle.listing.specs.Holds.{Counted, Sane};
-ghost use Rattle.making.specs.Lines.{warningText, warningRoom, warningsText, warningsRoom};
-ghost use Rattle.making.specs.Made.{fileRoom, FileOf, MadeOf};
+ghost use Rattle.making.specs.Lines.{warning_text, warning_room, warnings_text, warnings_room};
+ghost use Rattle.making.specs.Made.{file_room, FileOf, MadeOf};
 
 use listing::Listing;
 use rules::{Rating, Writing};
@@ -28,8 +28,8 @@ pub struct Made {
 
 // The warning of a system that will be refused; nothing for one that will be answered.
 fn put_warning(system: u64, rating: Rating, out: &mut [u8], at: usize) -> usize
-    requires { at + warningRoom ≤ length out.old }
-    ensures { Added (warningText system rating) out.old at out.new result }
+    requires { at + warning_room ≤ length out.old }
+    ensures { Added (warning_text system rating) out.old at out.new result }
 {
     match rating {
         Rating::Range {
@@ -45,9 +45,9 @@ fn put_warning(system: u64, rating: Rating, out: &mut [u8], at: usize) -> usize
 
 // The warnings of the first systems of a file.
 fn put_warnings(file: &[u8], count: usize, out: &mut [u8]) -> usize
-    requires few { count ≤ mostSystems }
-    requires room { warningsRoom ≤ length out.old }
-    ensures { Added (warningsText file.now count) out.old 0 out.new result }
+    requires few { count ≤ most_systems }
+    requires room { warnings_room ≤ length out.old }
+    ensures { Added (warnings_text file.now count) out.old 0 out.new result }
 {
     let opened = deck::open(file);
     let mut end: usize = 0;
@@ -93,7 +93,7 @@ fn put_file(listing: Listing, file: &mut [u8]) -> usize
 // The file and what is said of its systems; or the faults alone.
 pub fn make(listing: Listing, file: &mut [u8], out: &mut [u8]) -> Made
     requires sane { Sane listing out.old }
-    requires room { (fileRoom ≤ length file.old) × (warningsRoom ≤ length out.old) }
+    requires room { (file_room ≤ length file.old) × (warnings_room ≤ length out.old) }
     ensures { MadeOf listing out.old file.new out.new result }
 {
     let told = listing.told;

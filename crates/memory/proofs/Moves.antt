@@ -6,30 +6,30 @@ use native.Mathlib.Omega.{arith}
 use Rattle.memory.specs.declared.run.Run.{Run}
 use Rattle.memory.specs.declared.run.Lead.{Lead}
 use Rattle.memory.specs.declared.owed.Owed.{Owed}
-use Rattle.memory.specs.Run.{run, lead, runFailed, leadFailed}
-use Rattle.memory.specs.Owed.{owed, clean, owedWorked, cleanAfter, cleanWorked}
+use Rattle.memory.specs.Run.{run, lead, run_failed, lead_failed}
+use Rattle.memory.specs.Owed.{owed, clean, owed_worked, clean_after, clean_worked}
 
 -- a move made k times
 unfoldable pub times : {M : Type 0} → ℕ → (M → M) → M → M
 times zero move m = m
 times (suc k) move m = move (times k move m)
 
-pub worked-many : (k : ℕ) (m : Owed) → times k owedWorked m ≡ owed m.clean (m.owed - k)
+pub worked-many : (k : ℕ) (m : Owed) → times k owed_worked m ≡ owed m.clean (m.owed - k)
 unfolding times
 worked-many zero m = ap (owed m.clean) (omega arith)
 worked-many (suc k) m = rw (worked-many k m) (ap (owed m.clean) (omega arith))
 
-pub clean_after : (r k : ℕ) → times k (cleanWorked r) (clean 0) ≡ cleanAfter r k
+pub clean_after : (r k : ℕ) → times k (clean_worked r) (clean 0) ≡ clean_after r k
 unfolding times
 clean_after r zero = ap clean (omega arith)
 clean_after r (suc k) = rw (clean_after r k) (ap clean (omega arith))
 
 -- the memory before, moved
-pub run-failed-before : (m : Run) → 0 < m.run → runFailed (run m.lead (m.run - 1)) ≡ m
+pub run-failed-before : (m : Run) → 0 < m.run → run_failed (run m.lead (m.run - 1)) ≡ m
 run-failed-before m some = ap (run m.lead) (omega arith)
 
-pub lead-failed-before : (m : Lead) → 0 < m.lead → leadFailed (lead (m.lead - 1)) ≡ m
+pub lead-failed-before : (m : Lead) → 0 < m.lead → lead_failed (lead (m.lead - 1)) ≡ m
 lead-failed-before m some = ap lead (omega arith)
 
-pub owed-worked-before : (m : Owed) → owedWorked (owed m.clean (m.owed + 1)) ≡ m
+pub owed-worked-before : (m : Owed) → owed_worked (owed m.clean (m.owed + 1)) ≡ m
 owed-worked-before m = ap (owed m.clean) (omega arith)

@@ -11,34 +11,34 @@ use Rattle.rules.proofs.Simulation.{Alike, Same, alike_same, same-third}
 use Rattle.rules.proofs.Dead.{Dead}
 use Rattle.memory.proofs.Living.{living-works, living-fails, living-ends, living-dead}
 use Rattle.memory.specs.declared.owed.Owed.{Owed}
-use Rattle.memory.specs.Owed.{owed, owedWorks, owedWorked, owedFailed, owing, owedDead, owedMoves}
+use Rattle.memory.specs.Owed.{owed, owed_works, owed_worked, owed_failed, owing, owed_dead, owed_moves}
 
 -- the moves of a living memory
 module _ (r i : ℕ) (m : Owed) (alive : m.owed < r) where
-  pub owed-works : (owing r).worked i m ≡ owedWorked m
+  pub owed-works : (owing r).worked i m ≡ owed_worked m
   unfolding owing
-  owed-works = living-works (owedDead r) (owedMoves r) m (lt-leb r _ alive) i
+  owed-works = living-works (owed_dead r) (owed_moves r) m (lt-leb r _ alive) i
 
-  pub owed-fails : (owing r).failed i m ≡ owedFailed r m
+  pub owed-fails : (owing r).failed i m ≡ owed_failed r m
   unfolding owing
-  owed-fails = living-fails (owedDead r) (owedMoves r) m (lt-leb r _ alive) i
+  owed-fails = living-fails (owed_dead r) (owed_moves r) m (lt-leb r _ alive) i
 
-  pub owed-ends : (owing r).ends m ≡ owedWorks m
+  pub owed-ends : (owing r).ends m ≡ owed_works m
   unfolding owing
-  owed-ends = living-ends (owedDead r) (owedMoves r) m (lt-leb r _ alive)
+  owed-ends = living-ends (owed_dead r) (owed_moves r) m (lt-leb r _ alive)
 
 -- and of a dead one
-pub owed-dead : (r : ℕ) → Dead (owing r) (λ m. owedDead r m ≡ true)
+pub owed-dead : (r : ℕ) → Dead (owing r) (λ m. owed_dead r m ≡ true)
 unfolding owing
-owed-dead r = living-dead (owedDead r) (owedMoves r)
+owed-dead r = living-dead (owed_dead r) (owed_moves r)
 
 data Owes (r : ℕ) : Owed → Memory Ring → Type 0 where
   still : {x g : ℕ} → g < r → Owes r (owed x g) (live (pair x g))
-  gone : {m : Owed} → owedDead r m ≡ true → Owes r m dead
+  gone : {m : Owed} → owed_dead r m ≡ true → Owes r m dead
 
 module _ (r : ℕ) (pos : 0 < r) where
   -- a failed component after one that is owed, and after none
-  fails : (x g : ℕ) → g < r → Owes r (owedFailed r (owed x g)) (failing7 r (pair x g))
+  fails : (x g : ℕ) → g < r → Owes r (owed_failed r (owed x g)) (failing7 r (pair x g))
   unfolding failing7
   fails x zero h = still {x = x} {g = r - 1} (omega arith)
   fails x (suc g) h = rw (ne_eqb (suc g) 0 (λ e. omega arith)) (gone {m = owed x r} (le-leb r r (omega arith)))

@@ -15,8 +15,8 @@ use borrow.Author.Tests.{le-ltb, not-true}
 use Rattle.rules.specs.declared.Pair.{Pair}
 use Rattle.rules.specs.Below.{held}
 use Rattle.rules.specs.State.{down}
-use Rattle.rules.specs.Memory.{Memory, live, dead, moved, ended, machine_of, longest, kept, lackingLast, lackingIn, remembered, row8}
-use Rattle.rules.specs.Pairs.{any_of, all_of, goodPair, inRange8, longestWindow, tooFew}
+use Rattle.rules.specs.Memory.{Memory, live, dead, moved, ended, machine_of, longest, kept, lacking_last, lacking_in, remembered, row8}
+use Rattle.rules.specs.Pairs.{any_of, all_of, good_pair, in_range8, longest_window, too_few}
 use Rattle.rules.proofs.Bits.{held-ones}
 use Rattle.rules.proofs.Sums.{held_same}
 use Rattle.rules.proofs.Words.{held-add}
@@ -27,7 +27,7 @@ use Rattle.rules.proofs.Pairs.{too-few-more, any-more, good-pair}
 use Rattle.rules.proofs.Shifted.{lowest}
 use Rattle.rules.proofs.Lacking.{lacking-low}
 use Rattle.rules.proofs.Fewer.{NoMore, no-more-low, grow, lacking-more}
-use Rattle.memory.specs.Pattern.{manyPatterns, oldestOf, dies, patterned, lives}
+use Rattle.memory.specs.Pattern.{many_patterns, oldest_of, dies, patterned, lives}
 
 -- a window's bits: as many ones as the longest has, shifted down
 ten-ones : (r : ℕ) → r ≤ 10 → 1023 / 2 ^ (10 - r) ≡ 2 ^ r - 1
@@ -76,13 +76,13 @@ older-held x (suc r) =
     first : held (λ d. down d (2 * x)) 1 ≡ 0
     first = let z : 2 * x / 2 ^ 0 % 2 ≡ 0 = omega arith in rw z
 
-older-lacking : (ps : List Pair) (x : ℕ) → lackingIn ps (2 * x) ≡ true → lackingIn ps x ≡ true
-unfolding lackingIn
+older-lacking : (ps : List Pair) (x : ℕ) → lacking_in ps (2 * x) ≡ true → lacking_in ps x ≡ true
+unfolding lacking_in
 older-lacking ps x =
-    any-more (lackingLast (2 * x)) (lackingLast x)
+    any-more (lacking_last (2 * x)) (lacking_last x)
     (λ p. too-few-more p (omega (arith, older-held x p.r, held-ones x p.r, held-ones (2 * x) p.r))) ps
 
-stays : (ps : List Pair) (x : ℕ) → lackingIn ps x ≡ false → lackingIn ps (2 * x) ≡ false
+stays : (ps : List Pair) (x : ℕ) → lacking_in ps x ≡ false → lacking_in ps (2 * x) ≡ false
 stays ps x = spared _ _ (older-lacking ps x)
 
 zero-ones : ones 0 ≡ 0
@@ -90,30 +90,30 @@ unfolding ones
 zero-ones = refl
 
 -- with none failed enough work
-pub none-lacking : (n : ℕ) (ps : List Pair) → inRange8 n ps ≡ true → lackingIn ps 0 ≡ false
-unfolding inRange8 all_of lackingIn any_of
+pub none-lacking : (n : ℕ) (ps : List Pair) → in_range8 n ps ≡ true → lacking_in ps 0 ≡ false
+unfolding in_range8 all_of lacking_in any_of
 none-lacking n [] e = refl
 none-lacking n (p ∷ ps) e =
-    let g = both (goodPair n p) _ e in
-    let enough : tooFew p (ones 0) ≡ false = le-ltb (p.r - ones 0) p.k (omega (arith, zero-ones, (good-pair n p g.0).order)) in
+    let g = both (good_pair n p) _ e in
+    let enough : too_few p (ones 0) ≡ false = le-ltb (p.r - ones 0) p.k (omega (arith, zero-ones, (good-pair n p g.0).order)) in
     rw (mod-eq_of_lt (pow_pos p.r), enough) (none-lacking n ps g.1)
 
 module _ (ps : List Pair) where
   data Beside : Memory ℕ → Memory ℕ → Type 0 where
-    still : {a b : ℕ} → b ≡ a % 2 ^ kept ps → lackingIn ps (2 * b) ≡ false → Beside (live a) (live b)
+    still : {a b : ℕ} → b ≡ a % 2 ^ kept ps → lacking_in ps (2 * b) ≡ false → Beside (live a) (live b)
     gone : Beside dead dead
 
   -- one state more on both sides
-  next : (a c : ℕ) → c < 2 → lackingIn ps (2 * (a % 2 ^ kept ps) + c) ≡ false
-      → Beside (live (2 * (a % oldestOf ps) + c)) (live ((2 * (a % 2 ^ kept ps) + c) % 2 ^ kept ps))
+  next : (a c : ℕ) → c < 2 → lacking_in ps (2 * (a % 2 ^ kept ps) + c) ≡ false
+      → Beside (live (2 * (a % oldest_of ps) + c)) (live ((2 * (a % 2 ^ kept ps) + c) % 2 ^ kept ps))
   next a c l e =
       let x = 2 * (a % 2 ^ kept ps) + c in
-      let same : x % 2 ^ kept ps ≡ (2 * (a % oldestOf ps) + c) % 2 ^ kept ps =
+      let same : x % 2 ^ kept ps ≡ (2 * (a % oldest_of ps) + c) % 2 ^ kept ps =
       rw (twice (longest ps - 2) a c l, twice (kept ps) a c l, lowest (suc (longest ps - 2)) (kept ps) (2 * a + c) (omega arith), lowest (suc (kept ps)) (kept ps) (2 * a + c) (omega arith)) in
       still same (rw (twice-even (kept ps) x, lacking-low ps (2 * x)) (stays ps x e))
 
-  next-failed : (a : ℕ) (t : Bool) → lackingIn ps (2 * (a % 2 ^ kept ps) + 1) ≡ t
-      → Beside (cond t dead (live (2 * (a % oldestOf ps) + 1))) (cond t dead (live ((2 * (a % 2 ^ kept ps) + 1) % 2 ^ kept ps)))
+  next-failed : (a : ℕ) (t : Bool) → lacking_in ps (2 * (a % 2 ^ kept ps) + 1) ≡ t
+      → Beside (cond t dead (live (2 * (a % oldest_of ps) + 1))) (cond t dead (live ((2 * (a % 2 ^ kept ps) + 1) % 2 ^ kept ps)))
   next-failed a true e = gone
   next-failed a false e = next a 1 (omega arith) e
 
@@ -121,62 +121,62 @@ module _ (ps : List Pair) where
   unfolding moved ended remembered dies
   beside = record { works = λ i m m'. on-working; fails = λ i m m'. on-failed; last = λ m m'. at-end }
     where
-      on-working : {m m' : Memory ℕ} → Beside m m' → Beside (moved (λ a. live (2 * (a % oldestOf ps))) m) (moved (λ b. remembered ps (2 * b)) m')
+      on-working : {m m' : Memory ℕ} → Beside m m' → Beside (moved (λ a. live (2 * (a % oldest_of ps))) m) (moved (λ b. remembered ps (2 * b)) m')
       on-working (still {a = a} {b = b} e h) = rw (e, rw e at h) (simp add-zero at (next a 0 (omega arith) (rw (add-zero, ← e) h)))
       on-working gone = gone
 
       on-failed : {m m' : Memory ℕ} → Beside m m'
-          → Beside (moved (λ a. cond (lackingIn ps (2 * a + 1)) dead (live (2 * (a % oldestOf ps) + 1))) m) (moved (λ b. remembered ps (2 * b + 1)) m')
+          → Beside (moved (λ a. cond (lacking_in ps (2 * a + 1)) dead (live (2 * (a % oldest_of ps) + 1))) m) (moved (λ b. remembered ps (2 * b + 1)) m')
       on-failed (still {a = a} {b = b} e h) =
-          let same : lackingIn ps (2 * a + 1) ≡ lackingIn ps (2 * (a % 2 ^ kept ps) + 1) = rw (twice (kept ps) a 1 (omega arith), lacking-low ps (2 * a + 1)) in
-          rw (e, same) (next-failed a (lackingIn ps (2 * (a % 2 ^ kept ps) + 1)) refl)
+          let same : lacking_in ps (2 * a + 1) ≡ lacking_in ps (2 * (a % 2 ^ kept ps) + 1) = rw (twice (kept ps) a 1 (omega arith), lacking-low ps (2 * a + 1)) in
+          rw (e, same) (next-failed a (lacking_in ps (2 * (a % 2 ^ kept ps) + 1)) refl)
       on-failed gone = gone
 
       at-end : {m m' : Memory ℕ} → Beside m m' → ended (λ a. true) m ≡ ended (λ b. true) m'
       at-end (still e h) = refl
       at-end gone = refl
 
-  pub pattern-row8 : (n : ℕ) → inRange8 n ps ≡ true → Same (machine_of (patterned ps)) (live 0) (machine_of (row8 ps)) (live 0) n
+  pub pattern-row8 : (n : ℕ) → in_range8 n ps ≡ true → Same (machine_of (patterned ps)) (live 0) (machine_of (row8 ps)) (live 0) n
   pattern-row8 n range = alike_same beside n _ _ (still (sym (mod-eq_of_lt (pow_pos (kept ps)))) (none-lacking n ps range))
 
 -- which patterns live
 record Alive (ps : List Pair) (m : ℕ) : Type 0 where
-  all : (a : ℕ) → lackingIn ps (m / 2 ^ a) ≡ false
+  all : (a : ℕ) → lacking_in ps (m / 2 ^ a) ≡ false
 
 no-more-shift : {y x : ℕ} (a : ℕ) → NoMore y x → NoMore (y / 2 ^ a) (x / 2 ^ a)
 no-more-shift {y} {x} a h = record { bit = λ d e. rw (shr-shr x a d) (h.bit (a + d) (rw (shr-shr y a d) at e)) }
 
-module _ (ps : List Pair) (none : lackingIn ps 0 ≡ false) where
-  alive : (m : ℕ) → m < manyPatterns → lives ps m ≡ true → Alive ps m
+module _ (ps : List Pair) (none : lacking_in ps 0 ≡ false) where
+  alive : (m : ℕ) → m < many_patterns → lives ps m ≡ true → Alive ps m
   unfolding lives
-  alive m small e = record { all = λ a. go a (dec_lt a longestWindow) }
+  alive m small e = record { all = λ a. go a (dec_lt a longest_window) }
     where
-      at : (a : ℕ) → a < longestWindow → (b : Bool) → lackingIn ps (m / 2 ^ a) ≡ b → b ≡ false
-      at a l true h = absurd ((some-none (λ a. lackingIn ps (m / 2 ^ a)) longestWindow).0 (not-true _ e) a l h)
+      at : (a : ℕ) → a < longest_window → (b : Bool) → lacking_in ps (m / 2 ^ a) ≡ b → b ≡ false
+      at a l true h = absurd ((some-none (λ a. lacking_in ps (m / 2 ^ a)) longest_window).0 (not-true _ e) a l h)
       at a l false h = refl
 
-      go : (a : ℕ) → Dec (a < longestWindow) → lackingIn ps (m / 2 ^ a) ≡ false
-      go a (yes l) = at a l (lackingIn ps (m / 2 ^ a)) refl
-      go a (no l) = let big : 2 ^ longestWindow ≤ 2 ^ a = pow_mono {i = longestWindow} {j = a} (omega arith) in let past : m < 2 ^ a = omega arith in rw (div-eq_of_lt past) none
+      go : (a : ℕ) → Dec (a < longest_window) → lacking_in ps (m / 2 ^ a) ≡ false
+      go a (yes l) = at a l (lacking_in ps (m / 2 ^ a)) refl
+      go a (no l) = let big : 2 ^ longest_window ≤ 2 ^ a = pow_mono {i = longest_window} {j = a} (omega arith) in let past : m < 2 ^ a = omega arith in rw (div-eq_of_lt past) none
 
   lives-alive : (m : ℕ) → Alive ps m → lives ps m ≡ true
   unfolding lives
-  lives-alive m h = rw ((some-none (λ a. lackingIn ps (m / 2 ^ a)) longestWindow).1 (λ a l e. false≢true (sym (h.all a) ∙ e)))
+  lives-alive m h = rw ((some-none (λ a. lacking_in ps (m / 2 ^ a)) longest_window).1 (λ a l e. false≢true (sym (h.all a) ∙ e)))
 
   alive-half : (m c : ℕ) → c < 2 → Alive ps (2 * m + c) → Alive ps m
   alive-half m c l h = record { all = λ a. rw (← shifted m c a l) (h.all (suc a)) }
 
-  alive-more : (m c : ℕ) → c < 2 → lackingIn ps (2 * m + c) ≡ false → Alive ps m → Alive ps (2 * m + c)
+  alive-more : (m c : ℕ) → c < 2 → lacking_in ps (2 * m + c) ≡ false → Alive ps m → Alive ps (2 * m + c)
   alive-more m c l e h = record { all = go }
     where
-      go : (a : ℕ) → lackingIn ps ((2 * m + c) / 2 ^ a) ≡ false
+      go : (a : ℕ) → lacking_in ps ((2 * m + c) / 2 ^ a) ≡ false
       go zero = let z : (2 * m + c) / 1 ≡ 2 * m + c = omega arith in rw z e
       go (suc a) = rw (shifted m c a l) (h.all a)
 
-  alive-here : (m : ℕ) → Alive ps m → lackingIn ps m ≡ false
+  alive-here : (m : ℕ) → Alive ps m → lacking_in ps m ≡ false
   alive-here m h = let z : m / 1 ≡ m = omega arith in rw z at (h.all 0)
 
-  pub lives-here : (m : ℕ) → m < manyPatterns → lives ps m ≡ true → lackingIn ps m ≡ false
+  pub lives-here : (m : ℕ) → m < many_patterns → lives ps m ≡ true → lacking_in ps m ≡ false
   lives-here m small e = alive-here m (alive m small e)
 
   module _ (m : ℕ) (small : m < 512) where
@@ -195,9 +195,9 @@ module _ (ps : List Pair) (none : lackingIn ps 0 ≡ false) where
 
     pub lives-failed : lives ps (2 * m + 1) ≡ lives ps m && not (dies ps m)
     unfolding dies
-    lives-failed = go (lives ps m) refl (lives ps (2 * m + 1)) refl (lackingIn ps (2 * m + 1)) refl
+    lives-failed = go (lives ps m) refl (lives ps (2 * m + 1)) refl (lacking_in ps (2 * m + 1)) refl
       where
-        go : (a : Bool) → lives ps m ≡ a → (b : Bool) → lives ps (2 * m + 1) ≡ b → (c : Bool) → lackingIn ps (2 * m + 1) ≡ c → b ≡ a && not c
+        go : (a : Bool) → lives ps m ≡ a → (b : Bool) → lives ps (2 * m + 1) ≡ b → (c : Bool) → lacking_in ps (2 * m + 1) ≡ c → b ≡ a && not c
         go true e true f true g = absurd (true≢false (sym g ∙ alive-here (2 * m + 1) (alive (2 * m + 1) (omega arith) f)))
         go true e true f false g = refl
         go true e false f true g = refl
@@ -209,7 +209,7 @@ module _ (ps : List Pair) (none : lackingIn ps 0 ≡ false) where
   lives-none = lives-alive 0 (record { all = λ a. rw (div-eq_of_lt (pow_pos a)) none })
 
   -- with states forgotten no more has failed
-  pub lives-low : (s m : ℕ) → m < manyPatterns → lives ps m ≡ true → lives ps (m % 2 ^ s) ≡ true
+  pub lives-low : (s m : ℕ) → m < many_patterns → lives ps m ≡ true → lives ps (m % 2 ^ s) ≡ true
   lives-low s m small e =
       let h = alive m small e in
       lives-alive (m % 2 ^ s) (record { all = λ a. spared _ _ (lacking-more (no-more-shift a (no-more-low s m)) ps) (h.all a) })

@@ -12,30 +12,30 @@ use Rattle.rules.proofs.Simulation.{Alike, Same, alike_same, same-third}
 use Rattle.rules.proofs.Dead.{Dead}
 use Rattle.memory.proofs.Living.{living-works, living-fails, living-ends, living-dead}
 use Rattle.memory.specs.declared.run.Run.{Run}
-use Rattle.memory.specs.Run.{run, runWorks, runFailed, running, runDead, runMoves}
+use Rattle.memory.specs.Run.{run, run_works, run_failed, running, run_dead, run_moves}
 
 -- the moves of a living memory
 module _ (k i : ℕ) (m : Run) (alive : m.run < k) where
   pub run-works : (running k).worked i m ≡ run m.lead 0
   unfolding running
-  run-works = living-works (runDead k) (runMoves k) m (lt-leb k _ alive) i
+  run-works = living-works (run_dead k) (run_moves k) m (lt-leb k _ alive) i
 
-  pub run-fails : (running k).failed i m ≡ runFailed m
+  pub run-fails : (running k).failed i m ≡ run_failed m
   unfolding running
-  run-fails = living-fails (runDead k) (runMoves k) m (lt-leb k _ alive) i
+  run-fails = living-fails (run_dead k) (run_moves k) m (lt-leb k _ alive) i
 
-  pub run_ends : (running k).ends m ≡ runWorks k m
+  pub run_ends : (running k).ends m ≡ run_works k m
   unfolding running
-  run_ends = living-ends (runDead k) (runMoves k) m (lt-leb k _ alive)
+  run_ends = living-ends (run_dead k) (run_moves k) m (lt-leb k _ alive)
 
 -- and of a dead one
-pub run-dead : (k : ℕ) → Dead (running k) (λ m. runDead k m ≡ true)
+pub run-dead : (k : ℕ) → Dead (running k) (λ m. run_dead k m ≡ true)
 unfolding running
-run-dead k = living-dead (runDead k) (runMoves k)
+run-dead k = living-dead (run_dead k) (run_moves k)
 
 data Runs (k : ℕ) : Run → Memory Ring → Type 0 where
   still : {t s : ℕ} → s < k → Runs k (run t s) (live (pair t s))
-  gone : {m : Run} → runDead k m ≡ true → Runs k m dead
+  gone : {m : Run} → run_dead k m ≡ true → Runs k m dead
 
 longer : (k t s : ℕ) (b : Bool) → ltb s k ≡ b → Runs k (run t s) (cond b (live (pair t s)) dead)
 longer k t s true e = still (ltb-true _ _ e)

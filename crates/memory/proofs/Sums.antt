@@ -11,7 +11,7 @@ use Rattle.rules.specs.Memory.{Memory, live, dead, moved, ended, machine_of, row
 use Rattle.rules.proofs.Simulation.{Alike, Same, alike_same}
 use Rattle.rules.proofs.Dead.{Dead}
 use Rattle.memory.specs.declared.sum.Sum.{Sum}
-use Rattle.memory.specs.Sum.{sum, belowLimit, sumOutside, summing}
+use Rattle.memory.specs.Sum.{sum, below_limit, sum_outside, summing}
 
 -- rows 1 and 2
 data Adds (k : ℕ) : Sum → Memory ℕ → Type 0 where
@@ -23,7 +23,7 @@ more k c true e = still (ltb-true _ _ e)
 more k c false e = gone (ltb-false _ _ e)
 
 module _ (k : ℕ) (weight : ℕ → ℕ) where
-  adds : Alike (summing weight (belowLimit k)) (machine_of (row1 k weight)) (λ i. Adds k)
+  adds : Alike (summing weight (below_limit k)) (machine_of (row1 k weight)) (λ i. Adds k)
   unfolding moved ended
   adds = record { works = λ i m m'. on-working; fails = λ i m m'. on-failed (suc i); last = λ m m'. at-end }
     where
@@ -31,19 +31,19 @@ module _ (k : ℕ) (weight : ℕ → ℕ) where
       on-working (still h) = still h
       on-working (gone h) = gone h
 
-      on-failed : (i : ℕ) {m : Sum} {m' : Memory ℕ} → Adds k m m' → Adds k ((summing weight (belowLimit k)).failed i m) (moved ((row1 k weight).failing i) m')
+      on-failed : (i : ℕ) {m : Sum} {m' : Memory ℕ} → Adds k m m' → Adds k ((summing weight (below_limit k)).failed i m) (moved ((row1 k weight).failing i) m')
       on-failed i (still {c = c} h) = more k (c + weight i) (ltb (c + weight i) k) refl
       on-failed i (gone {c = c} h) = gone {c = c + weight i} (omega arith)
 
-      at-end : {m : Sum} {m' : Memory ℕ} → Adds k m m' → belowLimit k m ≡ ended (λ c. true) m'
+      at-end : {m : Sum} {m' : Memory ℕ} → Adds k m m' → below_limit k m ≡ ended (λ c. true) m'
       at-end (still h) = lt-ltb _ _ h
       at-end (gone h) = le-ltb _ _ h
 
-  pub sum-row1 : (n : ℕ) → 0 < k → Same (summing weight (belowLimit k)) (sum 0) (machine_of (row1 k weight)) (live 0) n
+  pub sum-row1 : (n : ℕ) → 0 < k → Same (summing weight (below_limit k)) (sum 0) (machine_of (row1 k weight)) (live 0) n
   sum-row1 n some = alike_same adds n _ _ (still some)
 
   -- dead from k on
-  pub sum-dead : Dead (summing weight (belowLimit k)) (λ m. k ≤ m.sum)
+  pub sum-dead : Dead (summing weight (below_limit k)) (λ m. k ≤ m.sum)
   sum-dead = record { works = λ i d. d; fails = λ i d. omega arith; last = λ d. le-ltb _ _ d }
 
 -- row 3
@@ -51,7 +51,7 @@ data Tally : Sum → Memory ℕ → Type 0 where
   counted : {c : ℕ} → Tally (sum c) (live c)
 
 module _ (l h : ℕ) where
-  tally : Alike (summing (λ i. 1) (sumOutside l h)) (machine_of (row3 l h)) (λ i. Tally)
+  tally : Alike (summing (λ i. 1) (sum_outside l h)) (machine_of (row3 l h)) (λ i. Tally)
   unfolding moved ended
   tally = record { works = λ i m m'. on-working; fails = λ i m m'. on-failed; last = λ m m'. at-end }
     where
@@ -61,8 +61,8 @@ module _ (l h : ℕ) where
       on-failed : {m : Sum} {m' : Memory ℕ} → Tally m m' → Tally (sum (m.sum + 1)) (moved (λ c. live (suc c)) m')
       on-failed (counted {c = c}) = rw (add-one c) counted
 
-      at-end : {m : Sum} {m' : Memory ℕ} → Tally m m' → sumOutside l h m ≡ ended (row3 l h).end m'
+      at-end : {m : Sum} {m' : Memory ℕ} → Tally m m' → sum_outside l h m ≡ ended (row3 l h).end m'
       at-end counted = refl
 
-  pub sum-row3 : (n : ℕ) → Same (summing (λ i. 1) (sumOutside l h)) (sum 0) (machine_of (row3 l h)) (live 0) n
+  pub sum-row3 : (n : ℕ) → Same (summing (λ i. 1) (sum_outside l h)) (sum 0) (machine_of (row3 l h)) (live 0) n
   sum-row3 n = alike_same tally n _ _ counted

@@ -2,8 +2,8 @@
 use Rattle.std.specs.Prelude.{ℕ, ◌-◌, min}
 use Rattle.rules.specs.Memory.{Memory, live, below, Ring, lead}
 
-unfoldable pub leadOpen : (k n i : ℕ) → Memory Ring
-leadOpen k n i = below (n - i) k (lead (n - i))
+unfoldable pub lead_open : (k n i : ℕ) → Memory Ring
+lead_open k n i = below (n - i) k (lead (n - i))
 
-unfoldable pub cleanOpen : (r n i : ℕ) → Memory Ring
-cleanOpen r n i = live (lead (min (n - i) (r - 1)))
+unfoldable pub clean_open : (r n i : ℕ) → Memory Ring
+clean_open r n i = live (lead (min (n - i) (r - 1)))

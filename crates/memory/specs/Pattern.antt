@@ -2,34 +2,34 @@
 use Rattle.std.specs.Prelude.{Bool, true, cond, not, List, ℕ, ◌+◌, ◌-◌, ◌*◌, ◌/◌, ◌%◌, ◌^◌}
 use Rattle.rules.specs.declared.Pair.{Pair}
 use Rattle.rules.specs.Below.{some}
-use Rattle.rules.specs.Memory.{live, dead, Row, longest, lackingIn}
-use Rattle.rules.specs.Pairs.{longestWindow}
+use Rattle.rules.specs.Memory.{live, dead, Row, longest, lacking_in}
+use Rattle.rules.specs.Pairs.{longest_window}
 use Rattle.memory.specs.declared.pattern.Pattern.{Pattern}
 
 abbrev pub pattern : ℕ → Pattern
 pattern m = record { bits = m }
 
 -- more than any pattern, the component just read among its states
-abbrev pub manyPatterns : ℕ
-manyPatterns = 1024
+abbrev pub many_patterns : ℕ
+many_patterns = 1024
 
 -- the bit of the oldest state that is kept; one is kept at the least
-abbrev pub oldestOf : List Pair → ℕ
-oldestOf ps = 2 ^ (longest ps - 2)
+abbrev pub oldest_of : List Pair → ℕ
+oldest_of ps = 2 ^ (longest ps - 2)
 
 -- dead where the next component fails
 unfoldable pub dies : List Pair → ℕ → Bool
-dies ps m = lackingIn ps (2 * m + 1)
+dies ps m = lacking_in ps (2 * m + 1)
 
 -- the oldest state is forgotten, and one is read; a working component leaves what lives alive
 abbrev pub patterned : List Pair → Row ℕ
 patterned ps = record {
   start = 0;
-  working = λ i m. live (2 * (m % oldestOf ps));
-  failing = λ i m. cond (dies ps m) dead (live (2 * (m % oldestOf ps) + 1));
+  working = λ i m. live (2 * (m % oldest_of ps));
+  failing = λ i m. cond (dies ps m) dead (live (2 * (m % oldest_of ps) + 1));
   end = λ m. true;
 }
 
 -- no component read has left too few working
 unfoldable pub lives : List Pair → ℕ → Bool
-lives ps m = not (some (λ a. lackingIn ps (m / 2 ^ a)) longestWindow)
+lives ps m = not (some (λ a. lacking_in ps (m / 2 ^ a)) longest_window)

@@ -7,23 +7,23 @@ use Rattle.memory.specs.declared.sum.Sum.{Sum}
 abbrev pub sum : ℕ → Sum
 sum c = record { sum = c }
 
-abbrev pub sumWorked : Sum → Sum
-sumWorked m = m
+abbrev pub sum_worked : Sum → Sum
+sum_worked m = m
 
-abbrev pub sumFailed : (weight : ℕ) → Sum → Sum
-sumFailed weight m = sum (m.sum + weight)
+abbrev pub sum_failed : (weight : ℕ) → Sum → Sum
+sum_failed weight m = sum (m.sum + weight)
 
-abbrev pub belowLimit : (k : ℕ) → Sum → Bool
-belowLimit k m = ltb m.sum k
+abbrev pub below_limit : (k : ℕ) → Sum → Bool
+below_limit k m = ltb m.sum k
 
-abbrev pub sumOutside : (l h : ℕ) → Sum → Bool
-sumOutside l h m = not (within l m.sum h)
+abbrev pub sum_outside : (l h : ℕ) → Sum → Bool
+sum_outside l h m = not (within l m.sum h)
 
 -- as a machine
 abbrev pub summing : (weight : ℕ → ℕ) (end : Sum → Bool) → Machine Sum
 summing weight end = record {
   start = sum 0;
-  worked = λ i. sumWorked;
-  failed = λ i. sumFailed (weight i);
+  worked = λ i. sum_worked;
+  failed = λ i. sum_failed (weight i);
   ends = end;
 }

@@ -1,8 +1,8 @@
 // Rows 6 and 7: how many components must still work after a failed one. The line of row 6 is the ring past as many
 // clean ones as can count.
 ghost use Rattle.std.specs.Prelude.{◌≡◌, true, ◌+◌, ◌-◌, ◌^◌, ◌<◌, ◌≤◌};
-ghost use Rattle.memory.specs.Owed.{owed, owedWorked, owedFailed, owedWorks, cleanAfter, cleanWorked};
-ghost use Rattle.memory.specs.Owed.{cleanFailed};
+ghost use Rattle.memory.specs.Owed.{owed, owed_worked, owed_failed, owed_works, clean_after, clean_worked};
+ghost use Rattle.memory.specs.Owed.{clean_failed};
 
 // "(x, g)": x clean ones before the first that failed, g still to work.
 #[derive(Drop)]
@@ -31,7 +31,7 @@ impl Owed {
 
     // "one less, not below 0"
     pub fn worked(self) -> Owed
-        ensures { result ≡ owedWorked self }
+        ensures { result ≡ owed_worked self }
     {
         if self.owed == 0 {
             return self;
@@ -56,7 +56,7 @@ impl Owed {
     // "0 becomes r - 1; else dead", and a memory that owes r is dead.
     pub fn failed(self, r: usize) -> Owed
         requires { 1 ≤ r }
-        ensures { result ≡ owedFailed r self }
+        ensures { result ≡ owed_failed r self }
     {
         if self.owed == 0 {
             return Owed {
@@ -83,7 +83,7 @@ impl Owed {
 
     // "works exactly if x >= g"
     pub fn works(self) -> bool
-        ensures { result ≡ owedWorks self }
+        ensures { result ≡ owed_works self }
     {
         self.owed <= self.clean
     }
@@ -93,7 +93,7 @@ impl Clean {
     // So many components read, all working.
     pub fn after(read: usize, r: usize) -> Clean
         requires { 1 ≤ r }
-        ensures { result ≡ cleanAfter r read }
+        ensures { result ≡ clean_after r read }
     {
         if read <= r - 1 {
             return Clean { clean: read };
@@ -104,7 +104,7 @@ impl Clean {
     // "clean x becomes clean x+1, x at most r - 1"
     pub fn worked(self, r: usize) -> Clean
         requires { 1 ≤ r }
-        ensures { result ≡ cleanWorked r self }
+        ensures { result ≡ clean_worked r self }
     {
         if r - 1 <= self.clean {
             return Clean { clean: r - 1 };
@@ -117,7 +117,7 @@ impl Clean {
     // "clean x becomes (x, r-1)"
     pub fn failed(self, r: usize) -> Owed
         requires { 1 ≤ r }
-        ensures { result ≡ cleanFailed r self }
+        ensures { result ≡ clean_failed r self }
     {
         Owed {
             clean: self.clean,

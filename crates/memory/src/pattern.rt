@@ -1,8 +1,8 @@
 // Row 8: the states of the last components as bits, the last one read lowest; a one has failed.
 ghost use Rattle.std.specs.Prelude.{◌≡◌, true, ◌+◌, ◌*◌, ◌≤◌, ◌<◌};
-ghost use Rattle.rules.specs.Memory.{lackingLast};
-ghost use Rattle.rules.specs.Pairs.{longestWindow};
-ghost use Rattle.memory.specs.Pattern.{pattern, manyPatterns};
+ghost use Rattle.rules.specs.Memory.{lacking_last};
+ghost use Rattle.rules.specs.Pairs.{longest_window};
+ghost use Rattle.memory.specs.Pattern.{pattern, many_patterns};
 
 use rules::{Pair, limit};
 
@@ -17,7 +17,7 @@ pub struct Pattern {
 impl Pattern {
     // A working component read. Of the memory at hand the oldest state is forgotten before.
     pub fn worked(self) -> Pattern
-        requires { self.bits < manyPatterns }
+        requires { self.bits < many_patterns }
         ensures { result ≡ pattern (2 * self.bits) }
     {
         Pattern {
@@ -27,7 +27,7 @@ impl Pattern {
 
     // A failed one read.
     pub fn failed(self) -> Pattern
-        requires { self.bits < manyPatterns }
+        requires { self.bits < many_patterns }
         ensures { result ≡ pattern (2 * self.bits + 1) }
     {
         Pattern {
@@ -37,7 +37,7 @@ impl Pattern {
 
     // The same states with the oldest one, which is forgotten next, failed.
     pub fn older(self, oldest: usize) -> Pattern
-        requires { (self.bits < manyPatterns) × (oldest < manyPatterns) }
+        requires { (self.bits < many_patterns) × (oldest < many_patterns) }
         ensures { result ≡ pattern (oldest + self.bits) }
     {
         Pattern {
@@ -47,8 +47,8 @@ impl Pattern {
 
     // "too few working in a window": fewer than k of the last r.
     pub fn lacks(self, p: Pair) -> bool
-        requires { p.r ≤ longestWindow }
-        ensures { result ≡ lackingLast self.bits p }
+        requires { p.r ≤ longest_window }
+        ensures { result ≡ lacking_last self.bits p }
     {
         let last = (self.bits as u64) & (ONES >> (limit::WINDOW - p.r));
         p.r - (u64::count_ones(last) as u64) < p.k

@@ -1,6 +1,6 @@
 // Rows 4 and 5: components in a row that have failed. The line of row 4 is the ring past a lead of none.
 ghost use Rattle.std.specs.Prelude.{◌≡◌, ◌+◌, ◌-◌, ◌^◌, ◌<◌};
-ghost use Rattle.memory.specs.Run.{run, lead, runWorked, runFailed, runWorks, leadWorked, leadFailed, leadWorks};
+ghost use Rattle.memory.specs.Run.{run, lead, run_worked, run_failed, run_works, lead_worked, lead_failed, lead_works};
 
 // "(t, s)": t failed ones before the first that worked, s failed ones since the last that worked.
 #[derive(Drop)]
@@ -25,7 +25,7 @@ impl Run {
 
     // "(t, s) becomes (t, 0)"
     pub fn worked(self) -> Run
-        ensures { result ≡ runWorked self }
+        ensures { result ≡ run_worked self }
     {
         Run {
             lead: self.lead,
@@ -36,7 +36,7 @@ impl Run {
     // "(t, s) becomes (t, s+1)"
     pub fn failed(self) -> Run
         requires { self.run + 1 < 2 ^ 64 }
-        ensures { result ≡ runFailed self }
+        ensures { result ≡ run_failed self }
     {
         Run {
             lead: self.lead,
@@ -58,7 +58,7 @@ impl Run {
     // "works exactly if t + s < k"
     pub fn works(self, k: usize) -> bool
         requires { self.lead + self.run < 2 ^ 64 }
-        ensures { result ≡ runWorks k self }
+        ensures { result ≡ run_works k self }
     {
         self.lead + self.run < k
     }
@@ -67,7 +67,7 @@ impl Run {
 impl Lead {
     // "lead t becomes (t, 0)"
     pub fn worked(self) -> Run
-        ensures { result ≡ leadWorked self }
+        ensures { result ≡ lead_worked self }
     {
         Run {
             lead: self.lead,
@@ -78,7 +78,7 @@ impl Lead {
     // "lead t becomes lead t+1"
     pub fn failed(self) -> Lead
         requires { self.lead + 1 < 2 ^ 64 }
-        ensures { result ≡ leadFailed self }
+        ensures { result ≡ lead_failed self }
     {
         Lead {
             lead: self.lead + 1,
@@ -87,7 +87,7 @@ impl Lead {
 
     // A reading whose components have all failed: "works exactly if t + s < k", with no s.
     pub fn works(self, k: usize) -> bool
-        ensures { result ≡ leadWorks k self }
+        ensures { result ≡ lead_works k self }
     {
         self.lead < k
     }

@@ -1,6 +1,6 @@
 // Rows 1 to 3: what the failed components add up to.
 ghost use Rattle.std.specs.Prelude.{◌≡◌, ◌+◌, ◌^◌, ◌<◌};
-ghost use Rattle.memory.specs.Sum.{sum, sumWorked, sumFailed, belowLimit, sumOutside};
+ghost use Rattle.memory.specs.Sum.{sum, sum_worked, sum_failed, below_limit, sum_outside};
 
 #[derive(Drop)]
 pub struct Sum {
@@ -10,7 +10,7 @@ pub struct Sum {
 impl Sum {
     // "unchanged"
     pub fn worked(self) -> Sum
-        ensures { result ≡ sumWorked self }
+        ensures { result ≡ sum_worked self }
     {
         self
     }
@@ -18,7 +18,7 @@ impl Sum {
     // "add 1", "add its weight"
     pub fn failed(self, weight: usize) -> Sum
         requires { self.sum + weight < 2 ^ 64 }
-        ensures { result ≡ sumFailed weight self }
+        ensures { result ≡ sum_failed weight self }
     {
         Sum {
             sum: self.sum + weight,
@@ -27,14 +27,14 @@ impl Sum {
 
     // Rows 1 and 2 at the end: "works", and "k or more is dead".
     pub fn below(self, k: usize) -> bool
-        ensures { result ≡ belowLimit k self }
+        ensures { result ≡ below_limit k self }
     {
         self.sum < k
     }
 
     // Row 3 at the end: "fails exactly if between l and h".
     pub fn outside(self, l: usize, h: usize) -> bool
-        ensures { result ≡ sumOutside l h self }
+        ensures { result ≡ sum_outside l h self }
     {
         if self.sum < l {
             return true;

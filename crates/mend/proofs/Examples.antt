@@ -8,37 +8,37 @@ use Rattle.rules.specs.declared.Mending.TheVariants.{Mended, Refused}
 use Rattle.rules.specs.Below.{held}
 use Rattle.rules.specs.Refusal.{first_of, after}
 use Rattle.rules.specs.Answer.{unless}
-use Rattle.rules.specs.File.{bytes_of, number_at, all_bytes, headerOf}
-use Rattle.rules.specs.Mending.{mended, changesBelow, changesIn, cutFrom, beyondMending, mendRefusal, mendingOf, roomMended, listMended}
+use Rattle.rules.specs.File.{bytes_of, number_at, all_bytes, header_of}
+use Rattle.rules.specs.Mending.{mended, changes_below, changes_in, cut_from, beyond_mending, mend_refusal, mending_of, room_mended, list_mended}
 
 -- from the header's third number on: its body, a survival number, a weight and a system
 abbrev body : List ℕ
 body = 0 ∷ 202 ∷ 154 ∷ 59 ∷ 7 ∷ 0 ∷ 1 ∷ 0 ∷ 1 ∷ 0 ∷ 0 ∷ 0 ∷ 1 ∷ 0 ∷ 1 ∷ 0 ∷ []
 
-abbrev fileWith : (zero systems weights : ℕ) → List ℕ
-fileWith zero systems weights = 2 ∷ 0 ∷ zero ∷ 0 ∷ 1 ∷ 0 ∷ systems ∷ 0 ∷ 20 ∷ 0 ∷ 0 ∷ 0 ∷ weights ∷ 0 ∷ 0 ∷ 0 ∷ 26 ∷ 0 ∷ 0 ∷ 0 ∷ body
+abbrev file_with : (zero systems weights : ℕ) → List ℕ
+file_with zero systems weights = 2 ∷ 0 ∷ zero ∷ 0 ∷ 1 ∷ 0 ∷ systems ∷ 0 ∷ 20 ∷ 0 ∷ 0 ∷ 0 ∷ weights ∷ 0 ∷ 0 ∷ 0 ∷ 26 ∷ 0 ∷ 0 ∷ 0 ∷ body
 
 abbrev sound : List ℕ
-sound = fileWith 0 1 24
+sound = file_with 0 1 24
 
 abbrev damaged : List ℕ
-damaged = fileWith 5 1 33 ++ (1 ∷ 2 ∷ [])
+damaged = file_with 5 1 33 ++ (1 ∷ 2 ∷ [])
 
 abbrev changed : List ℕ
 changed = 2 ∷ 5 ∷ 0 ∷ 12 ∷ 33 ∷ 24 ∷ []
 
 pub mendings : (mended damaged ≡ sound)
-    × (changesIn damaged ≡ changed)
-    × (cutFrom damaged ≡ 2)
-    × (mendingOf damaged (replicate 36 7) (replicate 6 7) ≡ Mended 36 2 2)
-    × (roomMended damaged (replicate 37 7) (replicate 6 7) ≡ sound ++ (7 ∷ []))
-    × (listMended damaged (replicate 36 7) (replicate 7 7) ≡ changed ++ (7 ∷ []))
-    × (mendingOf damaged (replicate 35 7) (replicate 6 7) ≡ Refused 16)
-    × (mendingOf damaged (replicate 36 7) (replicate 5 7) ≡ Refused 16)
-    × (roomMended damaged (replicate 36 7) (replicate 5 7) ≡ replicate 36 7)
-    × (mendingOf sound (replicate 36 7) [] ≡ Mended 36 0 0)
-    × (mendingOf (take 35 damaged) [] [] ≡ Refused 22)
-    × (mendingOf (fileWith 5 33 33) [] [] ≡ Refused 12)
-    × (mendingOf (fileWith 5 2 33) [] [] ≡ Refused 22)
-unfolding held bytes_of number_at all_bytes headerOf mended changesBelow first_of after beyondMending mendRefusal unless mendingOf roomMended listMended
+    × (changes_in damaged ≡ changed)
+    × (cut_from damaged ≡ 2)
+    × (mending_of damaged (replicate 36 7) (replicate 6 7) ≡ Mended 36 2 2)
+    × (room_mended damaged (replicate 37 7) (replicate 6 7) ≡ sound ++ (7 ∷ []))
+    × (list_mended damaged (replicate 36 7) (replicate 7 7) ≡ changed ++ (7 ∷ []))
+    × (mending_of damaged (replicate 35 7) (replicate 6 7) ≡ Refused 16)
+    × (mending_of damaged (replicate 36 7) (replicate 5 7) ≡ Refused 16)
+    × (room_mended damaged (replicate 36 7) (replicate 5 7) ≡ replicate 36 7)
+    × (mending_of sound (replicate 36 7) [] ≡ Mended 36 0 0)
+    × (mending_of (take 35 damaged) [] [] ≡ Refused 22)
+    × (mending_of (file_with 5 33 33) [] [] ≡ Refused 12)
+    × (mending_of (file_with 5 2 33) [] [] ≡ Refused 22)
+unfolding held bytes_of number_at all_bytes header_of mended changes_below first_of after beyond_mending mend_refusal unless mending_of room_mended list_mended
 mendings = (refl, refl, refl, refl, refl, refl, refl, refl, refl, refl, refl, refl, refl)

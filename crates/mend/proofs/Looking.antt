@@ -4,18 +4,18 @@ use mathlib.Core.Path.{◌≡◌, sym, ap, ◌∙◌}
 use mathlib.Core.List.{List}
 use Prim.Native.Nat.{ℕ}
 use native.Mathlib.Omega.{arith}
-use Rattle.rules.specs.File.{lengthIn}
-use Rattle.rules.specs.Mending.{headerFor, beyondMending}
+use Rattle.rules.specs.File.{length_in}
+use Rattle.rules.specs.Mending.{header_for, beyond_mending}
 use Rattle.deck.specs.declared.Head.{Head}
 use Rattle.deck.specs.declared.Opened.{Opened}
-use Rattle.deck.specs.Head.{Small, lengthBy}
-use Rattle.deck.specs.Outcome.{refusedBy}
+use Rattle.deck.specs.Head.{Small, length_by}
+use Rattle.deck.specs.Outcome.{refused_by}
 use Rattle.deck.proofs.Outcome.{head-is}
-use Rattle.mend.specs.Looked.{Looks, Looked, Sized, headerBy}
+use Rattle.mend.specs.Looked.{Looks, Looked, Sized, header_by}
 use Rattle.mend.proofs.Mendable.{mendable, few}
 
 module _ {bytes : List ℕ} where
-  pub looks-refused : {number : ℕ} {r : Opened} → number ≡ beyondMending bytes → (number ≡ 0 → ⊥) → r ≡ refusedBy number → Looks bytes r
+  pub looks-refused : {number : ℕ} {r : Opened} → number ≡ beyond_mending bytes → (number ≡ 0 → ⊥) → r ≡ refused_by number → Looks bytes r
   looks-refused e some is = record {
     refusal = ap (λ o. o.refusal) is ∙ e;
     says = λ none. absurd (some (sym (ap (λ o. o.refusal) is) ∙ none));
@@ -31,7 +31,7 @@ module _ {bytes : List ℕ} where
         let says = looked.says in
         record {
           versioned = rw says.version ok.versioned;
-          fans = rw says.fans ok.most-fans;
+          fans = rw says.fans ok.most_fans;
           systems = rw says.systems ok.most-systems;
           boards = rw says.boards (few bytes ok);
         }
@@ -39,8 +39,8 @@ module _ {bytes : List ℕ} where
     pub small : Small head
     small = record { fans = omega (arith, sized.fans); systems = omega (arith, sized.systems); boards = omega (arith, sized.boards) }
 
-    pub header-own : headerBy head ≡ headerFor bytes
-    header-own = ap headerBy (head-is looked.says)
+    pub header-own : header_by head ≡ header_for bytes
+    header-own = ap header_by (head-is looked.says)
 
-    pub length-own : lengthBy head ≡ lengthIn bytes
-    length-own = ap lengthBy (head-is looked.says)
+    pub length-own : length_by head ≡ length_in bytes
+    length-own = ap length_by (head-is looked.says)

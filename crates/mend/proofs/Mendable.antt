@@ -6,26 +6,26 @@ use Prim.Native.Nat.{ℕ, ◌≤◌}
 use native.Mathlib.Omega.{arith}
 use lib.ListN.{length}
 use borrow.Author.Tests.{ltb-false, not-false, le-ltb, le-leb}
-use Rattle.rules.specs.Refusal.{badVersion, mostBoards, first_of}
-use Rattle.rules.specs.File.{number_at, boardCountField, shortestHeader, headerLength, mostFans, mostSystems, versionIn, fansIn, countIn, boardCountIn, badBoardsIn, lengthIn}
-use Rattle.rules.specs.Mending.{beyondMending}
+use Rattle.rules.specs.Refusal.{bad_version, most_boards, first_of}
+use Rattle.rules.specs.File.{number_at, board_count_field, shortest_header, header_length, most_fans, most_systems, version_in, fans_in, count_in, board_count_in, bad_boards_in, length_in}
+use Rattle.rules.specs.Mending.{beyond_mending}
 use Rattle.rules.proofs.EachKind.{within-true}
 use Rattle.rules.proofs.Accepted.{none_first}
 use Rattle.layout.proofs.Header.{Headed}
 use Rattle.layout.proofs.Versions.{header-bounds, fans-bound, without-boards, few-boards}
 
 pub record Mendable (bytes : List ℕ) : Type 0 where
-  pub long : headerLength (versionIn bytes) ≤ length bytes
-  pub versioned : badVersion (versionIn bytes) ≡ false
-  pub some-fan : 1 ≤ fansIn bytes
-  pub most-fans : fansIn bytes ≤ mostFans
-  pub some-system : 1 ≤ countIn bytes
-  pub most-systems : countIn bytes ≤ mostSystems
-  pub counted : badBoardsIn bytes ≡ false
-  pub whole : lengthIn bytes ≤ length bytes
+  pub long : header_length (version_in bytes) ≤ length bytes
+  pub versioned : bad_version (version_in bytes) ≡ false
+  pub some_fan : 1 ≤ fans_in bytes
+  pub most_fans : fans_in bytes ≤ most_fans
+  pub some_system : 1 ≤ count_in bytes
+  pub most-systems : count_in bytes ≤ most_systems
+  pub counted : bad_boards_in bytes ≡ false
+  pub whole : length_in bytes ≤ length bytes
 
-pub mendable : (bytes : List ℕ) → beyondMending bytes ≡ 0 → Mendable bytes
-unfolding beyondMending
+pub mendable : (bytes : List ℕ) → beyond_mending bytes ≡ 0 → Mendable bytes
+unfolding beyond_mending
 mendable bytes e =
     let short = none_first 9 _ _ e in
     let version = none_first 10 _ _ short.1 in
@@ -34,47 +34,47 @@ mendable bytes e =
     let count = none_first 11 _ _ size.1 in
     let boards = none_first 19 _ _ count.1 in
     let early = none_first 21 _ _ boards.1 in
-    let fans = within-true 1 (fansIn bytes) mostFans (not-false _ size.0) in
-    let systems = within-true 1 (countIn bytes) mostSystems (not-false _ count.0) in
+    let fans = within-true 1 (fans_in bytes) most_fans (not-false _ size.0) in
+    let systems = within-true 1 (count_in bytes) most_systems (not-false _ count.0) in
     record {
       long = ltb-false _ _ header.0;
       versioned = version.0;
-      some-fan = fans.0;
-      most-fans = fans.1;
-      some-system = systems.0;
+      some_fan = fans.0;
+      most_fans = fans.1;
+      some_system = systems.0;
       most-systems = systems.1;
       counted = boards.0;
       whole = ltb-false _ _ early.0;
     }
 
-pub not_beyond : (bytes : List ℕ) → Mendable bytes → beyondMending bytes ≡ 0
-unfolding beyondMending first_of
+pub not_beyond : (bytes : List ℕ) → Mendable bytes → beyond_mending bytes ≡ 0
+unfolding beyond_mending first_of
 not_beyond bytes ok =
     simp (
-      le-ltb (length bytes) shortestHeader (omega (arith, ok.long, header-bounds (versionIn bytes))),
-      le-ltb (length bytes) (headerLength (versionIn bytes)) ok.long,
+      le-ltb (length bytes) shortest_header (omega (arith, ok.long, header-bounds (version_in bytes))),
+      le-ltb (length bytes) (header_length (version_in bytes)) ok.long,
       ok.versioned,
-      le-leb _ _ ok.some-fan,
-      le-leb _ _ ok.most-fans,
-      le-leb _ _ ok.some-system,
+      le-leb _ _ ok.some_fan,
+      le-leb _ _ ok.most_fans,
+      le-leb _ _ ok.some_system,
       le-leb _ _ ok.most-systems,
       ok.counted,
-      le-ltb (length bytes) (lengthIn bytes) ok.whole,
+      le-ltb (length bytes) (length_in bytes) ok.whole,
     )
 
 module _ (bytes : List ℕ) (ok : Mendable bytes) where
-  pub few : boardCountIn bytes ≤ mostBoards
-  few = few-boards (versionIn bytes) (boardCountIn bytes) ok.counted (without-boards (versionIn bytes) (number_at 4 bytes boardCountField) 0)
+  pub few : board_count_in bytes ≤ most_boards
+  few = few-boards (version_in bytes) (board_count_in bytes) ok.counted (without-boards (version_in bytes) (number_at 4 bytes board_count_field) 0)
 
-  pub headed : Headed (versionIn bytes) (fansIn bytes) (boardCountIn bytes) (countIn bytes)
+  pub headed : Headed (version_in bytes) (fans_in bytes) (board_count_in bytes) (count_in bytes)
   headed = record {
     versioned = ok.versioned;
-    most-fans = ok.most-fans;
+    most_fans = ok.most_fans;
     most-systems = ok.most-systems;
     few = few;
-    no-boards = without-boards (versionIn bytes) (number_at 4 bytes boardCountField) 0;
+    no_boards = without-boards (version_in bytes) (number_at 4 bytes board_count_field) 0;
   }
 
   -- no file that is mended is longer than the longest
-  pub length_most : lengthIn bytes ≤ 812
-  length_most = omega (arith, header-bounds (versionIn bytes), fans-bound (versionIn bytes) (fansIn bytes), ok.most-fans, ok.most-systems, few)
+  pub length_most : length_in bytes ≤ 812
+  length_most = omega (arith, header-bounds (version_in bytes), fans-bound (version_in bytes) (fans_in bytes), ok.most_fans, ok.most-systems, few)

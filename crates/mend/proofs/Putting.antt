@@ -11,8 +11,8 @@ use lib.Dec.{eqb}
 use lib.ListN.{length, get_or, take, drop, set, length-append}
 use lib.Seq.{sets-eq}
 use Rattle.rules.specs.Below.{held}
-use Rattle.rules.specs.File.{headerLength, all_bytes, versionIn, fansIn, countIn, boardCountIn, lengthIn}
-use Rattle.rules.specs.Mending.{headerFor, bodyIn, mended, perChange, differs, changeAt, changesBelow, beyondMending}
+use Rattle.rules.specs.File.{header_length, all_bytes, version_in, fans_in, count_in, board_count_in, length_in}
+use Rattle.rules.specs.Mending.{header_for, body_in, mended, per_change, differs, change_at, changes_below, beyond_mending}
 use Rattle.rules.proofs.Changes.{changes-length, count-rises}
 use Rattle.layout.specs.Fits.{Bytes}
 use Rattle.layout.proofs.Header.{header-length}
@@ -43,22 +43,22 @@ module _ {place old new at next : ℕ} {list after : List ℕ} where
 -- a list over which the changes of the first i of k places are put
 pub record Putting (old new : List ℕ) (k : ℕ) (before after : List ℕ) (at i : ℕ) : Type 0 where
   pub passed : i ≤ k
-  pub fits : perChange * held (differs old new) k ≤ length before
-  pub stands : after ≡ laid 0 (changesBelow old new i) before
-  pub behind : at ≡ length (changesBelow old new i)
+  pub fits : per_change * held (differs old new) k ≤ length before
+  pub stands : after ≡ laid 0 (changes_below old new i) before
+  pub behind : at ≡ length (changes_below old new i)
   pub long : length after ≡ length before
 
 module _ {old new : List ℕ} {k : ℕ} {before : List ℕ} where
-  pub putting-none : perChange * held (differs old new) k ≤ length before → Putting old new k before before 0 0
-  unfolding changesBelow
+  pub putting-none : per_change * held (differs old new) k ≤ length before → Putting old new k before before 0 0
+  unfolding changes_below
   putting-none fits = record { passed = omega arith; fits = fits; stands = sym (laid_none 0 before); behind = refl; long = refl }
 
   module _ {list : List ℕ} {at i : ℕ} (l : Putting old new k before list at i) (h : i < k) where
-    next-length : length (changesBelow old new (suc i)) ≡ at + length (changeAt old new i)
-    unfolding changesBelow
-    next-length = length-append (changesBelow old new i) (changeAt old new i) ∙ ap (λ a. a + length (changeAt old new i)) (sym l.behind)
+    next-length : length (changes_below old new (suc i)) ≡ at + length (change_at old new i)
+    unfolding changes_below
+    next-length = length-append (changes_below old new i) (change_at old new i) ∙ ap (λ a. a + length (change_at old new i)) (sym l.behind)
 
-    pub putting-room : at + length (changeAt old new i) ≤ length list
+    pub putting-room : at + length (change_at old new i) ≤ length list
     putting-room =
         let rest = k - suc i in
         let all : suc i + rest ≡ k = omega arith in
@@ -66,38 +66,38 @@ module _ {old new : List ℕ} {k : ℕ} {before : List ℕ} where
         omega (arith, next-length, changes-length old new (suc i), more, l.fits, l.long)
 
     pub putting-more : {last : List ℕ} {next : ℕ} → Put i (get_or old i 0) (get_or new i 0) at list last next → Putting old new k before last next (i + 1)
-    unfolding changesBelow
+    unfolding changes_below
     putting-more {last} {next} put = record {
       passed = omega arith;
       fits = l.fits;
       stands =
           put.put
-          ∙ ap (laid at (changeAt old new i)) l.stands
-          ∙ laid_more 0 before (changesBelow old new i) (changeAt old new i) at (omega (arith, l.behind)) (omega arith)
-          ∙ ap (λ j. laid 0 (changesBelow old new j) before) (sym (add-one i));
-      behind = put.behind ∙ sym next-length ∙ ap (λ j. length (changesBelow old new j)) (sym (add-one i));
-      long = ap length put.put ∙ laid-length at list (changeAt old new i) putting-room ∙ l.long;
+          ∙ ap (laid at (change_at old new i)) l.stands
+          ∙ laid_more 0 before (changes_below old new i) (change_at old new i) at (omega (arith, l.behind)) (omega arith)
+          ∙ ap (λ j. laid 0 (changes_below old new j) before) (sym (add-one i));
+      behind = put.behind ∙ sym next-length ∙ ap (λ j. length (changes_below old new j)) (sym (add-one i));
+      long = ap length put.put ∙ laid-length at list (change_at old new i) putting-room ∙ l.long;
     }
 
-  pub putting-all : {list : List ℕ} {at i : ℕ} → Putting old new k before list at i → k ≤ i → list ≡ laid 0 (changesBelow old new k) before
+  pub putting-all : {list : List ℕ} {at i : ℕ} → Putting old new k before list at i → k ≤ i → list ≡ laid 0 (changes_below old new k) before
   putting-all {i} l h =
       let e : i ≡ k = omega (arith, l.passed) in
-      l.stands ∙ ap (λ j. laid 0 (changesBelow old new j) before) e
+      l.stands ∙ ap (λ j. laid 0 (changes_below old new j) before) e
 
 -- the file's bytes behind its header, as they are laid: each in one byte
-pub body_bytes : (bytes : List ℕ) → Bytes bytes → beyondMending bytes ≡ 0 → all_bytes 1 (bodyIn bytes) ≡ bodyIn bytes
+pub body_bytes : (bytes : List ℕ) → Bytes bytes → beyond_mending bytes ≡ 0 → all_bytes 1 (body_in bytes) ≡ body_in bytes
 body_bytes bytes small none =
-    let h = headerLength (versionIn bytes) in
-    let l = lengthIn bytes - h in
+    let h = header_length (version_in bytes) in
+    let l = length_in bytes - h in
     let fits : h + l ≤ length bytes = omega (arith, (mendable bytes none).whole) in
     ap (all_bytes 1) (bytes-are bytes h l fits)
     ∙ bytes_back 1 bytes h l small (omega arith)
     ∙ ap (λ j. take j (drop h bytes)) (one-mul l)
 
-pub mended-laid : (bytes room : List ℕ) → Bytes bytes → beyondMending bytes ≡ 0 → {first last : List ℕ} → first ≡ laid 0 (headerFor bytes) room
-    → last ≡ laid (headerLength (versionIn bytes)) (all_bytes 1 (bodyIn bytes)) first → last ≡ laid 0 (mended bytes) room
+pub mended-laid : (bytes room : List ℕ) → Bytes bytes → beyond_mending bytes ≡ 0 → {first last : List ℕ} → first ≡ laid 0 (header_for bytes) room
+    → last ≡ laid (header_length (version_in bytes)) (all_bytes 1 (body_in bytes)) first → last ≡ laid 0 (mended bytes) room
 unfolding mended
 mended-laid bytes room small none {first} one two =
-    let h = headerLength (versionIn bytes) in
+    let h = header_length (version_in bytes) in
     let plain = two ∙ ap (λ ys. laid h ys first) (body_bytes bytes small none) in
-    laid_next 0 h room (headerFor bytes) (bodyIn bytes) one plain (omega (arith, header-length (versionIn bytes) (fansIn bytes) (boardCountIn bytes) (countIn bytes))) (omega arith)
+    laid_next 0 h room (header_for bytes) (body_in bytes) one plain (omega (arith, header-length (version_in bytes) (fans_in bytes) (board_count_in bytes) (count_in bytes))) (omega arith)

@@ -1,9 +1,9 @@
 // Where two lists of bytes differ.
 ghost use Rattle.std.specs.Prelude.{◌≡◌, cond, not, ◌+◌, ◌*◌, ◌≤◌, eqb, length};
 ghost use Rattle.rules.specs.Below.{held};
-ghost use Rattle.rules.specs.Mending.{perChange, differs, changesBelow};
+ghost use Rattle.rules.specs.Mending.{per_change, differs, changes_below};
 ghost use Rattle.writer.specs.Laid.{laid};
-ghost use Rattle.mend.specs.Change.{changeOf, Put};
+ghost use Rattle.mend.specs.Change.{change_of, Put};
 
 // A change is three numbers: the place, the old value and the new one.
 pub const PER_CHANGE: usize = 3;
@@ -34,7 +34,7 @@ pub fn changed(old: &[u8], new: &[u8], k: usize) -> usize
 
 // The change at a place, if there is one, laid over the list; and where the next one goes.
 fn put_change(place: usize, old: u8, new: u8, list: &mut [u64], at: usize) -> usize
-    requires { at + length (changeOf place old new) ≤ length list.old }
+    requires { at + length (change_of place old new) ≤ length list.old }
     ensures { Put place old new at list.old list.new result }
 {
     if old != new {
@@ -49,8 +49,8 @@ fn put_change(place: usize, old: u8, new: u8, list: &mut [u64], at: usize) -> us
 // The changes at all places below k, in order, laid over a list's front.
 pub fn put_changes(old: &[u8], new: &[u8], k: usize, list: &mut [u64])
     requires places { (k ≤ length old.now) × (k ≤ length new.now) }
-    requires fits { perChange * held (differs old.now new.now) k ≤ length list.old }
-    ensures { list.new ≡ laid 0 (changesBelow old.now new.now k)
+    requires fits { per_change * held (differs old.now new.now) k ≤ length list.old }
+    ensures { list.new ≡ laid 0 (changes_below old.now new.now k)
         list.old }
 {
     let mut at: usize = 0;

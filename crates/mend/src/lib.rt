@@ -3,12 +3,12 @@
 mod changes; // changes.rt: where two lists of bytes differ
 
 ghost use Rattle.std.specs.Prelude.{◌≡◌, ◌*◌, ◌≤◌, length, replicate};
-ghost use Rattle.rules.specs.File.{headerLength};
-ghost use Rattle.rules.specs.Mending.{mended, perChange, changesIn, changedIn};
+ghost use Rattle.rules.specs.File.{header_length};
+ghost use Rattle.rules.specs.Mending.{mended, per_change, changes_in, changed_in};
 ghost use Rattle.deck.specs.Head.{Given};
 ghost use Rattle.writer.specs.Laid.{laid};
-ghost use Rattle.mend.specs.Looked.{cutRefusal, Looks, Looked, Sized, headerBy};
-ghost use Rattle.mend.specs.Outcome.{longestHeader, Mended};
+ghost use Rattle.mend.specs.Looked.{cut_refusal, Looks, Looked, Sized, header_by};
+ghost use Rattle.mend.specs.Outcome.{longest_header, Mended};
 
 use deck::{Head, Opened};
 use layout::number;
@@ -21,7 +21,7 @@ const HEADER: usize = 28;
 // Refusals 2, 12, 20 and 22, of a file whose header is there, checked in that order; 0 for none.
 fn cut_refusal(bytes: &[u8], head: Head) -> u64
     requires { Given bytes.now head }
-    ensures { result ≡ cutRefusal bytes.now }
+    ensures { result ≡ cut_refusal bytes.now }
 {
     let counted = deck::counts_refusal(head);
     let miscounted = counted != 0;
@@ -60,7 +60,7 @@ fn look(bytes: &[u8]) -> Opened
 
 // How long the header is.
 fn header_given(head: Head) -> usize
-    ensures { (result ≡ headerLength head.version) × (result ≤ longestHeader) }
+    ensures { (result ≡ header_length head.version) × (result ≤ longest_header) }
 {
     let version = head.version;
     layout::header_length(version)
@@ -69,8 +69,8 @@ fn header_given(head: Head) -> usize
 // The layout's header for a head, laid over a room's front.
 fn put_head(head: Head, room: &mut [u8])
     requires sized { Sized head }
-    requires fits { headerLength head.version ≤ length room.old }
-    ensures { room.new ≡ laid 0 (headerBy head) room.old }
+    requires fits { header_length head.version ≤ length room.old }
+    ensures { room.new ≡ laid 0 (header_by head) room.old }
 {
     writer::put_header(head.version, head.fans, head.boards, head.systems, room);
 }
@@ -78,7 +78,7 @@ fn put_head(head: Head, room: &mut [u8])
 // The same by itself, with zeros behind it where it is the shorter one.
 fn header_for(head: Head) -> [u8; HEADER]
     requires { Sized head }
-    ensures { result ≡ laid 0 (headerBy head) (replicate longestHeader 0) }
+    ensures { result ≡ laid 0 (header_by head) (replicate longest_header 0) }
 {
     let mut header = [0u8; HEADER];
     put_head(head, &mut header);
@@ -100,7 +100,7 @@ fn put_mended(bytes: &[u8], head: Head, room: &mut [u8])
 // How many bytes that changes: all of them are in the header.
 fn changed_in(bytes: &[u8], head: Head) -> usize
     requires { Looked bytes.now head }
-    ensures { (result ≡ changedIn bytes.now) × (result ≤ longestHeader) }
+    ensures { (result ≡ changed_in bytes.now) × (result ≤ longest_header) }
 {
     let header = header_for(head);
     let upto = header_given(head);
@@ -110,8 +110,8 @@ fn changed_in(bytes: &[u8], head: Head) -> usize
 // The list of these.
 fn put_list(bytes: &[u8], head: Head, list: &mut [u64])
     requires looked { Looked bytes.now head }
-    requires fits { perChange * changedIn bytes.now ≤ length list.old }
-    ensures { list.new ≡ laid 0 (changesIn bytes.now) list.old }
+    requires fits { per_change * changed_in bytes.now ≤ length list.old }
+    ensures { list.new ≡ laid 0 (changes_in bytes.now) list.old }
 {
     let header = header_for(head);
     let upto = header_given(head);

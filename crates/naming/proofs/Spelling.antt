@@ -9,7 +9,7 @@ use native.Mathlib.Nat.{pow-suc, pow-le-pow_right}
 use lib.ListN.{length, get_or, drop}
 use lib.Seq.{drop-cons, drop-length}
 use Rattle.rules.specs.Below.{within}
-use Rattle.naming.specs.Named.{longestNumber, spelled}
+use Rattle.naming.specs.Named.{longest_number, spelled}
 
 module _ (x : ℕ) (word : List ℕ) (i : ℕ) where
   pub digit-on : i < length word → within 48 (get_or word i 0) 57 ≡ true → spelled (x * 10 + (get_or word i 0 - 48)) (drop (suc i) word) ≡ spelled x (drop i word)
@@ -28,5 +28,5 @@ module _ (x : ℕ) (word : List ℕ) (i : ℕ) where
 pub one_more : (x i digit : ℕ) → x < 10 ^ i → digit ≤ 9 → x * 10 + digit < 10 ^ suc i
 one_more x i digit h l = rw (pow-suc 10 i) (omega arith)
 
-pub few-digits : (i : ℕ) → i ≤ longestNumber → 10 ^ i ≤ 10 ^ longestNumber
-few-digits i l = pow-le-pow_right (omega arith) {i = i} {j = longestNumber} l
+pub few-digits : (i : ℕ) → i ≤ longest_number → 10 ^ i ≤ 10 ^ longest_number
+few-digits i l = pow-le-pow_right (omega arith) {i = i} {j = longest_number} l

@@ -3,7 +3,7 @@ pub mod number; // number.rt: a number, and where a byte stands
 
 ghost use Rattle.std.specs.Prelude.{◌≡◌, ◌≤◌, length};
 ghost use Rattle.rules.specs.Refusal.{most};
-ghost use Rattle.naming.specs.Named.{minus, up_to, firstIn, lastIn, rangeFailed, namedNext, named_in};
+ghost use Rattle.naming.specs.Named.{minus, up_to, first_in, last_in, range_failed, named_next, named_in};
 
 const COMMA: u8 = 44;
 
@@ -19,7 +19,7 @@ pub struct Named {
 // The state with the fans from one to another failed too.
 fn fail_range(state: u64, from: u64, to: u64) -> u64
     requires { (1 ≤ from) × (from ≤ to) × (to ≤ most) }
-    ensures { result ≡ rangeFailed state from to }
+    ensures { result ≡ range_failed state from to }
 {
     let mut after = state;
     let mut fan = from;
@@ -32,8 +32,8 @@ fn fail_range(state: u64, from: u64, to: u64) -> u64
 
 // The last fan of a part, whose minus stands at `at` or nowhere: a part without one names one fan.
 fn last_of(part: &[u8], at: usize, first: u64) -> u64
-    requires { (at ≡ up_to minus part.now) × (at ≤ length part.now) × (first ≡ firstIn part.now) }
-    ensures { result ≡ lastIn part.now }
+    requires { (at ≡ up_to minus part.now) × (at ≤ length part.now) × (first ≡ first_in part.now) }
+    ensures { result ≡ last_in part.now }
 {
     if at == part.len() {
         return first;
@@ -44,7 +44,7 @@ fn last_of(part: &[u8], at: usize, first: u64) -> u64
 // One part more; behind a part that is wrong nothing is looked at.
 fn name_part(n: u64, part: &[u8], named: Named) -> Named
     requires { n ≤ most }
-    ensures { result ≡ namedNext n part.now named }
+    ensures { result ≡ named_next n part.now named }
 {
     if named.wrong {
         return named;

@@ -19,11 +19,11 @@ abbrev pub first : ℕ
 first = 4503599627370496
 
 -- the field of the largest of these doubles
-abbrev pub mostField : ℕ
-mostField = 1022
+abbrev pub most_field : ℕ
+most_field = 1022
 
 pub record Placed (field q : ℕ) : Type 0 where
-  pub small : field ≤ mostField
+  pub small : field ≤ most_field
   pub least : first ≤ q
   pub most : q ≤ 2 * first
 

@@ -9,9 +9,9 @@ use lib.Ieee.{Float, nan}
 use Rattle.rules.specs.declared.Rating.{Rating}
 use Rattle.rules.specs.declared.Rating.TheVariants as rating
 use Rattle.rules.specs.Refusal.{cells}
-use Rattle.rules.specs.Answer.{unless, figuresOf}
-use Rattle.rules.specs.File.{badNumber, systemOf, packed, loadingOf}
-use Rattle.rules.specs.Doubles.{Planned, plannedRating, export_of}
+use Rattle.rules.specs.Answer.{unless, figures_of}
+use Rattle.rules.specs.File.{bad_number, system_of, packed, loading_of}
+use Rattle.rules.specs.Doubles.{Planned, planned_rating, export_of}
 use Rattle.rules.proofs.Tests.{by-test}
 use Rattle.packing.proofs.Packed.{packed-tells, planned-packable}
 use Rattle.doubles.specs.Floats.{Over}
@@ -21,10 +21,10 @@ use Rattle.export.specs.Outcome.{Tells}
 use Rattle.export.proofs.Outcome.{Ones, over_ones, export-within}
 use Rattle.between.specs.Outcome.{Below, Above}
 use Rattle.between.proofs.Outcome.{enclosed-ones}
-use Rattle.office.specs.Outcome.{number_of, endsAfter, Handed, Told, Bounded, Answered}
+use Rattle.office.specs.Outcome.{number_of, ends_after, Handed, Told, Bounded, Answered}
 
 pub handed : (Low High : ℕ → Float → Type 0) (q : Rating) (r : Chance) (before : List Float) → Tells Low High q r
-    → Handed Low High q before (endsAfter r before) (number_of r)
+    → Handed Low High q before (ends_after r before) (number_of r)
 handed Low High (rating.Range low high) (chance.Range e) before h = (refl, refl, h.lower, h.upper)
 handed Low High (rating.Range low high) (chance.Refused n) before h = absurd h
 handed Low High (rating.Refused number) (chance.Range e) before h = absurd h
@@ -55,14 +55,14 @@ same-told {file} {system} {before} {e} {d} {r} {t} h k =
 pub same-bounded : {file : List ℕ} {system : ℕ} {before e d : List Float} {r t : ℕ} → Bounded file system before e r → Bounded file system before d t
     → (r ≡ t) × (e ≡ d)
 same-bounded {file} {system} {before} {e} {d} {r} {t} h k =
-    same-handed (Below file) (Above file) (loadingOf file system) (enclosed-ones file system) before e d r t h.answer k.answer
+    same-handed (Below file) (Above file) (loading_of file system) (enclosed-ones file system) before e d r t h.answer k.answer
 
 pub same-answered : {q : Planned} {r t : ℕ} → Answered q r → Answered q t → r ≡ t
 same-answered h k = h.number ∙ sym k.number
 
 -- and equal numbers come of equal answers
-pub one-rating : (q q' : Planned) → packed (plannedRating q (replicate cells 0)) ≡ packed (plannedRating q' (replicate cells 0))
-    → plannedRating q (replicate cells 0) ≡ plannedRating q' (replicate cells 0)
+pub one-rating : (q q' : Planned) → packed (planned_rating q (replicate cells 0)) ≡ packed (planned_rating q' (replicate cells 0))
+    → planned_rating q (replicate cells 0) ≡ planned_rating q' (replicate cells 0)
 one-rating q q' e = packed-tells _ _ (planned-packable q _) (planned-packable q' _) e
 
 -- ---- no refusal has the number 0, so that 0 tells both ends
@@ -76,9 +76,9 @@ unfolding unless
 numbered zero answer h = h
 numbered (suc r) answer h = omega arith
 
-pub loading-numbered : (file : List ℕ) (system : ℕ) → Numbered (loadingOf file system)
-unfolding loadingOf systemOf figuresOf
-loading-numbered file system = numbered _ _ (by-test Numbered (badNumber file system) _ _ (λ b. omega arith) (λ b. numbered _ _ tt))
+pub loading-numbered : (file : List ℕ) (system : ℕ) → Numbered (loading_of file system)
+unfolding loading_of system_of figures_of
+loading-numbered file system = numbered _ _ (by-test Numbered (bad_number file system) _ _ (λ b. omega arith) (λ b. numbered _ _ tt))
 
 pub export-numbered : (file : List ℕ) (system : ℕ) → Numbered (export_of file system)
 unfolding export_of

@@ -6,42 +6,42 @@ use Rattle.rules.specs.declared.Rating.{Rating}
 use Rattle.rules.specs.declared.Rating.TheVariants as rating
 use Rattle.rules.specs.declared.Writing.{Writing}
 use Rattle.rules.specs.declared.Writing.TheVariants.{Written, Refused}
-use Rattle.rules.specs.Refusal.{lastVersion, mostBoards, cells}
-use Rattle.rules.specs.File.{mostFans, mostSystems, packedRefusal, packed, fileLength, loadingOf}
-use Rattle.rules.specs.Writing.{Typed, writingOf, roomWritten}
-use Rattle.rules.specs.Doubles.{Planned, plannedRating, export_of}
+use Rattle.rules.specs.Refusal.{last_version, most_boards, cells}
+use Rattle.rules.specs.File.{most_fans, most_systems, packed_refusal, packed, file_length, loading_of}
+use Rattle.rules.specs.Writing.{Typed, writing_of, room_written}
+use Rattle.rules.specs.Doubles.{Planned, planned_rating, export_of}
 use Rattle.doubles.specs.Floats.{Over}
 use Rattle.between.specs.Outcome.{Below, Above}
 use Rattle.export.specs.declared.Chance.{Chance}
 use Rattle.export.specs.declared.Chance.TheVariants as chance
 
-abbrev pub packedWriting : Writing → ℕ
-packedWriting (Written size) = size
-packedWriting (Refused number) = packedRefusal number
+abbrev pub packed_writing : Writing → ℕ
+packed_writing (Written size) = size
+packed_writing (Refused number) = packed_refusal number
 
 -- the writer's highest refusal, the longest file, and the answers that one number carries
-abbrev pub mostRefusal : ℕ
-mostRefusal = 21
+abbrev pub most_refusal : ℕ
+most_refusal = 21
 
 abbrev pub longest : ℕ
-longest = fileLength lastVersion mostFans mostBoards mostSystems
+longest = file_length last_version most_fans most_boards most_systems
 
 abbrev pub Packable : Writing → Type 0
 Packable (Written size) = size ≤ longest
-Packable (Refused number) = number ≤ mostRefusal
+Packable (Refused number) = number ≤ most_refusal
 
 pub record Filed (t : Typed) (room after : List ℕ) (r : ℕ) : Type 0 where
-  pub number : r ≡ packedWriting (writingOf t room)
-  pub written : after ≡ roomWritten t room
+  pub number : r ≡ packed_writing (writing_of t room)
+  pub written : after ≡ room_written t room
 
 -- request 10, a chance for C: 0 and both ends, or the refusal's number and the ends as they were
 abbrev pub number_of : Chance → ℕ
 number_of (chance.Range e) = 0
 number_of (chance.Refused number) = number
 
-abbrev pub endsAfter : Chance → List Float → List Float
-endsAfter (chance.Range e) ends = e.low ∷ e.high ∷ []
-endsAfter (chance.Refused number) ends = ends
+abbrev pub ends_after : Chance → List Float → List Float
+ends_after (chance.Range e) ends = e.low ∷ e.high ∷ []
+ends_after (chance.Refused number) ends = ends
 
 -- "a pair of floats, or the refusal with no floats": low and high, each as the float that is promised of it
 abbrev pub Handed : (Low High : ℕ → Float → Type 0) → Rating → (before after : List Float) (r : ℕ) → Type 0
@@ -54,8 +54,8 @@ pub record Told (file : List ℕ) (system : ℕ) (before after : List Float) (r 
 
 -- for a file of any version, the double nearest below low over its unit, and the one nearest above high
 pub record Bounded (file : List ℕ) (system : ℕ) (before after : List Float) (r : ℕ) : Type 0 where
-  pub answer : Handed (Below file) (Above file) (loadingOf file system) before after r
+  pub answer : Handed (Below file) (Above file) (loading_of file system) before after r
 
 -- a rating asked in doubles, "over a working table that the caller brings"
 pub record Answered (q : Planned) (r : ℕ) : Type 0 where
-  pub number : r ≡ packed (plannedRating q (replicate cells 0))
+  pub number : r ≡ packed (planned_rating q (replicate cells 0))

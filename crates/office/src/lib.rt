@@ -1,11 +1,11 @@
 // The office's calls for its C programs: the deck file's writer; a deck's chances as doubles, exactly or between the
 // nearest two; a rating asked in doubles.
 ghost use Rattle.std.specs.Prelude.{◌≡◌};
-ghost use Rattle.rules.specs.State.{ruleOf};
+ghost use Rattle.rules.specs.State.{rule_of};
 ghost use Rattle.rules.specs.Writing.{typed_of};
-ghost use Rattle.rules.specs.Doubles.{plannedOf};
+ghost use Rattle.rules.specs.Doubles.{planned_of};
 ghost use Rattle.doubles.specs.Floats.{bits_of};
-ghost use Rattle.office.specs.Outcome.{packedWriting, Packable, Filed, number_of, endsAfter, Told, Answered};
+ghost use Rattle.office.specs.Outcome.{packed_writing, Packable, Filed, number_of, ends_after, Told, Answered};
 ghost use Rattle.office.specs.Outcome.{Bounded};
 
 use export::Chance;
@@ -14,7 +14,7 @@ use rules::{Rule, Writing};
 // An answer as one number: the length, or a refusal packed as the rating's.
 fn pack(writing: Writing) -> u64
     requires { Packable writing }
-    ensures { result ≡ packedWriting writing }
+    ensures { result ≡ packed_writing writing }
 {
     match writing {
         Writing::Written(length) => length,
@@ -52,7 +52,7 @@ pub extern "C" fn foambeetle_write(
 // A chance as C gets it: 0 and both ends, or the refusal and the ends as they were.
 fn tell(chance: Chance, ends: &mut [f64; 2]) -> u64
     ensures number { result ≡ number_of chance }
-    ensures ends { ends.new ≡ endsAfter chance ends.old }
+    ensures ends { ends.new ≡ ends_after chance ends.old }
 {
     match chance {
         Chance::Range(e) => {
@@ -95,7 +95,7 @@ pub extern "C" fn foambeetle_rate_doubles(
     survival: &[f64],
     weights: &[u16],
 ) -> u64
-    ensures { Answered (plannedOf (ruleOf kind first second) a b (bits_of survival.now)
+    ensures { Answered (planned_of (rule_of kind first second) a b (bits_of survival.now)
         weights.now more.now) result }
 {
     let rule = Rule {

@@ -10,24 +10,24 @@ use lib.ListN.{length, set, length-set}
 use borrow.Author.Tests.{eq-eqb, ne_eqb, ltb-true}
 use Rattle.text.specs.Decimal.{text}
 use Rattle.options.specs.declared.Asked.{Asked}
-use Rattle.options.specs.Texts.{sameText}
-use Rattle.options.specs.Words.{mostOptions, rowLength, rows_of, takesWord, optionIn, isOption, Sound}
-use Rattle.options.specs.Words.{decided, optionAt, endedAt, oneOperand, withOperand, with_row, withOption, heard, nothing}
+use Rattle.options.specs.Texts.{same_text}
+use Rattle.options.specs.Words.{most_options, row_length, rows_of, takes_word, option_in, is_option, Sound}
+use Rattle.options.specs.Words.{decided, option_at, ended_at, one_operand, with_operand, with_row, with_option, heard, nothing}
 
 module _ (table : List ℕ) (most : ℕ) (a : Asked) (place : ℕ) (word : List ℕ) where
   pub past-deciding : (a.task ≡ 0 → ⊥) → heard table most a place word ≡ a
   unfolding heard
   past-deciding h = rw (ne_eqb a.task 0 h)
 
-  pub a-value : a.task ≡ 0 → (a.waits ≡ 0 → ⊥) → heard table most a place word ≡ optionAt (a.waits - 1) 0 a place
+  pub a-value : a.task ≡ 0 → (a.waits ≡ 0 → ⊥) → heard table most a place word ≡ option_at (a.waits - 1) 0 a place
   unfolding heard
   a-value e h = rw (eq-eqb a.task 0 e, ne_eqb a.waits 0 h)
 
-  pub an-option : a.task ≡ 0 → a.waits ≡ 0 → isOption a.ended word ≡ true → heard table most a place word ≡ withOption table a place word
+  pub an-option : a.task ≡ 0 → a.waits ≡ 0 → is_option a.ended word ≡ true → heard table most a place word ≡ with_option table a place word
   unfolding heard
   an-option e w o = rw (eq-eqb a.task 0 e, eq-eqb a.waits 0 w, o)
 
-  pub an-operand : a.task ≡ 0 → a.waits ≡ 0 → isOption a.ended word ≡ false → heard table most a place word ≡ withOperand most a place
+  pub an-operand : a.task ≡ 0 → a.waits ≡ 0 → is_option a.ended word ≡ false → heard table most a place word ≡ with_operand most a place
   unfolding heard
   an-operand e w o = rw (eq-eqb a.task 0 e, eq-eqb a.waits 0 w, o)
 
@@ -36,7 +36,7 @@ sound-if : (b : Bool) {x y : Asked} → (b ≡ true → Sound x) → (b ≡ fals
 sound-if true f g = f refl
 sound-if false f g = g refl
 
-few : (b : Bool) (k : ℕ) → k < mostOptions → cond b (k + 1) 0 ≤ mostOptions
+few : (b : Bool) (k : ℕ) → k < most_options → cond b (k + 1) 0 ≤ most_options
 few true k h = omega arith
 few false k h = omega arith
 
@@ -44,26 +44,26 @@ module _ (a : Asked) (s : Sound a) where
   deciding : (task place : ℕ) → Sound (decided task a place)
   deciding task place = record { eight = s.eight; waiting = s.waiting }
 
-  ending : (place : ℕ) → Sound (endedAt a place)
+  ending : (place : ℕ) → Sound (ended_at a place)
   ending place = record { eight = s.eight; waiting = s.waiting }
 
-  pub giving : (k waits place : ℕ) → waits ≤ mostOptions → Sound (optionAt k waits a place)
+  pub giving : (k waits place : ℕ) → waits ≤ most_options → Sound (option_at k waits a place)
   giving k waits place h = record { eight = length-set a.given k place ∙ s.eight; waiting = h }
 
-  pub with-operand : (most place : ℕ) → Sound (withOperand most a place)
+  pub with-operand : (most place : ℕ) → Sound (with_operand most a place)
   with-operand most place = sound-if (ltb a.operands most) (λ e. record { eight = s.eight; waiting = s.waiting }) (λ e. deciding 4 place)
 
-  with-row : (table : List ℕ) (place k : ℕ) → length table ≤ rowLength * mostOptions → Sound (with_row table a place k)
+  with-row : (table : List ℕ) (place k : ℕ) → length table ≤ row_length * most_options → Sound (with_row table a place k)
   with-row table place k h =
       sound-if (ltb k (rows_of table))
-      (λ e. giving k (cond (takesWord table k) (k + 1) 0) place (few (takesWord table k) k (omega (arith, h, ltb-true k (rows_of table) e, div-mul-le_self (length table) 12))))
+      (λ e. giving k (cond (takes_word table k) (k + 1) 0) place (few (takes_word table k) k (omega (arith, h, ltb-true k (rows_of table) e, div-mul-le_self (length table) 12))))
       (λ e. deciding 3 place)
 
-  pub with-option : (table : List ℕ) (place : ℕ) (word : List ℕ) → length table ≤ rowLength * mostOptions → Sound (withOption table a place word)
+  pub with-option : (table : List ℕ) (place : ℕ) (word : List ℕ) → length table ≤ row_length * most_options → Sound (with_option table a place word)
   with-option table place word h =
-      sound-if (sameText word (text "--")) (λ e. ending place)
-      (λ e. sound-if (sameText word (text "--help")) (λ e. deciding 1 place)
-      (λ e. sound-if (sameText word (text "--version")) (λ e. deciding 2 place) (λ e. with-row table place (optionIn table word) h)))
+      sound-if (same_text word (text "--")) (λ e. ending place)
+      (λ e. sound-if (same_text word (text "--help")) (λ e. deciding 1 place)
+      (λ e. sound-if (same_text word (text "--version")) (λ e. deciding 2 place) (λ e. with-row table place (option_in table word) h)))
 
 -- before any word
 pub nothing-sound : Sound nothing

@@ -8,10 +8,10 @@ use lib.Dec.{eqb}
 use lib.ListN.{length, get_or, drop}
 use lib.Seq.{drop-cons, drop-length}
 use borrow.Author.Tests.{eq-eqb, ne_eqb}
-use Rattle.options.specs.Texts.{sameText}
+use Rattle.options.specs.Texts.{same_text}
 
-pub other_length : (a b : List ℕ) → (length a ≡ length b → ⊥) → sameText a b ≡ false
-unfolding sameText
+pub other_length : (a b : List ℕ) → (length a ≡ length b → ⊥) → same_text a b ≡ false
+unfolding same_text
 other_length [] [] h = absurd (h refl)
 other_length [] (y ∷ ys) h = refl
 other_length (x ∷ xs) [] h = refl
@@ -22,14 +22,14 @@ other_length (x ∷ xs) (y ∷ ys) h = rw (other_length xs ys (λ e. h (omega ar
     never false = refl
 
 module _ (a b : List ℕ) (i : ℕ) (la : i < length a) (lb : i < length b) where
-  pub same-on : get_or a i 0 ≡ get_or b i 0 → sameText (drop (suc i) a) (drop (suc i) b) ≡ sameText (drop i a) (drop i b)
-  unfolding sameText
+  pub same-on : get_or a i 0 ≡ get_or b i 0 → same_text (drop (suc i) a) (drop (suc i) b) ≡ same_text (drop i a) (drop i b)
+  unfolding same_text
   same-on e = rw (drop-cons a i 0 la, drop-cons b i 0 lb, eq-eqb (get_or a i 0) (get_or b i 0) e)
 
-  pub other_byte : (get_or a i 0 ≡ get_or b i 0 → ⊥) → sameText (drop i a) (drop i b) ≡ false
-  unfolding sameText
+  pub other_byte : (get_or a i 0 ≡ get_or b i 0 → ⊥) → same_text (drop i a) (drop i b) ≡ false
+  unfolding same_text
   other_byte h = rw (drop-cons a i 0 la, drop-cons b i 0 lb, ne_eqb (get_or a i 0) (get_or b i 0) h)
 
-pub same_end : (a b : List ℕ) (i : ℕ) → i ≡ length a → length a ≡ length b → sameText (drop i a) (drop i b) ≡ true
-unfolding sameText
+pub same_end : (a b : List ℕ) (i : ℕ) → i ≡ length a → length a ≡ length b → same_text (drop i a) (drop i b) ≡ true
+unfolding same_text
 same_end a b i e l = rw (e, drop-length a, l, drop-length b)

@@ -1,9 +1,9 @@
 // What a program is asked for by its words: options, by a table that it names, and operands.
 ghost use Rattle.std.specs.Prelude.{◌≡◌, cond, ◌≤◌, ◌<◌, ◌*◌, ◌+◌, eqb, length, get_or};
-ghost use Rattle.options.specs.Words.{rowLength, mostOptions, rows_of, rowIs, optionIn, takesWord, isOption};
-ghost use Rattle.options.specs.Words.{nothing, decided, optionAt, endedAt, withOperand, with_row, withOption};
+ghost use Rattle.options.specs.Words.{row_length, most_options, rows_of, row_is, option_in, takes_word, is_option};
+ghost use Rattle.options.specs.Words.{nothing, decided, option_at, ended_at, with_operand, with_row, with_option};
 ghost use Rattle.options.specs.Words.{heard, finished, Sound};
-ghost use Rattle.options.specs.Texts.{sameText};
+ghost use Rattle.options.specs.Texts.{same_text};
 
 // A row of the table: an option's name, blanks behind it, and `=` at the end where a word belongs to the option.
 const ROW: usize = 12;
@@ -74,8 +74,8 @@ fn byte_of(word: &[u8], j: usize) -> u8
 
 // Is a word the name of option k?
 fn row_is(table: &[u8], k: usize, word: &[u8]) -> bool
-    requires { rowLength * k + rowLength ≤ length table.now }
-    ensures { result ≡ rowIs table.now k word.now }
+    requires { row_length * k + row_length ≤ length table.now }
+    ensures { result ≡ row_is table.now k word.now }
 {
     if word.len() > NAME {
         return false;
@@ -92,7 +92,7 @@ fn row_is(table: &[u8], k: usize, word: &[u8]) -> bool
 
 // The option that a word names, or how many there are.
 fn option_in(table: &[u8], word: &[u8]) -> usize
-    ensures { result ≡ optionIn table.now word.now }
+    ensures { result ≡ option_in table.now word.now }
 {
     let rows = table.len() / ROW;
     let mut k: usize = 0;
@@ -123,8 +123,8 @@ fn decide(task: u64, asked: Asked, place: usize) -> Asked
 
 // Option k given at a place; it waits for its word, or does not.
 fn give(k: usize, waits: usize, asked: Asked, place: usize) -> Asked
-    requires { (k < mostOptions) × Sound asked }
-    ensures { result ≡ optionAt k waits asked place }
+    requires { (k < most_options) × Sound asked }
+    ensures { result ≡ option_at k waits asked place }
 {
     let mut given = asked.given;
     given[k] = place;
@@ -141,7 +141,7 @@ fn give(k: usize, waits: usize, asked: Asked, place: usize) -> Asked
 
 // `--` ends the options.
 fn end(asked: Asked, place: usize) -> Asked
-    ensures { result ≡ endedAt asked place }
+    ensures { result ≡ ended_at asked place }
 {
     let given = asked.given;
     Asked {
@@ -168,7 +168,7 @@ fn first_of(asked: Asked, place: usize) -> usize
 
 // An operand, or one too many.
 fn operand(most: u64, asked: Asked, place: usize) -> Asked
-    ensures { result ≡ withOperand most asked place }
+    ensures { result ≡ with_operand most asked place }
 {
     if asked.operands < most {
         let given = asked.given;
@@ -187,8 +187,8 @@ fn operand(most: u64, asked: Asked, place: usize) -> Asked
 
 // What option k waits for: one more than itself where a word belongs to it.
 fn waiting(table: &[u8], k: usize) -> usize
-    requires { rowLength * k + rowLength ≤ length table.now }
-    ensures { result ≡ cond (takesWord table.now k) (k + 1) 0 }
+    requires { row_length * k + row_length ≤ length table.now }
+    ensures { result ≡ cond (takes_word table.now k) (k + 1) 0 }
 {
     if table[ROW * k + NAME] == EQUALS {
         k + 1
@@ -199,7 +199,7 @@ fn waiting(table: &[u8], k: usize) -> usize
 
 // Option k of the table, or one that it does not have.
 fn row(table: &[u8], asked: Asked, place: usize, k: usize) -> Asked
-    requires { (length table.now ≤ rowLength * mostOptions) × Sound asked }
+    requires { (length table.now ≤ row_length * most_options) × Sound asked }
     ensures { result ≡ with_row table.now asked place k }
 {
     if k < table.len() / ROW {
@@ -210,8 +210,8 @@ fn row(table: &[u8], asked: Asked, place: usize, k: usize) -> Asked
 
 // A word that is an option.
 fn option(table: &[u8], asked: Asked, place: usize, word: &[u8]) -> Asked
-    requires { (length table.now ≤ rowLength * mostOptions) × Sound asked }
-    ensures { result ≡ withOption table.now asked place word.now }
+    requires { (length table.now ≤ row_length * most_options) × Sound asked }
+    ensures { result ≡ with_option table.now asked place word.now }
 {
     if same(word, b"--") {
         return end(asked, place);
@@ -227,7 +227,7 @@ fn option(table: &[u8], asked: Asked, place: usize, word: &[u8]) -> Asked
 
 // Is a word an option?
 fn is_option(ended: usize, word: &[u8]) -> bool
-    ensures { result ≡ isOption ended word.now }
+    ensures { result ≡ is_option ended word.now }
 {
     if ended != 0 {
         return false;
@@ -240,7 +240,7 @@ fn is_option(ended: usize, word: &[u8]) -> bool
 
 // One word more.
 pub fn hear(table: &[u8], most: u64, asked: Asked, place: usize, word: &[u8]) -> Asked
-    requires { (length table.now ≤ rowLength * mostOptions) × Sound asked }
+    requires { (length table.now ≤ row_length * most_options) × Sound asked }
     ensures is { result ≡ heard table.now most asked place word.now }
     ensures sound { Sound result }
 {
@@ -271,7 +271,7 @@ pub fn finish(asked: Asked, place: usize) -> Asked
 
 // Whether two texts are the same.
 pub fn same(a: &[u8], b: &[u8]) -> bool
-    ensures { result ≡ sameText a.now b.now }
+    ensures { result ≡ same_text a.now b.now }
 {
     if a.len() != b.len() {
         return false;

@@ -5,9 +5,9 @@ use Rattle.rules.specs.declared.Rating.{Rating}
 use Rattle.rules.specs.declared.Rating.TheVariants.{Range, Refused}
 
 -- the highest number of the refusals
-abbrev pub mostRefusal : ℕ
-mostRefusal = 21
+abbrev pub most_refusal : ℕ
+most_refusal = 21
 
 abbrev pub Packable : Rating → Type 0
 Packable (Range low high) = (low ≤ S) × (high ≤ S)
-Packable (Refused number) = number ≤ mostRefusal
+Packable (Refused number) = number ≤ most_refusal

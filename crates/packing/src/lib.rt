@@ -1,6 +1,6 @@
 // An answer as the one 64-bit number that C gets.
 ghost use Rattle.std.specs.Prelude.{◌≡◌, ◌<◌};
-ghost use Rattle.rules.specs.File.{halfWord, packedRefusal, packed};
+ghost use Rattle.rules.specs.File.{half_word, packed_refusal, packed};
 ghost use Rattle.packing.specs.Packing.{Packable};
 
 use rules::Rating;
@@ -12,8 +12,8 @@ const REFUSED: u64 = (HALF_WORD - 1) * HALF_WORD;
 
 // A refusal: (2^32 - 1) times 2^32 plus its number.
 pub fn refused(number: u64) -> u64
-    requires { number < halfWord }
-    ensures { result ≡ packedRefusal number }
+    requires { number < half_word }
+    ensures { result ≡ packed_refusal number }
 {
     REFUSED + number
 }

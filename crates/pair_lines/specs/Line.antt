@@ -2,34 +2,34 @@
 -- `system S has one fan`. And the room that it takes at most.
 use Rattle.std.specs.Prelude.{cond, List, ◌++◌, ℕ, ◌+◌, ◌^◌, ◌≤◌, eqb}
 use Rattle.rules.specs.State.{S}
-use Rattle.rules.specs.Asked.{Asked, unitIn, size_of}
+use Rattle.rules.specs.Asked.{Asked, unit_in, size_of}
 use Rattle.text.specs.Decimal.{text}
-use Rattle.text.specs.Lines.{named, namedRoom, pairText, pairRoom}
+use Rattle.text.specs.Lines.{named, named_room, pair_text, pair_room}
 use Rattle.pairs.specs.declared.Best.{Best}
-use Rattle.pairs.specs.Pairs.{lowWithBoth, highWithBoth, firstPlace, secondPlace}
-use Rattle.pair_lines.specs.Rated.{ratedText, ratedRoom}
+use Rattle.pairs.specs.Pairs.{low_with_both, high_with_both, first_place, second_place}
+use Rattle.pair_lines.specs.Rated.{rated_text, rated_room}
 
-abbrev pub secondText : (u second low high : ℕ) → List ℕ
-secondText u second low high = named (text " and ") second ++ ratedText u low high
+abbrev pub second_text : (u second low high : ℕ) → List ℕ
+second_text u second low high = named (text " and ") second ++ rated_text u low high
 
-abbrev pub fansText : (u system first second low high : ℕ) → List ℕ
-fansText u system first second low high = pairText (text "system ") system (text " fans ") first ++ secondText u second low high
+abbrev pub fans_text : (u system first second low high : ℕ) → List ℕ
+fans_text u system first second low high = pair_text (text "system ") system (text " fans ") first ++ second_text u second low high
 
-abbrev pub oneText : (system : ℕ) → List ℕ
-oneText system = named (text "system ") system ++ text " has one fan\n"
+abbrev pub one_text : (system : ℕ) → List ℕ
+one_text system = named (text "system ") system ++ text " has one fan\n"
 
 -- the best pair of a stretch by its two places
-abbrev pub placesText : (system p : ℕ) → Asked → (i j : ℕ) → List ℕ
-placesText system p q i j = fansText (unitIn q) system (q.a + i) (q.a + j) (lowWithBoth q p i j) (highWithBoth q p i j)
+abbrev pub places_text : (system p : ℕ) → Asked → (i j : ℕ) → List ℕ
+places_text system p q i j = fans_text (unit_in q) system (q.a + i) (q.a + j) (low_with_both q p i j) (high_with_both q p i j)
 
-abbrev pub bestText : (system p : ℕ) → Asked → List ℕ
-bestText system p q = placesText system p q (firstPlace (lowWithBoth q p) (size_of q)) (secondPlace (lowWithBoth q p) (size_of q))
+abbrev pub best_text : (system p : ℕ) → Asked → List ℕ
+best_text system p q = places_text system p q (first_place (low_with_both q p) (size_of q)) (second_place (low_with_both q p) (size_of q))
 
-abbrev pub twoText : (system p : ℕ) → Asked → List ℕ
-twoText system p q = cond (eqb q.a q.b) (oneText system) (bestText system p q)
+abbrev pub two_text : (system p : ℕ) → Asked → List ℕ
+two_text system p q = cond (eqb q.a q.b) (one_text system) (best_text system p q)
 
-abbrev pub twoRoom : ℕ
-twoRoom = pairRoom (text "system ") (text " fans ") + namedRoom (text " and ") + ratedRoom
+abbrev pub two_room : ℕ
+two_room = pair_room (text "system ") (text " fans ") + named_room (text " and ") + rated_room
 
 -- a pair of a stretch that lies on a deck, and figures in percent
 pub record FewFans (a : ℕ) (b : Best) : Type 0 where

@@ -7,10 +7,10 @@ ghost use Rattle.rules.specs.State.{S};
 ghost use Rattle.rules.specs.Asked.{asked_of, size_of};
 ghost use Rattle.units.specs.Step.{whole};
 ghost use Rattle.text.specs.Added.{Added};
-ghost use Rattle.spares.specs.Places.{spareRefusal};
+ghost use Rattle.spares.specs.Places.{spare_refusal};
 ghost use Rattle.pairs.specs.Tried.{TriedBelow};
-ghost use Rattle.pair_lines.specs.Rated.{ratedText, ratedRoom};
-ghost use Rattle.pair_lines.specs.Line.{fansText, oneText, twoText, twoRoom, FewFans};
+ghost use Rattle.pair_lines.specs.Rated.{rated_text, rated_room};
+ghost use Rattle.pair_lines.specs.Line.{fans_text, one_text, two_text, two_room, FewFans};
 
 use pairs::Best;
 use places::Ends;
@@ -27,8 +27,8 @@ pub struct Two {
 // ` low L high H X% to Y%`, and the line's end.
 pub fn put_rated(decimal: bool, after: Ends, out: &mut [u8], at: usize) -> usize
     requires within { (after.low ≤ S) × (after.high ≤ S) }
-    requires room { at + ratedRoom ≤ length out.old }
-    ensures { Added (ratedText (whole decimal) after.low after.high) out.old at out.new result }
+    requires room { at + rated_room ≤ length out.old }
+    ensures { Added (rated_text (whole decimal) after.low after.high) out.old at out.new result }
 {
     let named = lines::put_pair(b" low ", after.low, b" high ", after.high, out, at);
     let end = percent::put_range(decimal, after.low, after.high, out, named);
@@ -37,8 +37,8 @@ pub fn put_rated(decimal: bool, after: Ends, out: &mut [u8], at: usize) -> usize
 
 // `system S has one fan`.
 fn put_one(s: u64, out: &mut [u8], at: usize) -> usize
-    requires { at + twoRoom ≤ length out.old }
-    ensures { Added (oneText s) out.old at out.new result }
+    requires { at + two_room ≤ length out.old }
+    ensures { Added (one_text s) out.old at out.new result }
 {
     let named = text::put_named(b"system ", s, out, at);
     text::put(out, named, b" has one fan\n")
@@ -47,8 +47,8 @@ fn put_one(s: u64, out: &mut [u8], at: usize) -> usize
 // `system S fans F and G low L high H X% to Y%`, of a stretch from fan a on.
 fn put_fans(s: u64, a: u64, decimal: bool, best: Best, out: &mut [u8], at: usize) -> usize
     requires few { FewFans a best }
-    requires room { at + twoRoom ≤ length out.old }
-    ensures { let text = fansText (whole decimal) s (a + best.first) (a + best.second) best.low best.high in
+    requires room { at + two_room ≤ length out.old }
+    ensures { let text = fans_text (whole decimal) s (a + best.first) (a + best.second) best.low best.high in
         Added text out.old at out.new result }
 {
     let first = a + best.first as u64;
@@ -72,7 +72,7 @@ fn best_pair(
     switchboards: &[u32],
 ) -> Best
     requires { let q = asked_of question survival.now weights.now [] boards.now switchboards.now in
-        spareRefusal q two.p ≡ 0 }
+        spare_refusal q two.p ≡ 0 }
     ensures { let q = asked_of question survival.now weights.now []
         boards.now switchboards.now in
         TriedBelow q two.p (size_of q) result }
@@ -110,11 +110,11 @@ pub fn put_two(
     at: usize,
 ) -> usize
     requires accepted { let q = asked_of question survival.now weights.now [] boards.now switchboards.now in
-        spareRefusal q two.p ≡ 0 }
-    requires room { at + twoRoom ≤ length out.old }
+        spare_refusal q two.p ≡ 0 }
+    requires room { at + two_room ≤ length out.old }
     ensures { let q = asked_of question survival.now weights.now []
         boards.now switchboards.now in
-        Added (twoText two.s two.p q) out.old at out.new result }
+        Added (two_text two.s two.p q) out.old at out.new result }
 {
     if question.a == question.b {
         return put_one(two.s, out, at);

@@ -3,8 +3,8 @@
 ghost use Rattle.std.specs.Prelude.{[], ◌≡◌, ◌+◌, ◌*◌, ◌<◌};
 ghost use Rattle.rules.specs.Asked.{asked_of, size_of};
 ghost use Rattle.rules.specs.Refusal.{most};
-ghost use Rattle.spares.specs.Places.{spareRefusal};
-ghost use Rattle.pairs.specs.Tried.{stays, withPair, TriedBelow};
+ghost use Rattle.spares.specs.Places.{spare_refusal};
+ghost use Rattle.pairs.specs.Tried.{stays, with_pair, TriedBelow};
 
 use places::Ends;
 use rules::limit::CELLS;
@@ -49,7 +49,7 @@ fn stays(best: Best, low: u64) -> bool
 // One pair more.
 fn with_pair(best: Best, first: usize, second: usize, ends: Ends) -> Best
     requires { best.rated < most * most }
-    ensures { result ≡ withPair best first second ends }
+    ensures { result ≡ with_pair best first second ends }
 {
     let rated = best.rated + 1;
     if stays(best, ends.low) {
@@ -82,7 +82,7 @@ pub fn rate_row(
     switchboards: &[u32],
 ) -> Best
     requires accepted { let q = asked_of question survival.now weights.now [] boards.now switchboards.now in
-        spareRefusal q p ≡ 0 }
+        spare_refusal q p ≡ 0 }
     requires place { let q = asked_of question survival.now weights.now [] boards.now switchboards.now in
         first < size_of q }
     requires tried { let q = asked_of question survival.now weights.now [] boards.now switchboards.now in

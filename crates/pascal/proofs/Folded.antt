@@ -14,7 +14,7 @@ use lib.Seq.{get_or-drop}
 use borrow.Author.Tests.{eqb-true, leb-true, leb-false}
 use Rattle.rules.proofs.Tests.{by-test}
 use Rattle.pascal.specs.Ways.{ways_of}
-use Rattle.pascal.specs.Folded.{every, fold_of, start_of, rowFrom, ruleAt, foldedRule}
+use Rattle.pascal.specs.Folded.{every, fold_of, start_of, row_from, rule_at, folded_rule}
 use Rattle.pascal.proofs.Every.{every-at}
 use Rattle.pascal.proofs.Triangle.{ways-sum, ways-first, ways-mirror}
 
@@ -33,8 +33,8 @@ abbrev front : List ℕ → (n j : ℕ) → ℕ
 front table n j = get_or table (start_of n + j) 0
 
 -- entry j of row n
-abbrev pub foldedEntry : List ℕ → (n j : ℕ) → ℕ
-foldedEntry table n j = front table n (fold_of n j)
+abbrev pub folded_entry : List ℕ → (n j : ℕ) → ℕ
+folded_entry table n j = front table n (fold_of n j)
 
 -- row n starts at a quarter of (n + 1) * (n + 1), row 64 at a quarter of 65 * 65
 pub row_small : {n : ℕ} → n ≤ 64 → (n + 1) * (n + 1) ≤ 65 * 65
@@ -42,17 +42,17 @@ row_small {n} h =
     let k : n + 1 ≤ 65 = omega arith in
     mul-le-mul k k
 
-in_row : (table : List ℕ) (n j : ℕ) → get_or (rowFrom table n) j 0 ≡ front table n j
+in_row : (table : List ℕ) (n j : ℕ) → get_or (row_from table n) j 0 ≡ front table n j
 in_row table n j = get_or-drop (start_of n) table j 0
 
-module _ (table : List ℕ) (tested : foldedRule table ≡ true) where
-  at : (n j : ℕ) → n ≤ 64 → j ≤ n / 2 → ruleAt table n j ≡ true
-  at n j h l = every-at (ruleAt table n) (suc (n / 2)) (every-at (λ m. every (ruleAt table m) (suc (m / 2))) 65 tested n (omega arith)) j (omega arith)
+module _ (table : List ℕ) (tested : folded_rule table ≡ true) where
+  at : (n j : ℕ) → n ≤ 64 → j ≤ n / 2 → rule_at table n j ≡ true
+  at n j h l = every-at (rule_at table n) (suc (n / 2)) (every-at (λ m. every (rule_at table m) (suc (m / 2))) 65 tested n (omega arith)) j (omega arith)
 
   first-is : (n : ℕ) → n ≤ 64 → front table n 0 ≡ 1
   first-is n h = sym (in_row table n 0) ∙ eqb-true _ _ (at n 0 h (omega arith))
 
-  sum_is : (n j : ℕ) → n < 64 → suc j ≤ suc n / 2 → front table (suc n) (suc j) ≡ front table n j + foldedEntry table n (suc j)
+  sum_is : (n j : ℕ) → n < 64 → suc j ≤ suc n / 2 → front table (suc n) (suc j) ≡ front table n j + folded_entry table n (suc j)
   sum_is n j h l =
       sym (in_row table (suc n) (suc j))
       ∙ eqb-true _ _ (at (suc n) (suc j) h l)
@@ -80,5 +80,5 @@ module _ (table : List ℕ) (tested : foldedRule table ≡ true) where
   front-ways (suc n) h j l = row_more n h (front-ways n (omega arith)) j l
 
   -- and so is each entry of a row
-  pub folded-ways : (n j : ℕ) → n ≤ 64 → j ≤ n → foldedEntry table n j ≡ ways_of n j
+  pub folded-ways : (n j : ℕ) → n ≤ 64 → j ≤ n → folded_entry table n j ≡ ways_of n j
   folded-ways n j h l = front-ways n h (fold_of n j) (fold-front n j l) ∙ fold-ways n j l

@@ -6,7 +6,7 @@ use Prim.Native.Nat.{ℕ, zero, suc, ◌+◌, ◌^◌, ◌≤◌, ◌<◌}
 use native.Mathlib.Omega.{arith}
 use native.Mathlib.Nat.{add_comm}
 use lib.Pow.{pow_pos, pow_mono}
-use Rattle.rules.specs.Count.{countIf}
+use Rattle.rules.specs.Count.{count_if}
 use Rattle.pascal.specs.Ways.{ways_of}
 use Rattle.rules.proofs.Words.{count-base, count-zero, count-suc, count-above, count-le}
 
@@ -46,5 +46,5 @@ ways-fit zero zero h = omega (arith, ways-first 0)
 ways-fit zero (suc j) h = omega (arith, count-above (λ w. true) 0 (suc j) (omega arith))
 ways-fit (suc n) j h = omega (arith, ways-half n j, pow_mono {i = n} {j = 63} (omega arith))
 
-pub count-fit : (working : ℕ → Bool) (n j : ℕ) → n ≤ 64 → countIf working n j < 2 ^ 64
+pub count-fit : (working : ℕ → Bool) (n j : ℕ) → n ≤ 64 → count_if working n j < 2 ^ 64
 count-fit working n j h = omega (arith, count-le working n j, ways-fit n j h)

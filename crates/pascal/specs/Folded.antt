@@ -16,17 +16,17 @@ abbrev pub start_of : ℕ → ℕ
 start_of n = (n + 1) * (n + 1) / 4
 
 -- the folded row n and those below it
-abbrev pub rowFrom : List ℕ → ℕ → List ℕ
-rowFrom table n = drop (start_of n) table
+abbrev pub row_from : List ℕ → ℕ → List ℕ
+row_from table n = drop (start_of n) table
 
 -- the first entry is 1, each other the sum of the two above, of which one past the middle is read where it stands
 abbrev pub rule : (above row : List ℕ) (n j : ℕ) → Bool
 rule above row n j = eqb (get_or row j 0) (cond (eqb j 0) 1 (get_or above (j - 1) 0 + get_or above (fold_of (n - 1) j) 0))
 
 -- the rule at entry j of the folded row n
-abbrev pub ruleAt : List ℕ → (n : ℕ) → ℕ → Bool
-ruleAt table n = rule (rowFrom table (n - 1)) (rowFrom table n) n
+abbrev pub rule_at : List ℕ → (n : ℕ) → ℕ → Bool
+rule_at table n = rule (row_from table (n - 1)) (row_from table n) n
 
 -- the test: the rule at all 1,089 entries
-abbrev pub foldedRule : List ℕ → Bool
-foldedRule table = every (λ n. every (ruleAt table n) (suc (n / 2))) 65
+abbrev pub folded_rule : List ℕ → Bool
+folded_rule table = every (λ n. every (rule_at table n) (suc (n / 2))) 65

@@ -2,7 +2,7 @@
 // "Keep entries up to half of each row, 1,089 in all".
 ghost use Rattle.std.specs.Prelude.{◌≡◌, true, ◌≤◌};
 ghost use Rattle.pascal.specs.Ways.{ways_of};
-ghost use Rattle.pascal.specs.Folded.{fold_of, foldedRule};
+ghost use Rattle.pascal.specs.Folded.{fold_of, folded_rule};
 
 // "1,089 in all"
 pub const ENTRIES: usize = 1089;
@@ -10,7 +10,7 @@ pub const ENTRIES: usize = 1089;
 // The table, for a caller to lend to `ways`: a use of the constant copies it to the stack, so it is used once for many
 // lookups.
 pub fn table() -> [u64; ENTRIES]
-    ensures { foldedRule result ≡ true }
+    ensures { folded_rule result ≡ true }
 {
     PASCAL
 }
@@ -29,7 +29,7 @@ fn fold(n: usize, j: usize) -> usize
 
 // How many states of n components have j failed: entry j of row n, and 0 where the row has no entry j.
 pub fn ways(table: &[u64; ENTRIES], n: usize, j: usize) -> u64
-    requires { (n ≤ 64) × (foldedRule table.now ≡ true) }
+    requires { (n ≤ 64) × (folded_rule table.now ≡ true) }
     ensures { result ≡ ways_of n j }
 {
     if j <= n {

@@ -3,44 +3,44 @@
 use Rattle.std.specs.Prelude.{Bool, true, false, List, [], ◌∷◌, ◌++◌, ℕ, zero, suc, ◌+◌, ◌*◌, ◌/◌, ◌%◌, ◌^◌, ◌≤◌, ◌<◌}
 use Rattle.rules.specs.Figure.{rounded}
 use Rattle.text.specs.Decimal.{text}
-use Rattle.text.specs.Lines.{named, namedRoom}
+use Rattle.text.specs.Lines.{named, named_room}
 
 -- the digits after the point, a percent in its millionths, and all hundred of them
-abbrev pub pointDigits : ℕ
-pointDigits = 6
+abbrev pub point_digits : ℕ
+point_digits = 6
 
 abbrev pub million : ℕ
-million = 10 ^ pointDigits
+million = 10 ^ point_digits
 
-abbrev pub wholePercent : ℕ
-wholePercent = 100 * million
+abbrev pub whole_percent : ℕ
+whole_percent = 100 * million
 
 -- a figure over its unit u in millionths of a percent, rounded down or up
-abbrev pub percentOf : (u : ℕ) (up : Bool) (figure : ℕ) → ℕ
-percentOf u up figure = rounded up u (figure * wholePercent)
+abbrev pub percent_of : (u : ℕ) (up : Bool) (figure : ℕ) → ℕ
+percent_of u up figure = rounded up u (figure * whole_percent)
 
 -- a number's last k digits, zeros in front where it has fewer
-unfoldable pub lastDigits : (k n : ℕ) → List ℕ
-lastDigits zero n = []
-lastDigits (suc k) n = lastDigits k (n / 10) ++ ((48 + n % 10) ∷ [])
+unfoldable pub last_digits : (k n : ℕ) → List ℕ
+last_digits zero n = []
+last_digits (suc k) n = last_digits k (n / 10) ++ ((48 + n % 10) ∷ [])
 
 -- a name and so many millionths of a percent
-abbrev pub percentText : (name : List ℕ) (millionths : ℕ) → List ℕ
-percentText name millionths = named name (millionths / million) ++ text "." ++ lastDigits pointDigits millionths ++ text "%"
+abbrev pub percent_text : (name : List ℕ) (millionths : ℕ) → List ℕ
+percent_text name millionths = named name (millionths / million) ++ text "." ++ last_digits point_digits millionths ++ text "%"
 
-abbrev pub percentRoom : (name : List ℕ) → ℕ
-percentRoom name = namedRoom name + 1 + pointDigits + 1
+abbrev pub percent_room : (name : List ℕ) → ℕ
+percent_room name = named_room name + 1 + point_digits + 1
 
 -- low and high
-abbrev pub rangeText : (u low high : ℕ) → List ℕ
-rangeText u low high = percentText (text " ") (percentOf u false low) ++ percentText (text " to ") (percentOf u true high)
+abbrev pub range_text : (u low high : ℕ) → List ℕ
+range_text u low high = percent_text (text " ") (percent_of u false low) ++ percent_text (text " to ") (percent_of u true high)
 
-abbrev pub rangeRoom : ℕ
-rangeRoom = percentRoom (text " ") + percentRoom (text " to ")
+abbrev pub range_room : ℕ
+range_room = percent_room (text " ") + percent_room (text " to ")
 
 -- what the percents of low and high enclose: l / 10^6 <= 100 low / u and 100 high / u <= h / 10^6, each less than a millionth away
 pub record Enclosed (u low high l h : ℕ) : Type 0 where
-  pub below-low : l * u ≤ low * wholePercent
-  pub near-low : low * wholePercent < (l + 1) * u
-  pub above-high : high * wholePercent ≤ h * u
-  pub near-high : h * u < high * wholePercent + u
+  pub below_low : l * u ≤ low * whole_percent
+  pub near_low : low * whole_percent < (l + 1) * u
+  pub above_high : high * whole_percent ≤ h * u
+  pub near_high : h * u < high * whole_percent + u

@@ -3,8 +3,8 @@ ghost use Rattle.std.specs.Prelude.{◌≡◌, ◌+◌, ◌≤◌, length};
 ghost use Rattle.rules.specs.State.{S};
 ghost use Rattle.units.specs.Step.{whole};
 ghost use Rattle.text.specs.Added.{Added};
-ghost use Rattle.percent.specs.Percent.{pointDigits, percentOf, lastDigits, percentText, percentRoom, rangeText};
-ghost use Rattle.percent.specs.Percent.{rangeRoom};
+ghost use Rattle.percent.specs.Percent.{point_digits, percent_of, last_digits, percent_text, percent_room, range_text};
+ghost use Rattle.percent.specs.Percent.{range_room};
 
 const MILLION: u64 = 1000000;
 
@@ -19,7 +19,7 @@ const ZERO: u8 = 48;
 // A figure in millionths of a percent, rounded down or up.
 fn percent_of(decimal: bool, up: bool, figure: u64) -> u64
     requires { figure ≤ S }
-    ensures { result ≡ percentOf (whole decimal) up figure }
+    ensures { result ≡ percent_of (whole decimal) up figure }
 {
     let unit = units::whole(decimal);
     if up {
@@ -30,7 +30,7 @@ fn percent_of(decimal: bool, up: bool, figure: u64) -> u64
 
 // A number's last six digits, zeros in front where it has fewer.
 fn last_digits(n: u64) -> [u8; POINT_DIGITS]
-    ensures { result ≡ lastDigits pointDigits n }
+    ensures { result ≡ last_digits point_digits n }
 {
     let mut digits = [0u8; POINT_DIGITS];
     let mut left = n;
@@ -45,8 +45,8 @@ fn last_digits(n: u64) -> [u8; POINT_DIGITS]
 
 // A name and so many millionths of a percent.
 fn put_percent(name: &[u8], millionths: u64, out: &mut [u8], at: usize) -> usize
-    requires { at + percentRoom name.now ≤ length out.old }
-    ensures { Added (percentText name.now millionths) out.old at out.new result }
+    requires { at + percent_room name.now ≤ length out.old }
+    ensures { Added (percent_text name.now millionths) out.old at out.new result }
 {
     let whole = text::put_named(name, millionths / MILLION, out, at);
     let point = text::put(out, whole, b".");
@@ -58,8 +58,8 @@ fn put_percent(name: &[u8], millionths: u64, out: &mut [u8], at: usize) -> usize
 // ` L% to H%`, of low and high.
 pub fn put_range(decimal: bool, low: u64, high: u64, out: &mut [u8], at: usize) -> usize
     requires within { (low ≤ S) × (high ≤ S) }
-    requires room { at + rangeRoom ≤ length out.old }
-    ensures { Added (rangeText (whole decimal) low high) out.old at out.new result }
+    requires room { at + range_room ≤ length out.old }
+    ensures { Added (range_text (whole decimal) low high) out.old at out.new result }
 {
     let middle = put_percent(b" ", percent_of(decimal, false, low), out, at);
     put_percent(b" to ", percent_of(decimal, true, high), out, middle)

@@ -82,8 +82,8 @@ pub record Steady (u p q : ℕ) (works fails : Ends) : Type 0 where
   pub right : Within u fails
 
 -- a component's shares, as a place holds them
-abbrev pub sharesAt : Shares → Ends
-sharesAt s = record { low = s.p.0; high = s.q.0 }
+abbrev pub shares_at : Shares → Ends
+shares_at s = record { low = s.p.0; high = s.q.0 }
 
 -- what a rounded step of both ends is handed where the component must work
 pub record MustWork (u p q : ℕ) (s : Shares) (works : Ends) : Type 0 where

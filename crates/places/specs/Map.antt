@@ -19,21 +19,21 @@ abbrev pub marks : ℕ
 marks = 2400
 
 -- the four lists of patterns
-abbrev pub freeAt : ℕ
-freeAt = 3000
+abbrev pub free_at : ℕ
+free_at = 3000
 
-abbrev pub splitAt : ℕ
-splitAt = 3300
+abbrev pub split_at : ℕ
+split_at = 3300
 
 abbrev pub bound_at : ℕ
 bound_at = 3600
 
-abbrev pub aloneAt : ℕ
-aloneAt = 3900
+abbrev pub alone_at : ℕ
+alone_at = 3900
 
 -- how far apart the count tables' rows stand: of bins, and of sums
-abbrev pub binRow : ℕ
-binRow = 66
+abbrev pub bin_row : ℕ
+bin_row = 66
 
-abbrev pub sumRow : ℕ
-sumRow = heaviest
+abbrev pub sum_row : ℕ
+sum_row = heaviest

@@ -7,7 +7,7 @@ ghost use Rattle.rules.specs.State.{S};
 ghost use Rattle.rules.specs.Figure.{rounded, mixed};
 ghost use Rattle.units.specs.Step.{whole};
 ghost use Rattle.units.specs.Odds.{Prepared};
-ghost use Rattle.places.specs.Cells.{Both, MustWork, Place, Put, Steady, Within, cell_at, one, sharesAt};
+ghost use Rattle.places.specs.Cells.{Both, MustWork, Place, Put, Steady, Within, cell_at, one, shares_at};
 
 use crate::map::FAR;
 use units::debt::Shares;
@@ -56,7 +56,7 @@ pub fn write(table: &mut [u64], at: usize, ends: Ends)
 // The shares that stand at a place: P's where the low end of a value does, Q's where its high end does.
 pub fn read_shares(table: &[u64], at: usize) -> Shares
     requires { Place at table.now }
-    ensures { Both (λ up. cell_at table.now up at) (sharesAt result) }
+    ensures { Both (λ up. cell_at table.now up at) (shares_at result) }
 {
     let cells = read(table, at);
     let p = SurvivalShare(cells.low);
@@ -67,7 +67,7 @@ pub fn read_shares(table: &[u64], at: usize) -> Shares
 // Shares written at a place.
 pub fn write_shares(table: &mut [u64], at: usize, shares: Shares)
     requires { Place at table.old }
-    ensures { Put at (sharesAt shares) table.old table.new }
+    ensures { Put at (shares_at shares) table.old table.new }
 {
     let cells = Ends {
         low: shares.p.0,

@@ -11,11 +11,11 @@ use lib.Seq.{ext_get_or, get_or-take, length-take-le}
 use lib.Ieee.{Float}
 use borrow.Author.Tests.{lt-ltb, not-false}
 use Rattle.rules.specs.declared.Question.{Question}
-use Rattle.rules.specs.Boards.{figureBehind}
+use Rattle.rules.specs.Boards.{figure_behind}
 use Rattle.rules.specs.Stretch.{stretch}
-use Rattle.rules.specs.Asked.{asked_of, unitIn, read_of, boardsOf, switchboardsOf, roundedOf}
-use Rattle.rules.specs.Refusal.{most, cells, badStretch}
-use Rattle.rules.specs.Doubles.{whole_of, Planned, plannedRefusal}
+use Rattle.rules.specs.Asked.{asked_of, unit_in, read_of, boards_of, switchboards_of, rounded_of}
+use Rattle.rules.specs.Refusal.{most, cells, bad_stretch}
+use Rattle.rules.specs.Doubles.{whole_of, Planned, planned_refusal}
 use Rattle.rules.proofs.Lists.{map-take, map-drop}
 use Rattle.rules.proofs.EachKind.{within-true}
 use Rattle.rules.proofs.Accepted.{first-same, in-stretch, stretch-length, stretch-get}
@@ -28,11 +28,11 @@ use Rattle.asked.proofs.Refused.{part-is}
 use Rattle.planning.specs.Outcome.{Filled}
 
 -- the floats that are read, as the code takes them
-pub floats-are : (a b n : ℕ) (xs : List Float) → badStretch a b n ≡ false → bits_of (take (b - (a - 1)) (drop (a - 1) xs)) ≡ stretch a b (bits_of xs)
+pub floats-are : (a b n : ℕ) (xs : List Float) → bad_stretch a b n ≡ false → bits_of (take (b - (a - 1)) (drop (a - 1) xs)) ≡ stretch a b (bits_of xs)
 floats-are a b n xs inside =
     map-take bits (b - (a - 1)) (drop (a - 1) xs) ∙ ap (take (b - (a - 1))) (map-drop bits (a - 1) xs) ∙ part-is a b n (bits_of xs) inside
 
-module _ (up : Bool) (a b : ℕ) (xs : List Float) (inside : badStretch a b (length xs) ≡ false) where
+module _ (up : Bool) (a b : ℕ) (xs : List Float) (inside : bad_stretch a b (length xs) ≡ false) where
   abbrev floats : List Float
   floats = take (b - (a - 1)) (drop (a - 1) xs)
 
@@ -68,19 +68,19 @@ pub worked_same : (question : Question) (xs ys weights more boards switchboards 
     → {t₀ t : List ℕ} {r : Ends} → Worked (asked_of question xs weights more boards switchboards) t₀ t r → Worked (asked_of question ys weights more boards switchboards) t₀ t r
 worked_same question xs ys weights more boards switchboards same w =
     let q = asked_of question xs weights more boards switchboards in
-    let part : (up : Bool) → roundedOf up q ≡ roundedOf up (asked_of question ys weights more boards switchboards)
-    = λ up. ap (λ ps. figureBehind up (unitIn q) q.rule ps (read_of q) (boardsOf q) (switchboardsOf q)) same in
+    let part : (up : Bool) → rounded_of up q ≡ rounded_of up (asked_of question ys weights more boards switchboards)
+    = λ up. ap (λ ps. figure_behind up (unit_in q) q.rule ps (read_of q) (boards_of q) (switchboards_of q)) same in
     record { low = w.low ∙ part false; high = w.high ∙ part true; kept = w.kept }
 
-module _ (q : Planned) (table : List ℕ) (none : plannedRefusal q table ≡ 0) where
+module _ (q : Planned) (table : List ℕ) (none : planned_refusal q table ≡ 0) where
   pub planned-fits : (1 ≤ q.a) × (q.a ≤ q.b) × (q.b ≤ length q.survival)
   planned-fits = in-stretch q.a q.b (length q.survival) (passed q table none).inside
 
   pub planned-most : length q.survival ≤ most
   planned-most = (within-true 1 (length q.survival) most (not-false _ (passed q table none).size)).1
 
-  pub kept-planned : (later : List ℕ) → Kept table later → plannedRefusal q later ≡ 0
-  unfolding plannedRefusal
+  pub kept-planned : (later : List ℕ) → Kept table later → planned_refusal q later ≡ 0
+  unfolding planned_refusal
   kept-planned later k =
       first-same 1 _ _ _ _ refl (λ one. first-same 2 _ _ _ _ refl (λ two. first-same 3 _ _ _ _ refl (λ three. first-same 18 _ _ _ _ refl (λ eighteen.
       first-same 5 _ _ _ _ refl (λ five. first-same 6 _ _ _ _ refl (λ six. first-same 19 _ _ _ _ refl (λ nineteen.

@@ -2,14 +2,14 @@
 use Rattle.std.specs.Prelude.{◌≡◌, Bool, false, List, ℕ, ◌+◌, ◌≤◌, ◌<◌, length, get_or, Float}
 use Rattle.rules.specs.declared.Rating.{Rating}
 use Rattle.rules.specs.Refusal.{most}
-use Rattle.rules.specs.Answer.{Rates, tableAfter}
-use Rattle.rules.specs.Doubles.{noChance, whole_of, Planned, lowIn, highIn, plannedRefusal}
+use Rattle.rules.specs.Answer.{Rates, table_after}
+use Rattle.rules.specs.Doubles.{no_chance, whole_of, Planned, low_in, high_in, planned_refusal}
 use Rattle.doubles.specs.Floats.{bits_of}
 use Rattle.stretches.specs.Outcome.{Used}
 
 -- chances, and a place of 64 from which they have room
 pub record Room (from : ℕ) (floats : List Float) : Type 0 where
-  pub chances : noChance (bits_of floats) ≡ false
+  pub chances : no_chance (bits_of floats) ≡ false
   pub fits : from + length floats ≤ most
 
 -- the whole numbers of each, from that place on
@@ -19,10 +19,10 @@ pub record Filled (up : Bool) (from : ℕ) (floats : List Float) (numbers : List
 
 -- the outcome of the rating: the table after a refusal as it was, after an answer as it was worked
 pub record Answered (q : Planned) (t₀ t : List ℕ) (r : Rating) : Type 0 where
-  pub answer : Rates r (plannedRefusal q t₀) (lowIn q) (highIn q)
-  pub table : Used (plannedRefusal q t₀) t₀ t
+  pub answer : Rates r (planned_refusal q t₀) (low_in q) (high_in q)
+  pub table : Used (planned_refusal q t₀) t₀ t
 
 -- the outcome with the table handed back clear
 pub record Rated (q : Planned) (t₀ t : List ℕ) (r : Rating) : Type 0 where
-  pub answer : Rates r (plannedRefusal q t₀) (lowIn q) (highIn q)
-  pub table : t ≡ tableAfter (plannedRefusal q t₀) t₀
+  pub answer : Rates r (planned_refusal q t₀) (low_in q) (high_in q)
+  pub table : t ≡ table_after (planned_refusal q t₀) t₀

@@ -2,7 +2,7 @@
 // those just above.
 ghost use Rattle.std.specs.Prelude.{◌≡◌, false, replicate};
 ghost use Rattle.rules.specs.Refusal.{cells};
-ghost use Rattle.rules.specs.Doubles.{noChance, someOff, offGrid, plannedOf, askedIn, plannedRefusal, plannedRating};
+ghost use Rattle.rules.specs.Doubles.{no_chance, some_off, off_grid, planned_of, asked_in, planned_refusal, planned_rating};
 ghost use Rattle.doubles.specs.Floats.{bits_of};
 ghost use Rattle.stretches.specs.Outcome.{Worked};
 ghost use Rattle.planning.specs.Outcome.{Room, Filled, Answered, Rated};
@@ -18,7 +18,7 @@ const NO_BOARD_SURVIVAL: [u32; 0] = [];
 
 // Refusal 18.
 fn outside(floats: &[f64]) -> bool
-    ensures { result ≡ noChance (bits_of floats.now) }
+    ensures { result ≡ no_chance (bits_of floats.now) }
 {
     let mut i: usize = 0;
     while i < floats.len() {
@@ -32,8 +32,8 @@ fn outside(floats: &[f64]) -> bool
 
 // Is some chance off the grid?
 fn some_off(floats: &[f64]) -> bool
-    requires { noChance (bits_of floats.now) ≡ false }
-    ensures { result ≡ someOff (bits_of floats.now) }
+    requires { no_chance (bits_of floats.now) ≡ false }
+    ensures { result ≡ some_off (bits_of floats.now) }
 {
     let mut i: usize = 0;
     while i < floats.len() {
@@ -47,8 +47,8 @@ fn some_off(floats: &[f64]) -> bool
 
 // Refusal 19.
 fn off_grid(rule: Rule, floats: &[f64]) -> bool
-    requires { noChance (bits_of floats.now) ≡ false }
-    ensures { result ≡ offGrid rule (bits_of floats.now) }
+    requires { no_chance (bits_of floats.now) ≡ false }
+    ensures { result ≡ off_grid rule (bits_of floats.now) }
 {
     if rule.kind != kind::BETWEEN {
         return false;
@@ -66,8 +66,8 @@ fn refusal(
     more: &[u64],
     table: &[u64],
 ) -> u64
-    ensures { let q = plannedOf rule a b (bits_of survival.now) weights.now more.now in
-        result ≡ plannedRefusal q table.now }
+    ensures { let q = planned_of rule a b (bits_of survival.now) weights.now more.now in
+        result ≡ planned_refusal q table.now }
 {
     let n = survival.len();
     let place = asked::place_refusal(rule, a, b, n as u64);
@@ -118,10 +118,10 @@ fn rate_list(
     more: &[u64],
     table: &mut [u64],
 ) -> Ends
-    requires { let q = plannedOf rule a b (bits_of survival.now) weights.now more.now in
-        plannedRefusal q table.old ≡ 0 }
-    ensures { let q = plannedOf rule a b (bits_of survival.now) weights.now more.now in
-        Worked (askedIn up q) table.old table.new result }
+    requires { let q = planned_of rule a b (bits_of survival.now) weights.now more.now in
+        planned_refusal q table.old ≡ 0 }
+    ensures { let q = planned_of rule a b (bits_of survival.now) weights.now more.now in
+        Worked (asked_in up q) table.old table.new result }
 {
     let n = survival.len();
     let from = a as usize - 1;
@@ -156,7 +156,7 @@ pub fn rate(
     more: &[u64],
     table: &mut [u64],
 ) -> Rating
-    ensures { let q = plannedOf rule a b (bits_of survival.now) weights.now more.now in
+    ensures { let q = planned_of rule a b (bits_of survival.now) weights.now more.now in
         Answered q table.old table.new result }
 {
     let refused = refusal(rule, a, b, survival, weights, more, table);
@@ -180,7 +180,7 @@ pub fn planned(
     more: &[u64],
     table: &mut [u64],
 ) -> Rating
-    ensures { let q = plannedOf rule a b (bits_of survival.now) weights.now more.now in
+    ensures { let q = planned_of rule a b (bits_of survival.now) weights.now more.now in
         Rated q table.old table.new result }
 {
     let rating = rate(rule, a, b, survival, weights, more, table);
@@ -190,8 +190,8 @@ pub fn planned(
 
 // The same in a working table of the call's own, which nobody sees after it and nobody clears.
 pub fn answer(rule: Rule, a: u64, b: u64, survival: &[f64], weights: &[u16], more: &[u64]) -> Rating
-    ensures { let q = plannedOf rule a b (bits_of survival.now) weights.now more.now in
-        result ≡ plannedRating q (replicate cells 0) }
+    ensures { let q = planned_of rule a b (bits_of survival.now) weights.now more.now in
+        result ≡ planned_rating q (replicate cells 0) }
 {
     let mut table = [0u64; CELLS];
     rate(rule, a, b, survival, weights, more, &mut table)

@@ -4,7 +4,7 @@ ghost use Rattle.std.specs.Prelude.{◌+◌, ◌≤◌, length};
 ghost use Rattle.text.specs.Added.{Added};
 ghost use Rattle.text.specs.Decimal.{text};
 ghost use Rattle.shell.specs.Status.{Status};
-ghost use Rattle.printing.specs.Lines.{fileText, fileRoom, wordedText, wordedRoom, fileWorded};
+ghost use Rattle.printing.specs.Lines.{file_text, file_room, worded_text, worded_room, file_worded};
 ghost use Rattle.printing.specs.Front.{Fronted, WholeRefused, WholeEnds};
 
 use advice::why::Why;
@@ -35,8 +35,8 @@ pub fn refused(input: &[u8; INPUT], filled: usize) -> bool
 
 // A refused file's line, which is all that is printed for it.
 pub fn put_refused_file(number: u64, out: &mut [u8]) -> usize
-    requires { fileRoom ≤ length out.old }
-    ensures { Added (fileText number) out.old 0 out.new result }
+    requires { file_room ≤ length out.old }
+    ensures { Added (file_text number) out.old 0 out.new result }
 {
     let end = text::put(out, 0, b"file");
     lines::put_refused(number, out, end)
@@ -44,8 +44,8 @@ pub fn put_refused_file(number: u64, out: &mut [u8]) -> usize
 
 // ` refused N`, where words are asked for what that means and what to do about it, and the line's end.
 pub fn put_worded(words: bool, why: Why, number: u64, out: &mut [u8], at: usize) -> usize
-    requires { at + wordedRoom ≤ length out.old }
-    ensures { Added (wordedText words why number) out.old at out.new result }
+    requires { at + worded_room ≤ length out.old }
+    ensures { Added (worded_text words why number) out.old at out.new result }
 {
     if !words {
         return lines::put_refused(number, out, at);
@@ -58,8 +58,8 @@ pub fn put_worded(words: bool, why: Why, number: u64, out: &mut [u8], at: usize)
 
 // A refused file's line, with words where they are asked for.
 pub fn put_worded_file(words: bool, file: &[u8], number: u64, out: &mut [u8]) -> usize
-    requires { length (text "file") + wordedRoom ≤ length out.old }
-    ensures { Added (fileWorded words file.now number) out.old 0 out.new result }
+    requires { length (text "file") + worded_room ≤ length out.old }
+    ensures { Added (file_worded words file.now number) out.old 0 out.new result }
 {
     let why = advice::file::file_why(file);
     let end = text::put(out, 0, b"file");

@@ -1,14 +1,14 @@
 // The figures, the worth and the count table for C, in tables that C lends: what the benchmark times.
 ghost use Rattle.std.specs.Prelude.{◌≡◌};
-ghost use Rattle.ratings.specs.Outcome.{Timed, TimedWorth, countingNumber, TimedCounts};
-ghost use Rattle.rules.specs.Asked.{questionOf, asked_of};
-ghost use Rattle.rules.specs.State.{ruleOf};
+ghost use Rattle.ratings.specs.Outcome.{Timed, TimedWorth, counting_number, TimedCounts};
+ghost use Rattle.rules.specs.Asked.{question_of, asked_of};
+ghost use Rattle.rules.specs.State.{rule_of};
 
 use rules::{Counting, Question, Rule};
 
 // The rule by its numbers.
 fn rule_of(kind: u64, first: u64, second: u64) -> Rule
-    ensures { result ≡ ruleOf kind first second }
+    ensures { result ≡ rule_of kind first second }
 {
     Rule {
         kind,
@@ -36,7 +36,7 @@ pub extern "C" fn foambeetle_figures(
     switchboards: &[u32],
     table: &mut [u64],
 ) -> u64
-    ensures { let q = asked_of (questionOf version (ruleOf kind first second) a b)
+    ensures { let q = asked_of (question_of version (rule_of kind first second) a b)
         survival.now weights.now more.now
         boards.now switchboards.now in
         Timed q table.old table.new result }
@@ -80,7 +80,7 @@ pub extern "C" fn foambeetle_worth_of(
     table: &mut [u64],
     ends: &mut [i64; 2],
 ) -> u64
-    ensures { let q = asked_of (questionOf version (ruleOf kind first second) a b)
+    ensures { let q = asked_of (question_of version (rule_of kind first second) a b)
         survival.now weights.now more.now
         boards.now switchboards.now in
         TimedWorth q fan table.old table.new ends.old ends.new result }
@@ -107,7 +107,7 @@ pub extern "C" fn foambeetle_worth_of(
 
 // The answer as one number: 0, or the refusal.
 fn number_of(answer: Counting) -> u64
-    ensures { result ≡ countingNumber answer }
+    ensures { result ≡ counting_number answer }
 {
     match answer {
         Counting::Counted => 0,
@@ -127,7 +127,7 @@ pub extern "C" fn foambeetle_counts(
     table: &mut [u64],
     room: &mut [u64],
 ) -> u64
-    ensures { TimedCounts (ruleOf kind first second) n weights.now table.old
+    ensures { TimedCounts (rule_of kind first second) n weights.now table.old
         table.new room.old room.new result }
 {
     let rule = rule_of(kind, first, second);

@@ -11,13 +11,13 @@ use lib.ListN.{length}
 use borrow.Author.Tests.{eqb-true}
 use Rattle.rules.specs.declared.Rule.{Rule}
 use Rattle.rules.specs.Below.{total}
-use Rattle.rules.specs.State.{ruleOf, besideOf}
-use Rattle.rules.specs.Refusal.{after, rangeOne, badKind, notCounted, badSize, badWeights, ranged, in_range, first_of, highOne, shortTable, shortRoom, verdictRefusal, countRefusal}
+use Rattle.rules.specs.State.{rule_of, beside_of}
+use Rattle.rules.specs.Refusal.{after, range_one, bad_kind, not_counted, bad_size, bad_weights, ranged, in_range, first_of, high_one, short_table, short_room, verdict_refusal, count_refusal}
 use Rattle.rules.specs.Accepted.{Accepted}
 use Rattle.rules.proofs.EachKind.{range-kind}
 use Rattle.rules.proofs.Accepted.{none_first, rule-accepted}
 use Rattle.rules.proofs.Unread.{beside-range}
-use Rattle.refusals.specs.Shared.{ratedRefusal, ruleRefusal}
+use Rattle.refusals.specs.Shared.{rated_refusal, rule_refusal}
 
 -- ---- one refusal after another
 
@@ -33,37 +33,37 @@ rule-first false false false false rest = refl
 
 -- "The verdict checks 1, 2, 5, 6, 9": 9 after the others
 pub verdict-after : (rule : Rule) (n : ℕ) (weights more : List ℕ) (w : ℕ)
-    → verdictRefusal rule n weights more w ≡ after (ruleRefusal rule n weights more) (cond (highOne n w) 9 0)
-unfolding verdictRefusal ruleRefusal first_of
+    → verdict_refusal rule n weights more w ≡ after (rule_refusal rule n weights more) (cond (high_one n w) 9 0)
+unfolding verdict_refusal rule_refusal first_of
 verdict-after rule n weights more w =
-    rule-first (badKind rule) (badSize n) (badWeights rule n weights weights) (not (in_range rule n (besideOf rule weights more))) ((9, highOne n w) ∷ [])
+    rule-first (bad_kind rule) (bad_size n) (bad_weights rule n weights weights) (not (in_range rule n (beside_of rule weights more))) ((9, high_one n w) ∷ [])
 
 -- "the count table 1, 2, 5, 6, 7, 8", 15 right after 1, which kind 8 never meets: 7 and 8 after the others, which read no further pairs
 pub count-after : (rule : Rule) (n : ℕ) (weights table room : List ℕ)
-    → countRefusal rule n weights table room
-    ≡ cond (notCounted rule) 15 (after (ruleRefusal rule n weights []) (cond (shortTable table) 7 (cond (shortRoom n room) 8 0)))
-unfolding countRefusal ruleRefusal first_of
-count-after rule n weights table room = go (notCounted rule) refl
+    → count_refusal rule n weights table room
+    ≡ cond (not_counted rule) 15 (after (rule_refusal rule n weights []) (cond (short_table table) 7 (cond (short_room n room) 8 0)))
+unfolding count_refusal rule_refusal first_of
+count-after rule n weights table room = go (not_counted rule) refl
   where
-    go : (b : Bool) → notCounted rule ≡ b
-        → countRefusal rule n weights table room
-        ≡ cond b 15 (after (ruleRefusal rule n weights []) (cond (shortTable table) 7 (cond (shortRoom n room) 8 0)))
+    go : (b : Bool) → not_counted rule ≡ b
+        → count_refusal rule n weights table room
+        ≡ cond b 15 (after (rule_refusal rule n weights []) (cond (short_table table) 7 (cond (short_room n room) 8 0)))
     go true e = rw (eqb-true rule.kind 8 e)
     go false e =
         rw e
-        (rule-first (badKind rule) (badSize n) (badWeights rule n weights weights) (not (in_range rule n weights))
-        ((7, shortTable table) ∷ (8, shortRoom n room) ∷ []))
+        (rule-first (bad_kind rule) (bad_size n) (bad_weights rule n weights weights) (not (in_range rule n weights))
+        ((7, short_table table) ∷ (8, short_room n room) ∷ []))
 
 -- 5 and 6 after 1 and 2
 pub rated-after : (rule : Rule) (n : ℕ) (weights more : List ℕ)
-    → ruleRefusal rule n weights more
-    ≡ cond (badKind rule) 1 (cond (badSize n) 2 (ratedRefusal rule n (length weights) n (total weights) more))
-unfolding ruleRefusal ratedRefusal first_of
+    → rule_refusal rule n weights more
+    ≡ cond (bad_kind rule) 1 (cond (bad_size n) 2 (rated_refusal rule n (length weights) n (total weights) more))
+unfolding rule_refusal rated_refusal first_of
 rated-after rule n weights more = rw (beside-range rule n weights more)
 
 -- no refusal, so accepted
-pub accepted : (rule : Rule) (n : ℕ) (weights more : List ℕ) → ruleRefusal rule n weights more ≡ 0 → Accepted rule n (besideOf rule weights more)
-unfolding ruleRefusal
+pub accepted : (rule : Rule) (n : ℕ) (weights more : List ℕ) → rule_refusal rule n weights more ≡ 0 → Accepted rule n (beside_of rule weights more)
+unfolding rule_refusal
 accepted rule n weights more e =
     let a = none_first 0 _ _ e in
     let b = none_first 1 _ _ a.1 in
@@ -82,12 +82,12 @@ one_of_two P a k here next low high = go (eq-or-lt_of_le low)
 module _ (rule : Rule) (n t : ℕ) (more : List ℕ) where
   -- the rule's numbers under another kind
   abbrev at : ℕ → Bool
-  at kind = ranged (ruleOf kind rule.first rule.second) n t more
+  at kind = ranged (rule_of kind rule.first rule.second) n t more
 
-  pub range-one : (rule.kind ≡ 1) ⊎ ((4 ≤ rule.kind) × (rule.kind ≤ 5)) → ranged rule n t more ≡ rangeOne rule.first n rule.second
+  pub range-one : (rule.kind ≡ 1) ⊎ ((4 ≤ rule.kind) × (rule.kind ≤ 5)) → ranged rule n t more ≡ range_one rule.first n rule.second
   unfolding ranged
   range-one (inl e) = rw e
-  range-one (inr h) = one_of_two (λ k. at k ≡ rangeOne rule.first n rule.second) 4 rule.kind refl refl h.0 h.1
+  range-one (inr h) = one_of_two (λ k. at k ≡ range_one rule.first n rule.second) 4 rule.kind refl refl h.0 h.1
 
   -- a kind that has no row
   pub range_none : (1 ≤ rule.kind → 8 < rule.kind) → ranged rule n t more ≡ false

@@ -3,8 +3,8 @@ mod pairs; // pairs.rt: kind 8's pairs
 
 ghost use Rattle.std.specs.Prelude.{not, ◌≡◌, ◌≤◌, length};
 ghost use Rattle.rules.specs.Below.{total, within};
-ghost use Rattle.rules.specs.Refusal.{most, badVersion, badKind, notCounted, badSize, rangeOne, rangeTwo, ranged};
-ghost use Rattle.refusals.specs.Shared.{ratedRefusal, ruleRefusal};
+ghost use Rattle.rules.specs.Refusal.{most, bad_version, bad_kind, not_counted, bad_size, range_one, range_two, ranged};
+ghost use Rattle.refusals.specs.Shared.{rated_refusal, rule_refusal};
 
 use rules::{Rule, kind, limit, refusal};
 
@@ -23,14 +23,14 @@ pub fn outside(low: u64, x: u64, high: u64) -> bool
 
 // Refusal 11.
 pub fn version_out(version: u64) -> bool
-    ensures { result ≡ badVersion version }
+    ensures { result ≡ bad_version version }
 {
     outside(rules::version::FIRST, version, rules::version::LAST)
 }
 
 // Refusal 1.
 pub fn kind_out(rule: Rule) -> bool
-    ensures { result ≡ badKind rule }
+    ensures { result ≡ bad_kind rule }
 {
     let asked = rule.kind;
     outside(1, asked, kind::LAST)
@@ -38,14 +38,14 @@ pub fn kind_out(rule: Rule) -> bool
 
 // Refusal 15.
 pub fn uncounted(rule: Rule) -> bool
-    ensures { result ≡ notCounted rule }
+    ensures { result ≡ not_counted rule }
 {
     rule.kind == kind::LACKING
 }
 
 // Refusal 2.
 pub fn size_out(n: u64) -> bool
-    ensures { result ≡ badSize n }
+    ensures { result ≡ bad_size n }
 {
     outside(1, n, MOST)
 }
@@ -66,7 +66,7 @@ pub fn total_of(weights: &[u16]) -> u64
 
 // Kinds 1, 2, 4 and 5: first from 1 to `most`, second 0.
 fn one_out(k: u64, most: u64, second: u64) -> bool
-    ensures { result ≡ not (rangeOne k most second) }
+    ensures { result ≡ not (range_one k most second) }
 {
     if outside(1, k, most) {
         return true;
@@ -76,7 +76,7 @@ fn one_out(k: u64, most: u64, second: u64) -> bool
 
 // Kinds 6 and 7: first 2, second from 2 to `most`.
 fn two_out(first: u64, r: u64, most: u64) -> bool
-    ensures { result ≡ not (rangeTwo first r most) }
+    ensures { result ≡ not (range_two first r most) }
 {
     if first != limit::NEAR {
         return true;
@@ -112,7 +112,7 @@ pub fn rated_refusal(
     more: &[u64],
 ) -> u64
     requires { (whole ≤ most) × (length rated.now ≤ listed) }
-    ensures { result ≡ ratedRefusal rule whole listed n (total rated.now) more.now }
+    ensures { result ≡ rated_refusal rule whole listed n (total rated.now) more.now }
 {
     if rule.kind != kind::WEIGHT {
         if range_out(rule, n, 0, more) {
@@ -135,7 +135,7 @@ pub fn rated_refusal(
 
 // Refusals 1, 2, 5 and 6, the lowest that applies; 0 for none.
 pub fn rule_refusal(rule: Rule, n: u64, weights: &[u16], more: &[u64]) -> u64
-    ensures { result ≡ ruleRefusal rule n weights.now more.now }
+    ensures { result ≡ rule_refusal rule n weights.now more.now }
 {
     if kind_out(rule) {
         return refusal::KIND;

@@ -15,22 +15,22 @@ use Rattle.places.specs.Cells.{Side, one, Both, cell_at, Place, Shelf, Written, 
 use Rattle.places.specs.Map.{half}
 use Rattle.places.proofs.Cells.{both-as, room-kept, side-near, apart}
 use Rattle.places.proofs.Values.{Chance, step-steady, step-mixed, valued-suc}
-use Rattle.rows.specs.Kinds.{carryOf, summed}
-use Rattle.rows.specs.Level.{sumsValue}
+use Rattle.rows.specs.Kinds.{carry_of, summed}
+use Rattle.rows.specs.Level.{sums_value}
 
 -- what the component after `left` others takes a row up with: its numbers, how far it carries a sum, and how many sums are made
 pub record Climb (u : ℕ) (rule : Rule) (survival weights : List ℕ) (left from : ℕ) (t : List ℕ) (p q carry width : ℕ) : Type 0 where
   pub list : Workable u survival t
   pub side : Side from
   pub chance : Chance u survival left p q
-  pub is : carry ≡ carryOf rule weights (suc left)
+  pub is : carry ≡ carry_of rule weights (suc left)
   pub narrow : width + carry ≤ half
-  pub row : Shelf (sumsValue u rule survival weights left) t from (width + carry)
+  pub row : Shelf (sums_value u rule survival weights left) t from (width + carry)
 
 module _ {u : ℕ} {rule : Rule} {survival weights t₀ t : List ℕ} {left from p q carry width m : ℕ}
     (y : Climb u rule survival weights left from t₀ p q carry width) (l : m < width)
-    (w : Written (sumsValue u rule survival weights (suc left)) m (half - from) t₀ t) where
-  stands : (k : ℕ) → k < width + carry → (up : Bool) → cell_at t up (from + k) ≡ sumsValue u rule survival weights left up k
+    (w : Written (sums_value u rule survival weights (suc left)) m (half - from) t₀ t) where
+  stands : (k : ℕ) → k < width + carry → (up : Bool) → cell_at t up (from + k) ≡ sums_value u rule survival weights left up k
   stands k h up =
       let near = side-near y.side in
       let narrow = y.narrow in
@@ -46,16 +46,16 @@ module _ {u : ℕ} {rule : Rule} {survival weights t₀ t : List ℕ} {left from
     abbrev K : Machine Sum
     K = summed rule weights
 
-    works-is : Both (λ up. sumsValue u rule survival weights left up m) a
+    works-is : Both (λ up. sums_value u rule survival weights left up m) a
     works-is = both-as (stands m (omega arith)) works
 
-    fails-is : Both (λ up. sumsValue u rule survival weights left up (m + carry)) b
+    fails-is : Both (λ up. sums_value u rule survival weights left up (m + carry)) b
     fails-is = both-as (stands (m + carry) (omega arith)) fails
 
     pub climb-steady : Steady u p q a b
     climb-steady = step-steady y.list.whole K K survival y.list.units left p q y.chance (sum m) (sum (m + carry)) works-is fails-is
 
-    pub climb-made : {r : Ends} → Both (λ up. rounded up u (mixed u p (one up a) (one up b))) r → Both (λ up. sumsValue u rule survival weights (suc left) up m) r
+    pub climb-made : {r : Ends} → Both (λ up. rounded up u (mixed u p (one up a) (one up b))) r → Both (λ up. sums_value u rule survival weights (suc left) up m) r
     climb-made b =
         both-as (λ up. rw y.is (sym (valued-suc u K survival left (sum m) up)))
         (step-mixed y.list.whole K K survival y.list.units left p q y.chance (sum m) (sum (m + carry)) works-is fails-is b)

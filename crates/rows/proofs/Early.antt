@@ -9,11 +9,11 @@ use lib.Dec.{eqb}
 use lib.ListN.{length}
 use borrow.Author.Tests.{eqb-true}
 use Rattle.rules.specs.declared.Rule.{Rule}
-use Rattle.rules.specs.State.{number_of, ruleOf}
-use Rattle.rules.specs.Below.{sumBelow, total}
+use Rattle.rules.specs.State.{number_of, rule_of}
+use Rattle.rules.specs.Below.{sum_below, total}
 use Rattle.rules.specs.Memory.{reading_of}
 use Rattle.rules.specs.Figure.{figure}
-use Rattle.rules.specs.Refusal.{lastKind, heaviest}
+use Rattle.rules.specs.Refusal.{last_kind, heaviest}
 use Rattle.rules.specs.Accepted.{Accepted}
 use Rattle.rules.proofs.Accepted.{range1, range2}
 use Rattle.rules.proofs.EachKind.{each-kind}
@@ -23,8 +23,8 @@ use Rattle.memory.proofs.Sums.{sum-row1, sum-row3, sum-dead}
 use Rattle.memory.specs.Sum.{sum}
 use Rattle.places.specs.Map.{half}
 use Rattle.places.proofs.Values.{valued-dead}
-use Rattle.rows.specs.Kinds.{Sums, carryOf, load_of, limitOf, gap_of, end_of}
-use Rattle.rows.specs.Level.{Asked, sumsValue}
+use Rattle.rows.specs.Kinds.{Sums, carry_of, load_of, limit_of, gap_of, end_of}
+use Rattle.rows.specs.Level.{Asked, sums_value}
 
 -- weights
 number-le : (ws : List ℕ) (i : ℕ) → number_of ws i ≤ total ws
@@ -37,66 +37,66 @@ number-le (x ∷ xs) (suc (suc i)) = omega (arith, number-le xs (suc i))
 gap-le : (rule : Rule) → gap_of rule ≤ heaviest
 gap-le rule = by-test (λ x. x ≤ heaviest) (eqb rule.kind 2) _ _ (λ e. omega arith) (λ e. omega arith)
 
-pub carry-le : {rule : Rule} {n : ℕ} {weights : List ℕ} → Accepted rule n weights → (i : ℕ) → carryOf rule weights i ≤ gap_of rule
-unfolding carryOf
+pub carry-le : {rule : Rule} {n : ℕ} {weights : List ℕ} → Accepted rule n weights → (i : ℕ) → carry_of rule weights i ≤ gap_of rule
+unfolding carry_of
 carry-le {rule} {n} {weights} ok i =
-    by_both (λ x y. x ≤ y) (eqb rule.kind 2) _ _ _ _ (λ e. omega (arith, number-le weights i, ok.weights-total (eqb-true _ _ e))) (λ e. omega arith)
+    by_both (λ x y. x ≤ y) (eqb rule.kind 2) _ _ _ _ (λ e. omega (arith, number-le weights i, ok.weights_total (eqb-true _ _ e))) (λ e. omega arith)
 
 -- loads
-sum_bound : (c n : ℕ) (f : ℕ → ℕ) → ((k : ℕ) → f k ≤ c) → sumBelow n f ≤ c * n
-unfolding sumBelow
+sum_bound : (c n : ℕ) (f : ℕ → ℕ) → ((k : ℕ) → f k ≤ c) → sum_below n f ≤ c * n
+unfolding sum_below
 sum_bound c zero f h = omega arith
 sum_bound c (suc n) f h = omega (arith, sum_bound c n f h, h n)
 
 pub load-le : {rule : Rule} {n : ℕ} {weights : List ℕ} → Accepted rule n weights → (i : ℕ) → load_of rule weights i ≤ heaviest * i
 load-le {rule} ok i = sum_bound heaviest i _ (λ k. omega (arith, carry-le ok (suc k), gap-le rule))
 
-pub load-more : (rule : Rule) (weights : List ℕ) (i : ℕ) → load_of rule weights (suc i) ≡ load_of rule weights i + carryOf rule weights (suc i)
-unfolding sumBelow
+pub load-more : (rule : Rule) (weights : List ℕ) (i : ℕ) → load_of rule weights (suc i) ≡ load_of rule weights i + carry_of rule weights (suc i)
+unfolding sum_below
 load-more rule weights i = refl
 
-pub load-upto : (rule : Rule) (weights : List ℕ) (i n : ℕ) → i < n → load_of rule weights i + carryOf rule weights (suc i) ≤ load_of rule weights n
+pub load-upto : (rule : Rule) (weights : List ℕ) (i n : ℕ) → i < n → load_of rule weights i + carry_of rule weights (suc i) ≤ load_of rule weights n
 load-upto rule weights i n l =
     let e : n ≡ suc i + (n - suc i) = omega arith in
-    omega (arith, load-more rule weights i, sum-add (suc i) (n - suc i) (λ k. carryOf rule weights (suc k)), ap (λ x. load_of rule weights x) e)
+    omega (arith, load-more rule weights i, sum-add (suc i) (n - suc i) (λ k. carry_of rule weights (suc k)), ap (λ x. load_of rule weights x) e)
 
 -- an accepted rule of kind 1, 2 or 3
 pub record Early (u : ℕ) (rule : Rule) (survival weights : List ℕ) : Type 0 where
-  pub some : 0 < limitOf rule
-  pub most : limitOf rule + gap_of rule ≤ half
-  pub gone : (up : Bool) (i k : ℕ) → limitOf rule ≤ k → k ≤ load_of rule weights (length survival) → sumsValue u rule survival weights i up k ≡ 0
-  pub whole : (up : Bool) → sumsValue u rule survival weights (length survival) up 0 ≡ figure up u rule survival weights
+  pub some : 0 < limit_of rule
+  pub most : limit_of rule + gap_of rule ≤ half
+  pub gone : (up : Bool) (i k : ℕ) → limit_of rule ≤ k → k ≤ load_of rule weights (length survival) → sums_value u rule survival weights i up k ≡ 0
+  pub whole : (up : Bool) → sums_value u rule survival weights (length survival) up 0 ≡ figure up u rule survival weights
 
 module _ {u : ℕ} (some : 0 < u) (survival weights : List ℕ) (first second : ℕ) where
   abbrev n : ℕ
   n = length survival
 
   abbrev ByKind : ℕ → Type 0
-  ByKind kind = Sums (ruleOf kind first second) → Accepted (ruleOf kind first second) n weights → Early u (ruleOf kind first second) survival weights
+  ByKind kind = Sums (rule_of kind first second) → Accepted (rule_of kind first second) n weights → Early u (rule_of kind first second) survival weights
 
   late : {kind : ℕ} → 3 < kind → ByKind kind
   late l early ok = absurd (omega arith)
 
-  by_kind : (kind : ℕ) → 1 ≤ kind → kind ≤ lastKind → ByKind kind
-  unfolding carryOf end_of reading_of
+  by_kind : (kind : ℕ) → 1 ≤ kind → kind ≤ last_kind → ByKind kind
+  unfolding carry_of end_of reading_of
   by_kind =
       each-kind ByKind
       (λ early ok. let r = range1 ok refl in record {
         some = r.low;
-        most = omega (arith, r.high, ok.size-high);
+        most = omega (arith, r.high, ok.size_high);
         gone = λ up i k l h. valued-dead some _ survival (sum-dead first (λ i. 1)) i (sum k) l up;
         whole = λ up. (sum-row1 first (λ i. 1) n r.low).values up u (number_of survival);
       })
       (λ early ok. let r = range2 ok refl in record {
         some = r.low;
-        most = omega (arith, r.high, ok.weights-total refl);
+        most = omega (arith, r.high, ok.weights_total refl);
         gone = λ up i k l h. valued-dead some _ survival (sum-dead first (number_of weights)) i (sum k) l up;
         whole = λ up. (sum-row1 first (number_of weights) n r.low).values up u (number_of survival);
       })
       (λ early ok. record {
         some = omega arith;
         most = omega arith;
-        gone = λ up i k l h. absurd (omega (arith, ok.size-high, sum_bound 1 n (λ i. 1) (λ i. omega arith)));
+        gone = λ up i k l h. absurd (omega (arith, ok.size_high, sum_bound 1 n (λ i. 1) (λ i. omega arith)));
         whole = λ up. (sum-row3 first second n).values up u (number_of survival);
       })
       (late (omega arith))
@@ -108,4 +108,4 @@ module _ {u : ℕ} (some : 0 < u) (survival weights : List ℕ) (first second : 
 pub early-is : {u : ℕ} {rule : Rule} {survival weights t : List ℕ} → Asked u rule survival weights t → Early u rule survival weights
 early-is {rule = rule} {survival} {weights} y =
     let ok = y.accepted in
-    by_kind y.list.whole survival weights rule.first rule.second rule.kind ok.kind-low ok.kind-high y.sums ok
+    by_kind y.list.whole survival weights rule.first rule.second rule.kind ok.kind_low ok.kind_high y.sums ok

@@ -10,7 +10,7 @@ use native.Mathlib.Nat.{add-zero}
 use native.Mathlib.Omega.{arith}
 use lib.ListN.{length}
 use Rattle.rules.specs.declared.Rule.{Rule}
-use Rattle.rules.specs.Below.{sumBelow}
+use Rattle.rules.specs.Below.{sum_below}
 use Rattle.rules.specs.Figure.{figure, value}
 use Rattle.rules.proofs.Rounding.{unchanged}
 use Rattle.memory.specs.Sum.{sum}
@@ -20,8 +20,8 @@ use Rattle.places.specs.Map.{half}
 use Rattle.places.proofs.Cells.{both-as, workable-kept, side-near, other-side, row_same, row_as}
 use Rattle.places.proofs.Values.{Chance, valued-suc}
 use Rattle.rows.specs.declared.Level.{Level}
-use Rattle.rows.specs.Kinds.{carryOf, load_of, limitOf, gap_of, summed}
-use Rattle.rows.specs.Level.{sumsValue, endsValue, Asked, Levelled}
+use Rattle.rows.specs.Kinds.{carry_of, load_of, limit_of, gap_of, summed}
+use Rattle.rows.specs.Level.{sums_value, ends_value, Asked, Levelled}
 use Rattle.rows.proofs.Early.{carry-le, load-more, load-upto, Early, early-is}
 use Rattle.rows.proofs.Climbs.{Climb}
 
@@ -40,13 +40,13 @@ module _ {u : ℕ} {rule : Rule} {survival weights : List ℕ} {s : Level} {t : 
   early = early-is y.asked
 
   -- every place that can be read holds the value of its sum
-  known : (up : Bool) (k : ℕ) → k < s.reach → k < limitOf rule + gap_of rule → cell_at t up (s.from + k) ≡ sumsValue u rule survival weights s.left up k
+  known : (up : Bool) (k : ℕ) → k < s.reach → k < limit_of rule + gap_of rule → cell_at t up (s.from + k) ≡ sums_value u rule survival weights s.left up k
   known up k near l =
-      elim (dec_lt k (limitOf rule)) [
+      elim (dec_lt k (limit_of rule)) [
         | yes a ↦ y.row.is up k (omega arith)
-        | no b ↦ let d : s.from + k ≡ s.from + limitOf rule + (k - limitOf rule) = omega arith in
+        | no b ↦ let d : s.from + k ≡ s.from + limit_of rule + (k - limit_of rule) = omega arith in
             ap (λ x. cell_at t up x) d
-            ∙ (y.behind y.side).is up (k - limitOf rule) (omega arith)
+            ∙ (y.behind y.side).is up (k - limit_of rule) (omega arith)
             ∙ sym (early.gone up s.left k (omega arith) (omega (arith, y.reach)))
       ]
 
@@ -58,15 +58,15 @@ module _ {u : ℕ} {rule : Rule} {survival weights : List ℕ} {s : Level} {t : 
           let d : s.from ≡ s.from + 0 = omega arith in
           ap (λ x. cell_at t up x) d
           ∙ known up 0 (omega (arith, y.reach, ap (λ i. load_of rule weights i) all)) (omega (arith, early.some))
-          ∙ ap (λ i. sumsValue u rule survival weights i up 0) all
+          ∙ ap (λ i. sums_value u rule survival weights i up 0) all
           ∙ early.whole up
 
   module _ (more : s.left < length survival) where
     abbrev heavy : ℕ
-    heavy = carryOf rule weights (suc s.left)
+    heavy = carry_of rule weights (suc s.left)
 
     abbrev width : ℕ
-    width = min (limitOf rule) (s.reach - heavy)
+    width = min (limit_of rule) (s.reach - heavy)
 
     -- the sums that are made can come, with what the component carries to spare
     pub spare : heavy < s.reach
@@ -84,7 +84,7 @@ module _ {u : ℕ} {rule : Rule} {survival weights : List ℕ} {s : Level} {t : 
           row = record { is = λ up k l. known up k (omega (arith, spare)) (omega arith) };
         }
 
-    pub level-up : {t' : List ℕ} → Written (sumsValue u rule survival weights (suc s.left)) width (half - s.from) t t'
+    pub level-up : {t' : List ℕ} → Written (sums_value u rule survival weights (suc s.left)) width (half - s.from) t t'
         → Levelled u rule survival weights (record { reach = s.reach - heavy; left = suc s.left; from = half - s.from }) t'
     level-up w =
         let most = early.most in
@@ -109,27 +109,27 @@ module _ {u : ℕ} {rule : Rule} {survival weights : List ℕ} {s : Level} {t : 
       behind = y.behind;
     }
       where
-        light : (up : Bool) (k : ℕ) → sumsValue u rule survival weights (suc s.left) up k ≡ sumsValue u rule survival weights s.left up k
+        light : (up : Bool) (k : ℕ) → sums_value u rule survival weights (suc s.left) up k ≡ sums_value u rule survival weights s.left up k
         light up k =
             valued-suc u (summed rule weights) survival s.left (sum k) up ∙ rw (none, add-zero) (unchanged up u _ _ y.asked.list.whole (y.asked.list.units s.left))
 
 -- with no components left
 module _ {u : ℕ} {rule : Rule} {survival weights t₀ t₁ t₂ t₃ : List ℕ} (y : Asked u rule survival weights t₀)
-    (a : Written (endsValue u rule) (limitOf rule) 0 t₀ t₁) (b : Written (λ up k. 0) (gap_of rule) (limitOf rule) t₁ t₂)
-    (c : Written (λ up k. 0) (gap_of rule) (half + limitOf rule) t₂ t₃) where
-  abbrev most : limitOf rule + gap_of rule ≤ half
+    (a : Written (ends_value u rule) (limit_of rule) 0 t₀ t₁) (b : Written (λ up k. 0) (gap_of rule) (limit_of rule) t₁ t₂)
+    (c : Written (λ up k. 0) (gap_of rule) (half + limit_of rule) t₂ t₃) where
+  abbrev most : limit_of rule + gap_of rule ≤ half
   most = (early-is y).most
 
   -- what was written first is still there
   still : (up : Bool) (k : ℕ) → k < half → cell_at t₃ up k ≡ cell_at t₂ up k
   still up k l = c.other up k (omega arith) (inl (omega arith))
 
-  zeros : {side : ℕ} → Side side → Shelf (λ up k. 0) t₃ (side + limitOf rule) (gap_of rule)
-  zeros {side} (inl e) = let d : side + limitOf rule ≡ limitOf rule = omega arith in rw d (row_same (λ up k l. still up _ (omega (arith, most))) b.row)
+  zeros : {side : ℕ} → Side side → Shelf (λ up k. 0) t₃ (side + limit_of rule) (gap_of rule)
+  zeros {side} (inl e) = let d : side + limit_of rule ≡ limit_of rule = omega arith in rw d (row_same (λ up k l. still up _ (omega (arith, most))) b.row)
   zeros (inr e) = rw e c.row
 
   pub level-none : Levelled u rule survival weights (record { reach = load_of rule weights (length survival) + 1; left = 0; from = 0 }) t₃
-  unfolding value sumBelow
+  unfolding value sum_below
   level-none = record {
     asked = asked-kept c.kept (asked-kept b.kept (asked-kept a.kept y));
     side = inl refl;

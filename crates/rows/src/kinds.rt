@@ -2,7 +2,7 @@
 // at the end.
 ghost use Rattle.std.specs.Prelude.{◌≡◌, cond, suc, ◌<◌, length};
 ghost use Rattle.rules.specs.Accepted.{Accepted};
-ghost use Rattle.rows.specs.Kinds.{end_of, gap_of, limitOf, load_of, carryOf};
+ghost use Rattle.rows.specs.Kinds.{end_of, gap_of, limit_of, load_of, carry_of};
 
 use memory::sum::Sum;
 use rules::limit::FANS;
@@ -22,7 +22,7 @@ fn either(test: bool, a: usize, b: usize) -> usize
 
 // From here on sums are dead, or never come.
 pub fn limit(rule: Rule) -> usize
-    ensures { result ≡ limitOf rule }
+    ensures { result ≡ limit_of rule }
 {
     either(rule.kind == kind::BETWEEN, PAST_ALL, rule.first as usize)
 }
@@ -43,7 +43,7 @@ fn wide(weight: u16) -> usize
 // How far component i + 1 carries a sum where it fails.
 pub fn carry(rule: Rule, weights: &[u16], i: usize) -> usize
     requires { rule.kind ≡ 2 → i < length weights.now }
-    ensures { result ≡ carryOf rule weights.now (suc i) }
+    ensures { result ≡ carry_of rule weights.now (suc i) }
 {
     if rule.kind == kind::WEIGHT {
         return wide(weights[i]);
@@ -67,7 +67,7 @@ pub fn load(rule: Rule, weights: &[u16], n: usize) -> usize
 
 // Whether a sum works at the end. Below the limit it does under kinds 1 and 2, and the compiler is shown so.
 pub fn works(rule: Rule, limit: usize, m: Sum) -> bool
-    requires { limit ≡ limitOf rule }
+    requires { limit ≡ limit_of rule }
     ensures { result ≡ end_of rule m }
 {
     if rule.kind == kind::BETWEEN {

@@ -2,8 +2,8 @@
 ghost use Rattle.std.specs.Prelude.{◌≡◌, suc, ◌+◌, ◌<◌, length};
 ghost use Rattle.units.specs.Step.{whole};
 ghost use Rattle.places.specs.Cells.{Both, Place, Written, cell_at};
-ghost use Rattle.rows.specs.Kinds.{limitOf};
-ghost use Rattle.rows.specs.Level.{Levelled, Raised, Span, endsValue};
+ghost use Rattle.rows.specs.Kinds.{limit_of};
+ghost use Rattle.rows.specs.Level.{Levelled, Raised, Span, ends_value};
 
 use crate::{Level, kinds};
 use memory::sum::Sum;
@@ -14,8 +14,8 @@ use units::odds;
 
 // The row with no components left.
 pub fn start(decimal: bool, rule: Rule, limit: usize, table: &mut [u64])
-    requires { Span 0 limit table.old × (limit ≡ limitOf rule) }
-    ensures { Written (endsValue (whole decimal) rule) limit 0 table.old table.new }
+    requires { Span 0 limit table.old × (limit ≡ limit_of rule) }
+    ensures { Written (ends_value (whole decimal) rule) limit 0 table.old table.new }
 {
     let mut m: usize = 0;
     while m < limit {

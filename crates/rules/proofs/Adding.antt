@@ -10,9 +10,9 @@ use native.Mathlib.Nat.{add-zero, zero-add}
 use lib.Dec.{ltb}
 use lib.Count.{ones}
 use borrow.Author.Tests.{ltb-true, ltb-false, lt-ltb, le-ltb}
-use Rattle.rules.specs.Below.{sumBelow, held, within}
+use Rattle.rules.specs.Below.{sum_below, held, within}
 use Rattle.rules.specs.State.{down, number_of}
-use Rattle.rules.specs.Verdict.{weightDown, fails1, fails2, fails3}
+use Rattle.rules.specs.Verdict.{weight_down, fails1, fails2, fails3}
 use Rattle.rules.specs.Memory.{run, live, moved, ended, machine_of, row1, row3}
 use Rattle.rules.proofs.Sums.{held-sum}
 use Rattle.rules.proofs.Bits.{ones-held}
@@ -21,11 +21,11 @@ use Rattle.rules.proofs.Dead.{row-run}
 
 -- what the failed ones among the places below i add
 abbrev added : (weight : ℕ → ℕ) (w i : ℕ) → ℕ
-added weight w i = sumBelow i (λ d. cond (down d w) (weight (suc d)) 0)
+added weight w i = sum_below i (λ d. cond (down d w) (weight (suc d)) 0)
 
 module _ (weight : ℕ → ℕ) (k w : ℕ) where
   weighed-run : (i c : ℕ) → c < k → run (machine_of (row1 k weight)) i (live c) w ≡ ltb (c + added weight w i) k
-  unfolding run moved ended sumBelow
+  unfolding run moved ended sum_below
   weighed-run zero c l = sym (rw add-zero (lt-ltb c k l))
   weighed-run (suc i) c l =
       let more = c + weight (suc i) in
@@ -50,7 +50,7 @@ kind1 n k w pos small =
     ∙ not-leb (ones w) k
 
 pub kind2 : (n k : ℕ) (weights : List ℕ) (w : ℕ) → 0 < k → run (machine_of (row1 k (number_of weights))) n (live 0) w ≡ not (fails2 k n weights w)
-unfolding weightDown
+unfolding weight_down
 kind2 n k weights w pos = weighed-run (number_of weights) k w n 0 pos ∙ ap (λ x. ltb x k) (zero-add _) ∙ not-leb _ k
 
 pub kind3 : (n l h w : ℕ) → w < 2 ^ n → run (machine_of (row3 l h)) n (live 0) w ≡ not (fails3 l h w)

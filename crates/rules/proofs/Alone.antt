@@ -13,15 +13,15 @@ use lib.Dec.{eqb, ltb}
 use lib.IntN.{sub_ℕ}
 use Rattle.rules.specs.declared.Worth.TheVariants.{Ends, Refused}
 use Rattle.rules.specs.declared.Rating.TheVariants as rating
-use Rattle.rules.specs.State.{unit_of, besideOf}
+use Rattle.rules.specs.State.{unit_of, beside_of}
 use Rattle.rules.specs.Below.{total, within}
-use Rattle.rules.specs.Boards.{hasBoards, boardsRead, figureBehind, exactBehind}
+use Rattle.rules.specs.Boards.{has_boards, boards_read, figure_behind, exact_behind}
 use Rattle.rules.specs.Stretch.{stretch}
-use Rattle.rules.specs.Asked.{Asked, unitIn, length_of, size_of, part_of, weightsOf, read_of, boardsOf, switchboardsOf, boardCount, roundedOf, exactOf}
+use Rattle.rules.specs.Asked.{Asked, unit_in, length_of, size_of, part_of, weights_of, read_of, boards_of, switchboards_of, board_count, rounded_of, exact_of}
 use Rattle.rules.specs.Alike.{Alike, alone, Paired}
-use Rattle.rules.specs.Refusal.{most, heaviest, first_of, after, badVersion, badKind, badSize, badStretch, badBoards, misplaced, aboveUnit, someAbove, badWeights, weightsOut, in_range, shortTable, figuresRefusal}
-use Rattle.rules.specs.Answer.{unless, figuresOf}
-use Rattle.rules.specs.Worth.{swapped, worthOf}
+use Rattle.rules.specs.Refusal.{most, heaviest, first_of, after, bad_version, bad_kind, bad_size, bad_stretch, bad_boards, misplaced, above_unit, some_above, bad_weights, weights_out, in_range, short_table, figures_refusal}
+use Rattle.rules.specs.Answer.{unless, figures_of}
+use Rattle.rules.specs.Worth.{swapped, worth_of}
 use Rattle.rules.proofs.Tests.{by_both}
 use Rattle.rules.proofs.EachKind.{within-true}
 use Rattle.rules.proofs.Accepted.{in-stretch, whole-stretch, stretch-length, stretch-get}
@@ -29,41 +29,41 @@ use Rattle.rules.proofs.Accepted.{in-stretch, whole-stretch, stretch-length, str
 -- ---- what is asked of the lists
 
 module _ (q r : Asked) (e : Alike q r) where
-  pub alike-refusal : (table : List ℕ) → figuresRefusal q table ≡ figuresRefusal r table
-  unfolding figuresRefusal
+  pub alike-refusal : (table : List ℕ) → figures_refusal q table ≡ figures_refusal r table
+  unfolding figures_refusal
   alike-refusal table =
       λ i.
       let version = e.version i in
-      let n = e.as-many-fans i in
-      let own = boardsRead version (e.switchboards i) in
-      let rated = boardsRead version (e.same-boards i) in
+      let n = e.as_many_fans i in
+      let own = boards_read version (e.switchboards i) in
+      let rated = boards_read version (e.same_boards i) in
       first_of
-      ((11, badVersion version)
-      ∷ (1, badKind (e.rule i))
-      ∷ (2, badSize n)
-      ∷ (3, badStretch (e.a i) (e.b i) n)
-      ∷ (20, badBoards version (length own))
-      ∷ (21, hasBoards version && (not (eqb (e.as-many-boards i) n) || someAbove (length own) rated))
-      ∷ (4, aboveUnit (unit_of version) (e.same-fans i) own)
-      ∷ (5, weightsOut (e.rule i) n (e.as-many-weights i) (total (e.same-weights i)))
-      ∷ (6, not (in_range (e.rule i) (suc (e.b i) - e.a i) (besideOf (e.rule i) (e.same-weights i) (e.more i))))
-      ∷ (7, shortTable table)
+      ((11, bad_version version)
+      ∷ (1, bad_kind (e.rule i))
+      ∷ (2, bad_size n)
+      ∷ (3, bad_stretch (e.a i) (e.b i) n)
+      ∷ (20, bad_boards version (length own))
+      ∷ (21, has_boards version && (not (eqb (e.as_many_boards i) n) || some_above (length own) rated))
+      ∷ (4, above_unit (unit_of version) (e.same_fans i) own)
+      ∷ (5, weights_out (e.rule i) n (e.as_many_weights i) (total (e.same_weights i)))
+      ∷ (6, not (in_range (e.rule i) (suc (e.b i) - e.a i) (beside_of (e.rule i) (e.same_weights i) (e.more i))))
+      ∷ (7, short_table table)
       ∷ [])
 
-  pub alike-rounded : (up : Bool) → roundedOf up q ≡ roundedOf up r
+  pub alike-rounded : (up : Bool) → rounded_of up q ≡ rounded_of up r
   alike-rounded up =
       λ i.
-      figureBehind up (unit_of (e.version i)) (e.rule i) (e.same-fans i) (besideOf (e.rule i) (e.same-weights i) (e.more i)) (boardsRead (e.version i) (e.same-boards i))
-      (boardsRead (e.version i) (e.switchboards i))
+      figure_behind up (unit_of (e.version i)) (e.rule i) (e.same_fans i) (beside_of (e.rule i) (e.same_weights i) (e.more i)) (boards_read (e.version i) (e.same_boards i))
+      (boards_read (e.version i) (e.switchboards i))
 
-  pub alike-exact : exactOf q ≡ exactOf r
+  pub alike-exact : exact_of q ≡ exact_of r
   alike-exact =
       λ i.
-      exactBehind (unit_of (e.version i)) (e.rule i) (e.same-fans i) (besideOf (e.rule i) (e.same-weights i) (e.more i)) (boardsRead (e.version i) (e.same-boards i))
-      (boardsRead (e.version i) (e.switchboards i))
+      exact_behind (unit_of (e.version i)) (e.rule i) (e.same_fans i) (beside_of (e.rule i) (e.same_weights i) (e.more i)) (boards_read (e.version i) (e.same_boards i))
+      (boards_read (e.version i) (e.switchboards i))
 
-  pub alike-figures : (table : List ℕ) → figuresOf q table ≡ figuresOf r table
-  unfolding figuresOf
+  pub alike-figures : (table : List ℕ) → figures_of q table ≡ figures_of r table
+  unfolding figures_of
   alike-figures table = λ i. unless (alike-refusal table i) rating.Refused (rating.Range (alike-rounded false i) (alike-rounded true i))
 
 -- ---- a worth
@@ -115,23 +115,23 @@ module _ (q r : Asked) (e : Alike q r) (fan : ℕ) where
     b = e.b;
     more = e.more;
     switchboards = e.switchboards;
-    as-many-fans = length-set q.survival (fan - 1) p ∙ e.as-many-fans ∙ sym (length-set r.survival (fan - 1) p);
-    as-many-weights = e.as-many-weights;
-    as-many-boards = e.as-many-boards;
-    same-fans = part-set q.a q.b q.survival r.survival (fan - 1) p e.as-many-fans (e.same-fans ∙ at (sym e.a) (sym e.b) r.survival) ∙ at e.a e.b (set r.survival (fan - 1) p);
-    same-weights = e.same-weights;
-    same-boards = e.same-boards;
+    as_many_fans = length-set q.survival (fan - 1) p ∙ e.as_many_fans ∙ sym (length-set r.survival (fan - 1) p);
+    as_many_weights = e.as_many_weights;
+    as_many_boards = e.as_many_boards;
+    same_fans = part-set q.a q.b q.survival r.survival (fan - 1) p e.as_many_fans (e.same_fans ∙ at (sym e.a) (sym e.b) r.survival) ∙ at e.a e.b (set r.survival (fan - 1) p);
+    same_weights = e.same_weights;
+    same_boards = e.same_boards;
   }
     where
       at : {a a' b b' : ℕ} → a ≡ a' → b ≡ b' → (xs : List ℕ) → stretch a b xs ≡ stretch a' b' xs
       at f g xs = λ i. stretch (f i) (g i) xs
 
-  alike_end : (up : Bool) (p p' : ℕ) → p ≡ p' → roundedOf up (swapped fan p q) ≡ roundedOf up (swapped fan p' r)
-  alike_end up p p' same = alike-rounded (swapped fan p q) (swapped fan p r) (alike-swapped p) up ∙ ap (λ x. roundedOf up (swapped fan x r)) same
+  alike_end : (up : Bool) (p p' : ℕ) → p ≡ p' → rounded_of up (swapped fan p q) ≡ rounded_of up (swapped fan p' r)
+  alike_end up p p' same = alike-rounded (swapped fan p q) (swapped fan p r) (alike-swapped p) up ∙ ap (λ x. rounded_of up (swapped fan x r)) same
 
   -- worth::worth's answer: the same refusal, and the same two ends
-  pub alike-worth : (table : List ℕ) → worthOf q fan table ≡ worthOf r fan table
-  unfolding worthOf
+  pub alike-worth : (table : List ℕ) → worth_of q fan table ≡ worth_of r fan table
+  unfolding worth_of
   alike-worth table =
       let unit = ap unit_of e.version in
       λ i.
@@ -150,20 +150,20 @@ module _ (q : Asked) where
   size-again = omega arith
 
   read_again : read_of (alone q) ≡ read_of q
-  read_again = ap (λ ws. besideOf q.rule ws q.more) (stretch-again q.a q.b q.weights)
+  read_again = ap (λ ws. beside_of q.rule ws q.more) (stretch-again q.a q.b q.weights)
 
-  boards-again : boardsOf (alone q) ≡ boardsOf q
-  boards-again = ap (boardsRead q.version) (stretch-again q.a q.b q.boards)
+  boards-again : boards_of (alone q) ≡ boards_of q
+  boards-again = ap (boards_read q.version) (stretch-again q.a q.b q.boards)
 
   -- "answers as a list of those components alone would, weights too": the figures and E of every stretch
-  pub alone-rounded : (up : Bool) → roundedOf up (alone q) ≡ roundedOf up q
+  pub alone-rounded : (up : Bool) → rounded_of up (alone q) ≡ rounded_of up q
   alone-rounded up =
-      λ i. figureBehind up (unitIn q) q.rule (stretch-again q.a q.b q.survival i) (read_again i) (boards-again i) (switchboardsOf q)
+      λ i. figure_behind up (unit_in q) q.rule (stretch-again q.a q.b q.survival i) (read_again i) (boards-again i) (switchboards_of q)
 
-  pub alone-exact : exactOf (alone q) ≡ exactOf q
-  alone-exact = λ i. exactBehind (unitIn q) q.rule (stretch-again q.a q.b q.survival i) (read_again i) (boards-again i) (switchboardsOf q)
+  pub alone-exact : exact_of (alone q) ≡ exact_of q
+  alone-exact = λ i. exact_behind (unit_in q) q.rule (stretch-again q.a q.b q.survival i) (read_again i) (boards-again i) (switchboards_of q)
 
-  module _ (paired : Paired q) (two : badSize (length_of q) ≡ false) (three : badStretch q.a q.b (length_of q) ≡ false) where
+  module _ (paired : Paired q) (two : bad_size (length_of q) ≡ false) (three : bad_stretch q.a q.b (length_of q) ≡ false) where
     inside : (1 ≤ q.a) × (q.a ≤ q.b) × (q.b ≤ length_of q)
     inside = in-stretch q.a q.b (length_of q) three
 
@@ -173,55 +173,55 @@ module _ (q : Asked) where
     small : length_of q ≤ most
     small = (within-true 1 (length_of q) most (not-false _ two)).1
 
-    size-good : badSize (length (part_of q)) ≡ false
+    size-good : bad_size (length (part_of q)) ≡ false
     size-good = rw part-long (ap not (ap₂ ◌&&◌ (le-leb 1 (size_of q) (omega (arith, inside))) (le-leb (size_of q) most (omega (arith, inside, small)))))
 
-    place-good : badStretch 1 (size_of q) (length (part_of q)) ≡ false
+    place-good : bad_stretch 1 (size_of q) (length (part_of q)) ≡ false
     place-good = rw part-long (whole-stretch (size_of q) (omega (arith, inside)))
 
     -- a list as long as the deck's has as many on the stretch as the stretch is long
     eqb-part : (xs : List ℕ) → length xs ≡ length_of q → eqb (length (stretch q.a q.b xs)) (length (part_of q)) ≡ eqb (length xs) (length_of q)
     eqb-part xs e = eq-eqb _ _ (stretch-length q.a q.b xs (rw e three) ∙ sym part-long) ∙ sym (eq-eqb _ _ e)
 
-    placed-again : misplaced q.version (length (part_of q)) (boardCount q) (stretch q.a q.b q.boards) (boardsOf (alone q))
-        ≡ misplaced q.version (length_of q) (boardCount q) q.boards (boardsOf q)
-    placed-again = go (hasBoards q.version) refl
+    placed-again : misplaced q.version (length (part_of q)) (board_count q) (stretch q.a q.b q.boards) (boards_of (alone q))
+        ≡ misplaced q.version (length_of q) (board_count q) q.boards (boards_of q)
+    placed-again = go (has_boards q.version) refl
       where
-        go : (b : Bool) → hasBoards q.version ≡ b
-            → (b && (not (eqb (length (stretch q.a q.b q.boards)) (length (part_of q))) || someAbove (boardCount q) (boardsOf (alone q))))
-            ≡ (b && (not (eqb (length q.boards) (length_of q)) || someAbove (boardCount q) (boardsOf q)))
-        go true e = λ i. not (eqb-part q.boards (paired.boards e) i) || someAbove (boardCount q) (boards-again i)
+        go : (b : Bool) → has_boards q.version ≡ b
+            → (b && (not (eqb (length (stretch q.a q.b q.boards)) (length (part_of q))) || some_above (board_count q) (boards_of (alone q))))
+            ≡ (b && (not (eqb (length q.boards) (length_of q)) || some_above (board_count q) (boards_of q)))
+        go true e = λ i. not (eqb-part q.boards (paired.boards e) i) || some_above (board_count q) (boards-again i)
         go false e = refl
 
-    weighed-again : badWeights q.rule (length (part_of q)) (weightsOf q) (weightsOf (alone q)) ≡ badWeights q.rule (length_of q) q.weights (weightsOf q)
-    unfolding weightsOut
+    weighed-again : bad_weights q.rule (length (part_of q)) (weights_of q) (weights_of (alone q)) ≡ bad_weights q.rule (length_of q) q.weights (weights_of q)
+    unfolding weights_out
     weighed-again = go (eqb q.rule.kind 2) refl
       where
         go : (b : Bool) → eqb q.rule.kind 2 ≡ b
-            → (b && (not (eqb (length (weightsOf q)) (length (part_of q))) || ltb heaviest (total (weightsOf (alone q)))))
-            ≡ (b && (not (eqb (length q.weights) (length_of q)) || ltb heaviest (total (weightsOf q))))
+            → (b && (not (eqb (length (weights_of q)) (length (part_of q))) || ltb heaviest (total (weights_of (alone q)))))
+            ≡ (b && (not (eqb (length q.weights) (length_of q)) || ltb heaviest (total (weights_of q))))
         go true e =
             λ i. not (eqb-part q.weights (paired.weights (eqb-true _ _ e)) i) || ltb heaviest (total (stretch-again q.a q.b q.weights i))
         go false e = refl
 
     -- and its refusals from 20 on
-    pub alone-refusal : (table : List ℕ) → figuresRefusal (alone q) table ≡ figuresRefusal q table
-    unfolding figuresRefusal
+    pub alone-refusal : (table : List ℕ) → figures_refusal (alone q) table ≡ figures_refusal q table
+    unfolding figures_refusal
     alone-refusal table =
         λ i.
         first_of
-        ((11, badVersion q.version)
-        ∷ (1, badKind q.rule)
+        ((11, bad_version q.version)
+        ∷ (1, bad_kind q.rule)
         ∷ (2, (size-good ∙ sym two) i)
         ∷ (3, (place-good ∙ sym three) i)
-        ∷ (20, badBoards q.version (boardCount q))
+        ∷ (20, bad_boards q.version (board_count q))
         ∷ (21, placed-again i)
-        ∷ (4, aboveUnit (unitIn q) (stretch-again q.a q.b q.survival i) (switchboardsOf q))
+        ∷ (4, above_unit (unit_in q) (stretch-again q.a q.b q.survival i) (switchboards_of q))
         ∷ (5, weighed-again i)
         ∷ (6, not (in_range q.rule (size-again i) (read_again i)))
-        ∷ (7, shortTable table)
+        ∷ (7, short_table table)
         ∷ [])
 
-    pub alone-figures : (table : List ℕ) → figuresOf (alone q) table ≡ figuresOf q table
-    unfolding figuresOf
+    pub alone-figures : (table : List ℕ) → figures_of (alone q) table ≡ figures_of q table
+    unfolding figures_of
     alone-figures table = λ i. unless (alone-refusal table i) rating.Refused (rating.Range (alone-rounded false i) (alone-rounded true i))

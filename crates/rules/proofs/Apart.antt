@@ -13,7 +13,7 @@ use lib.Dec.{ltb}
 use borrow.Author.Tests.{leb-true, le-leb, ltb-true, lt-ltb}
 use Rattle.rules.specs.Below.{held, some}
 use Rattle.rules.specs.State.{down, window, starts}
-use Rattle.rules.specs.Verdict.{someWindow, twoNear}
+use Rattle.rules.specs.Verdict.{some_window, two_near}
 use Rattle.rules.specs.Memory.{run, Memory, live, dead, moved, ended, machine_of, Ring, lead, pair, failing6, working7, failing7, end7, row6, row7}
 use Rattle.rules.proofs.Tests.{both}
 use Rattle.rules.proofs.Windows.{opposite, last, some-none, some-found, held-fewer, no-window, not-lt, at, turned}
@@ -135,7 +135,7 @@ no-two p k = (
   λ h. (held-fewer p 1 k).1 (λ e l s. (held-fewer p 0 e).1 (λ d m t. absurd (h e l s d m t))),
 )
 
-clear : (ring : Bool) (n r w : ℕ) → (someWindow ring n r 2 w ≡ false) ↔ Clear (λ p. down p w) r n (starts ring n r)
+clear : (ring : Bool) (n r w : ℕ) → (some_window ring n r 2 w ≡ false) ↔ Clear (λ p. down p w) r n (starts ring n r)
 clear ring n r w =
     Iff.trans (no-window ring n r 2 w)
     (λ h a l. (no-two (window n a w) r).0 (h a l), λ h a l. (no-two (window n a w) r).1 (h a l))
@@ -179,8 +179,8 @@ module _ (n r w : ℕ) where
   abbrev nearBelow : ℕ → ℕ → Bool
   nearBelow j i = down i w && down j w && ltb (j - i) r
 
-  pub near_apart : (twoNear n r w ≡ false) ↔ Apart (λ p. down p w) r n
-  unfolding twoNear
+  pub near_apart : (two_near n r w ≡ false) ↔ Apart (λ p. down p w) r n
+  unfolding two_near
   near_apart = (
     λ e q l s p m t. not-lt _ _ (λ g.
         (some-none (λ j. some (nearBelow j) j) n).0 e q l (some-found (nearBelow q) q p m (rw (t, s) (lt-ltb (q - p) r (omega arith))))),
@@ -194,7 +194,7 @@ module _ (n r w : ℕ) where
           omega (arith, h q l v.1 p m v.0, ltb-true (q - p) r u.1)
 
   -- the same by windows of r components, or of all n where that is fewer
-  pub near-window : twoNear n r w ≡ someWindow false n (min r n) 2 w
+  pub near-window : two_near n r w ≡ some_window false n (min r n) 2 w
   near-window = same _ _ (Iff.trans near_apart (Iff.trans shorter (line_clear (λ p. down p w) n (min r n) (omega arith)))) (clear false n (min r n) w)
     where
       shorter : Apart (λ p. down p w) r n ↔ Apart (λ p. down p w) (min r n) n
@@ -207,14 +207,14 @@ module _ (n r w : ℕ) where
       same false false h k = refl
 
   -- the line: a ring on which r - 1 components work before the first
-  past-line : 2 ≤ r → run (machine_of (row7 r)) n (live (pair (r - 1) 0)) w ≡ not (twoNear n r w)
+  past-line : 2 ≤ r → run (machine_of (row7 r)) n (live (pair (r - 1) 0)) w ≡ not (two_near n r w)
   past-line low =
       opposite _ _
       (Iff.trans (past-ok w r (omega arith) n (r - 1) 0)
       (λ h. h.apart, λ h. record { apart = h; low = λ p l a. omega arith; high = λ p l a. omega arith; wrap = omega arith }))
       near_apart
 
-pub kind7 : (n r w : ℕ) → 2 ≤ r → r ≤ n → run (machine_of (row7 r)) n (live (lead 0)) w ≡ not (someWindow true n r 2 w)
+pub kind7 : (n r w : ℕ) → 2 ≤ r → r ≤ n → run (machine_of (row7 r)) n (live (lead 0)) w ≡ not (some_window true n r 2 w)
 kind7 n r w low fits = opposite _ _ (Iff.trans (clean-ok w r (omega arith) n 0) (ring-clear (λ p. down p w) n r fits)) (clear true n r w)
 
 -- the line's number g beside the ring's (r - 1, g)
@@ -248,5 +248,5 @@ module _ (r : ℕ) (pos : 0 < r) where
 pub line-gap : (n r : ℕ) → 0 < r → Same (machine_of (row6 r)) (live 0) (machine_of (row7 r)) (live (pair (r - 1) 0)) n
 line-gap n r pos = alike_same (alike r pos) n _ _ (level {g = 0} pos)
 
-pub kind6 : (n r w : ℕ) → 2 ≤ r → run (machine_of (row6 r)) n (live 0) w ≡ not (twoNear n r w)
+pub kind6 : (n r w : ℕ) → 2 ≤ r → run (machine_of (row6 r)) n (live 0) w ≡ not (two_near n r w)
 kind6 n r w low = (line-gap n r (omega arith)).runs w ∙ past-line n r w low

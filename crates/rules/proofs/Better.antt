@@ -17,17 +17,17 @@ use Rattle.rules.specs.declared.Question.{Question}
 use Rattle.rules.specs.declared.Rating.TheVariants.{Range}
 use Rattle.rules.specs.declared.Worth.TheVariants.{Ends}
 use Rattle.rules.specs.Below.{within}
-use Rattle.rules.specs.State.{unit_of, ruleOf, number_of, failure}
-use Rattle.rules.specs.Pairs.{pairsOf}
+use Rattle.rules.specs.State.{unit_of, rule_of, number_of, failure}
+use Rattle.rules.specs.Pairs.{pairs_of}
 use Rattle.rules.specs.Verdict.{works}
 use Rattle.rules.specs.Memory.{run, live, machine_of, Reading, reading, reading_of, row1, row4, row5, row6, row7, row8}
-use Rattle.rules.specs.Figure.{figureOf, figure, exactIf, exact}
-use Rattle.rules.specs.Boards.{figureBehind, exactBehind}
+use Rattle.rules.specs.Figure.{figure_of, figure, exact_if, exact}
+use Rattle.rules.specs.Boards.{figure_behind, exact_behind}
 use Rattle.rules.specs.Stretch.{stretch}
-use Rattle.rules.specs.Asked.{Asked, questionIn, asked_of, unitIn, parts_of, part_of, read_of, boardsOf, switchboardsOf, roundedOf, low_of, high_of}
-use Rattle.rules.specs.Refusal.{lastKind, in_range, figuresRefusal}
-use Rattle.rules.specs.Answer.{figuresOf}
-use Rattle.rules.specs.Worth.{working, failing, worthOf}
+use Rattle.rules.specs.Asked.{Asked, question_in, asked_of, unit_in, parts_of, part_of, read_of, boards_of, switchboards_of, rounded_of, low_of, high_of}
+use Rattle.rules.specs.Refusal.{last_kind, in_range, figures_refusal}
+use Rattle.rules.specs.Answer.{figures_of}
+use Rattle.rules.specs.Worth.{working, failing, worth_of}
 use Rattle.rules.specs.Better.{NoLower, rising, Better}
 use Rattle.rules.proofs.Tests.{both, by_both}
 use Rattle.rules.proofs.Split.{exact_same}
@@ -36,7 +36,7 @@ use Rattle.rules.proofs.Orders.{Worse, Respects, row-ordered, More, Longer, Owin
 use Rattle.rules.proofs.EachKind.{each-kind, within-true}
 use Rattle.rules.proofs.Units.{unit-some}
 use Rattle.rules.proofs.Conditions.{reading-is-verdict, below-unit}
-use Rattle.rules.proofs.Sets.{overSets, behind-length, exact-boards, sets-none, sets_first}
+use Rattle.rules.proofs.Sets.{over_sets, behind-length, exact-boards, sets-none, sets_first}
 use Rattle.rules.proofs.Boards.{behind-units}
 use Rattle.rules.proofs.Answer.{rates}
 use Rattle.rules.proofs.Accepted.{stretch-get, figures-ratable, figures-boarded}
@@ -88,10 +88,10 @@ asked-better question weights more boards switchboards better = record {
 -- ---- what holds of every row that respects an order holds of the row of every kind of which it is claimed
 
 module _ (P : Reading → Type 0) (by_order : (R : Reading) (W : R.Live → R.Live → Type 0) → Respects R.row W → P R) (beside : List ℕ) where
-  by_kind : (first second kind : ℕ) → 1 ≤ kind → kind ≤ lastKind → rising kind ≡ true → P (reading_of (ruleOf kind first second) beside)
+  by_kind : (first second kind : ℕ) → 1 ≤ kind → kind ≤ last_kind → rising kind ≡ true → P (reading_of (rule_of kind first second) beside)
   unfolding reading_of
   by_kind first second =
-      each-kind (λ kind. rising kind ≡ true → P (reading_of (ruleOf kind first second) beside))
+      each-kind (λ kind. rising kind ≡ true → P (reading_of (rule_of kind first second) beside))
       (λ e. by_order (reading (row1 first (λ i. 1))) More (row1-respects first (λ i. 1)))
       (λ e. by_order (reading (row1 first (number_of beside))) More (row1-respects first (number_of beside)))
       (λ e. absurd (false≢true e))
@@ -99,29 +99,29 @@ module _ (P : Reading → Type 0) (by_order : (R : Reading) (W : R.Live → R.Li
       (λ e. by_order (reading (row5 first)) Longer (row5-respects first))
       (λ e. by_order (reading (row6 second)) More (row6-respects second))
       (λ e. by_order (reading (row7 second)) (Owing second) (row7-respects second))
-      (λ e. by_order (reading (row8 (pairsOf first second beside))) MoreDown (row8-respects (pairsOf first second beside)))
+      (λ e. by_order (reading (row8 (pairs_of first second beside))) MoreDown (row8-respects (pairs_of first second beside)))
 
   by-rising : (rule : Rule) → rising rule.kind ≡ true → P (reading_of rule beside)
   by-rising rule e =
-      let k = within-true 1 rule.kind lastKind (both (within 1 rule.kind lastKind) _ e).0 in
+      let k = within-true 1 rule.kind last_kind (both (within 1 rule.kind last_kind) _ e).0 in
       by_kind rule.first rule.second rule.kind k.0 k.1 e
 
 -- ---- their figures and their exact sums, of any unit
 
 module _ (u : ℕ) (xs ys beside : List ℕ) (better : NoLower xs ys) (units : (i : ℕ) → get_or ys i 0 ≤ u) where
   module _ (up : Bool) (some : 0 < u) where
-    row-figure : (R : Reading) (W : R.Live → R.Live → Type 0) → Respects R.row W → figureOf R.row up u xs ≤ figureOf R.row up u ys
+    row-figure : (R : Reading) (W : R.Live → R.Live → Type 0) → Respects R.row W → figure_of R.row up u xs ≤ figure_of R.row up u ys
     row-figure R W r =
         rw better.same_length
         (value-raise (machine_of R.row) (Worse W) (row-ordered R.row W r) up u some (length ys) (number_of xs) (number_of ys)
         (λ i l. below-unit ys units i) (λ i l. numbers xs ys better i) (live R.row.start))
 
     pub better-figure : (rule : Rule) → rising rule.kind ≡ true → figure up u rule xs beside ≤ figure up u rule ys beside
-    better-figure = by-rising (λ R. figureOf R.row up u xs ≤ figureOf R.row up u ys) row-figure beside
+    better-figure = by-rising (λ R. figure_of R.row up u xs ≤ figure_of R.row up u ys) row-figure beside
 
   -- as a reading gives them
   abbrev readSum : Reading → List ℕ → ℕ
-  readSum R zs = exactIf (run (machine_of R.row) (length ys) (live R.row.start)) u (number_of zs) (length ys)
+  readSum R zs = exact_if (run (machine_of R.row) (length ys) (live R.row.start)) u (number_of zs) (length ys)
 
   row-exact : (R : Reading) (W : R.Live → R.Live → Type 0) → Respects R.row W → readSum R xs ≤ readSum R ys
   row-exact R W r =
@@ -130,7 +130,7 @@ module _ (u : ℕ) (xs ys beside : List ℕ) (better : NoLower xs ys) (units : (
 
   pub better-exact : (rule : Rule) → rising rule.kind ≡ true → in_range rule (length ys) beside ≡ true → exact u rule xs beside ≤ exact u rule ys beside
   better-exact rule kind range =
-      let read : (zs : List ℕ) → readSum (reading_of rule beside) zs ≡ exactIf (works rule (length ys) beside) u (number_of zs) (length ys)
+      let read : (zs : List ℕ) → readSum (reading_of rule beside) zs ≡ exact_if (works rule (length ys) beside) u (number_of zs) (length ys)
       = λ zs. exact_same _ _ u (number_of zs) (length ys) (λ w l. reading-is-verdict rule (length ys) beside w range l) in
       rw (better.same_length, ← (read xs), ← (read ys)) (by-rising (λ R. readSum R xs ≤ readSum R ys) row-exact beside rule kind)
 
@@ -138,7 +138,7 @@ module _ (u : ℕ) (xs ys beside : List ℕ) (better : NoLower xs ys) (units : (
 
 module _ (up : Bool) (u : ℕ) (some : 0 < u) (rule : Rule) (kind : rising rule.kind ≡ true) (beside boards : List ℕ) where
   pub better-behind : (xs ys qs qs' : List ℕ) → NoLower xs ys → NoLower qs qs' → ((i : ℕ) → get_or ys i 0 ≤ u) → ((i : ℕ) → get_or qs' i 0 ≤ u)
-      → figureBehind up u rule xs beside boards qs ≤ figureBehind up u rule ys beside boards qs'
+      → figure_behind up u rule xs beside boards qs ≤ figure_behind up u rule ys beside boards qs'
   better-behind xs ys qs qs' better boards-better units board-units =
       combined-better up u some qs qs' boards-better board-units _ _
       (λ out. better-figure u _ _ beside (behind-better boards out out xs ys (same_out out) better) (behind-units boards out ys units) up some rule kind)
@@ -147,14 +147,14 @@ module _ (up : Bool) (u : ℕ) (some : 0 < u) (rule : Rule) (kind : rising rule.
       (behind-units boards out' ys units) up some rule kind)
 
 -- E over fans and boards: every set of failed boards has no lower E
-sets-better : (u : ℕ) (qs : List ℕ) (e e' : ℕ → ℕ) → ((out : ℕ) → e out ≤ e' out) → overSets u qs e ≤ overSets u qs e'
+sets-better : (u : ℕ) (qs : List ℕ) (e e' : ℕ → ℕ) → ((out : ℕ) → e out ≤ e' out) → over_sets u qs e ≤ over_sets u qs e'
 sets-better u [] e e' h = rw (sets-none u e, sets-none u e') (h 0)
 sets-better u (q ∷ qs) e e' h =
     rw (sets_first u q qs e, sets_first u q qs e')
     (add-le-add (mul-le-mul_left q (sets-better u qs _ _ (λ out. h (out * 2)))) (mul-le-mul_left (failure u q) (sets-better u qs _ _ (λ out. h (out * 2 + 1)))))
 
 pub better-exact-behind : (u : ℕ) (rule : Rule) (xs ys beside boards qs : List ℕ) → rising rule.kind ≡ true → NoLower xs ys → ((i : ℕ) → get_or ys i 0 ≤ u)
-    → in_range rule (length ys) beside ≡ true → exactBehind u rule xs beside boards qs ≤ exactBehind u rule ys beside boards qs
+    → in_range rule (length ys) beside ≡ true → exact_behind u rule xs beside boards qs ≤ exact_behind u rule ys beside boards qs
 better-exact-behind u rule xs ys beside boards qs kind better units range =
     let lower : (i : ℕ) → get_or xs i 0 ≤ u = λ i. le_trans (better.no_lower i) (units i) in
     rw (exact-boards u rule xs beside boards (below-unit xs lower) qs, exact-boards u rule ys beside boards (below-unit ys units) qs)
@@ -166,23 +166,23 @@ better-exact-behind u rule xs ys beside boards qs kind better units range =
 -- ---- of what is asked and answered. That the second is accepted is enough: its numbers are within the unit.
 
 module _ (q q' : Asked) (better : Better q q') (kind : rising q.rule.kind ≡ true) where
-  pub better-asked : (table : List ℕ) → figuresRefusal q' table ≡ 0 → (low_of q ≤ low_of q') × (high_of q ≤ high_of q')
+  pub better-asked : (table : List ℕ) → figures_refusal q' table ≡ 0 → (low_of q ≤ low_of q') × (high_of q ≤ high_of q')
   better-asked table none = (go false, go true)
     where
-      go : (up : Bool) → roundedOf up q ≤ roundedOf up q'
+      go : (up : Bool) → rounded_of up q ≤ rounded_of up q'
       go up =
           let read : read_of q ≡ read_of q' = rw (better.rule, better.weights, better.more, better.from, better.to) in
-          let unit : unitIn q ≡ unitIn q' = ap unit_of better.version in
-          let behind : figureBehind up (unitIn q) q.rule (part_of q') (read_of q) (boardsOf q) (switchboardsOf q') ≡ roundedOf up q' =
-          λ x. figureBehind up (unit x) (better.rule x) (part_of q') (read x) (better.boards x) (switchboardsOf q') in
+          let unit : unit_in q ≡ unit_in q' = ap unit_of better.version in
+          let behind : figure_behind up (unit_in q) q.rule (part_of q') (read_of q) (boards_of q) (switchboards_of q') ≡ rounded_of up q' =
+          λ x. figure_behind up (unit x) (better.rule x) (part_of q') (read x) (better.boards x) (switchboards_of q') in
           rw (← behind)
-          (better-behind up (unitIn q) (unit-some q.version) q.rule kind (read_of q) (boardsOf q) (part_of q) (part_of q') (switchboardsOf q) (switchboardsOf q')
+          (better-behind up (unit_in q) (unit-some q.version) q.rule kind (read_of q) (boards_of q) (part_of q) (part_of q') (switchboards_of q) (switchboards_of q')
           better.survival better.switchboards (λ i. rw unit ((figures-ratable q' table none).2.units i))
           (λ i. rw unit ((figures-boarded q' table none).1.units i)))
 
-  pub better-answers : (table table' : List ℕ) (l h l' h' : ℕ) → figuresOf q table ≡ Range l h → figuresOf q' table' ≡ Range l' h'
+  pub better-answers : (table table' : List ℕ) (l h l' h' : ℕ) → figures_of q table ≡ Range l h → figures_of q' table' ≡ Range l' h'
       → (l ≤ l') × (h ≤ h')
-  unfolding figuresOf
+  unfolding figures_of
   better-answers table table' l h l' h' e e' =
       let v = (rates (Range l h) _ _ _).1 (sym e) in
       let v' = (rates (Range l' h') _ _ _).1 (sym e') in
@@ -192,15 +192,15 @@ module _ (q q' : Asked) (better : Better q q') (kind : rising q.rule.kind ≡ tr
 
 module _ (q : Asked) (table : List ℕ) (fan : ℕ) (kind : rising q.rule.kind ≡ true) where
   -- low with the fan sure to fail, low with it sure to work, high with it sure to work
-  fails-works : figuresRefusal q table ≡ 0 → low_of (failing fan q) ≤ high_of (working fan q)
+  fails-works : figures_refusal q table ≡ 0 → low_of (failing fan q) ≤ high_of (working fan q)
   fails-works none =
-      let better = asked-better (questionIn q) q.weights q.more q.boards q.switchboards (set-better q.survival (fan - 1) 0 (unitIn q) zero-le) in
-      let third = swapped-third q table fan (unitIn q) none (le_refl _) in
-      le_trans (better-asked (failing fan q) (working fan q) better kind table (swapped-accepted q table fan (unitIn q) none (le_refl _))).0
-      (le_of_mul-le-mul_right (le_trans third.above_low third.below-high) (one-le-pow (parts_of q - 1) (unitIn q) (unit-some q.version)))
+      let better = asked-better (question_in q) q.weights q.more q.boards q.switchboards (set-better q.survival (fan - 1) 0 (unit_in q) zero-le) in
+      let third = swapped-third q table fan (unit_in q) none (le_refl _) in
+      le_trans (better-asked (failing fan q) (working fan q) better kind table (swapped-accepted q table fan (unit_in q) none (le_refl _))).0
+      (le_of_mul-le-mul_right (le_trans third.above_low third.below_high) (one-le-pow (parts_of q - 1) (unit_in q) (unit-some q.version)))
 
-  pub worth-rising : (l h : ℤ) → worthOf q fan table ≡ Ends l h → pos 0 ≤ℤ h
-  unfolding worthOf
+  pub worth-rising : (l h : ℤ) → worth_of q fan table ≡ Ends l h → pos 0 ≤ℤ h
+  unfolding worth_of
   worth-rising l h e =
       let v = (weighs (Ends l h) _ _ _).1 (sym e) in
       rw (v.2, ← (less_none 0)) (less-le 0 0 (high_of (working fan q)) (low_of (failing fan q)) (omega (arith, fails-works (after_first _ _ v.0))))

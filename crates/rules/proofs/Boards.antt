@@ -11,8 +11,8 @@ use lib.ListN.{length, get_or, get_or-eq_default}
 use Rattle.rules.specs.declared.Rule.{Rule}
 use Rattle.rules.specs.State.{number_of}
 use Rattle.rules.specs.Verdict.{works}
-use Rattle.rules.specs.Figure.{figure, low, high, exact, exactIf, Third}
-use Rattle.rules.specs.Boards.{boardDown, lost, behind, combined, figureBehind, fansDown, worksBehind, exactBehind}
+use Rattle.rules.specs.Figure.{figure, low, high, exact, exact_if, Third}
+use Rattle.rules.specs.Boards.{board_down, lost, behind, combined, figure_behind, fans_down, works_behind, exact_behind}
 use Rattle.rules.specs.Refusal.{in_range}
 use Rattle.rules.proofs.Tests.{by-test}
 use Rattle.rules.proofs.Lists.{below-is}
@@ -21,7 +21,7 @@ use Rattle.rules.proofs.Split.{exact_same}
 use Rattle.rules.proofs.Enclosure.{third-step}
 use Rattle.rules.proofs.Conditions.{below-unit, figure-within, third}
 use Rattle.rules.proofs.Lost.{none-lost}
-use Rattle.rules.proofs.Sets.{overSets, behind-length, behind-number, exact-boards, sets-none, sets_first}
+use Rattle.rules.proofs.Sets.{over_sets, behind-length, behind-number, exact-boards, sets-none, sets_first}
 
 -- a list with fans at 0 has no number above the unit
 pub behind-units : {u : ℕ} (boards : List ℕ) (out : ℕ) (survival : List ℕ) → ((i : ℕ) → get_or survival i 0 ≤ u) → (i : ℕ) → get_or (behind boards out survival) i 0 ≤ u
@@ -41,7 +41,7 @@ tail-units q qs units i = units (suc i)
 module _ (u : ℕ) (pos : 0 < u) where
   -- figures that meet the third condition for every set of failed boards
   third-combined : (qs : List ℕ) (n : ℕ) (low high e : ℕ → ℕ) → 0 < n → ((i : ℕ) → get_or qs i 0 ≤ u) → ((out : ℕ) → Third u n (low out) (high out) (e out))
-      → Third u (n + length qs) (combined false u qs low) (combined true u qs high) (overSets u qs e)
+      → Third u (n + length qs) (combined false u qs low) (combined true u qs high) (over_sets u qs e)
   unfolding combined
   third-combined [] n low high e some s t = rw (add-zero n, sets-none u e) (t 0)
   third-combined (q ∷ qs) n low high e some s t =
@@ -77,9 +77,9 @@ module _ (u : ℕ) (pos : 0 < u) (rule : Rule) (survival beside boards switchboa
   -- the third condition, over n + g parts
   pub third-boards : 1 ≤ n → in_range rule n beside ≡ true
       → Third u (n + length switchboards)
-      (figureBehind false u rule survival beside boards switchboards)
-      (figureBehind true u rule survival beside boards switchboards)
-      (exactBehind u rule survival beside boards switchboards)
+      (figure_behind false u rule survival beside boards switchboards)
+      (figure_behind true u rule survival beside boards switchboards)
+      (exact_behind u rule survival beside boards switchboards)
   third-boards some range =
       rw (exact-boards u rule survival beside boards (below-unit survival units) switchboards)
       (third-combined u pos switchboards n _ _ _ some board-units each)
@@ -91,15 +91,15 @@ module _ (u : ℕ) (pos : 0 < u) (rule : Rule) (survival beside boards switchboa
           (third pos rule (list out) beside (rw e some) (behind-units boards out survival units) (rw e range))
 
   -- within the unit
-  pub behind-within : (up : Bool) → figureBehind up u rule survival beside boards switchboards ≤ u
+  pub behind-within : (up : Bool) → figure_behind up u rule survival beside boards switchboards ≤ u
   behind-within up =
       combined-le u pos up switchboards _ board-units
       (λ out. figure-within up pos rule (list out) beside (behind-units boards out survival units))
 
 -- ---- no boards
 
-none-down : (b : ℕ) → boardDown 0 b ≡ false
-unfolding boardDown
+none-down : (b : ℕ) → board_down 0 b ≡ false
+unfolding board_down
 none-down zero = refl
 none-down (suc b) = rw (zero-div (2 ^ b))
 
@@ -109,15 +109,15 @@ behind-none boards survival = below-is survival 0 (length survival) _ refl (λ i
 
 -- the figures and the E that there were, whatever the fans' board numbers
 pub figure-none : (up : Bool) (u : ℕ) (rule : Rule) (survival beside boards : List ℕ)
-    → figureBehind up u rule survival beside boards [] ≡ figure up u rule survival beside
+    → figure_behind up u rule survival beside boards [] ≡ figure up u rule survival beside
 unfolding combined
 figure-none up u rule survival beside boards = ap (λ xs. figure up u rule xs beside) (behind-none boards survival)
 
-pub exact_none : (u : ℕ) (rule : Rule) (survival beside boards : List ℕ) → exactBehind u rule survival beside boards [] ≡ exact u rule survival beside
-unfolding worksBehind
+pub exact_none : (u : ℕ) (rule : Rule) (survival beside boards : List ℕ) → exact_behind u rule survival beside boards [] ≡ exact u rule survival beside
+unfolding works_behind
 exact_none u rule survival beside boards =
     let n = length survival in
-    ap₂ (λ xs k. exactIf (worksBehind rule n beside boards) u (number_of xs) k) (append-nil survival) (add-zero n)
+    ap₂ (λ xs k. exact_if (works_behind rule n beside boards) u (number_of xs) k) (append-nil survival) (add-zero n)
     ∙ exact_same _ (works rule n beside) u (number_of survival) n
     (λ w l.
     rw (div-eq_of_lt l, mod-eq_of_lt l)

@@ -11,46 +11,46 @@ use lib.Dec.{eqb}
 use lib.ListN.{length, get_or, length-append}
 use borrow.Author.Tests.{eq-eqb}
 use Rattle.rules.specs.Below.{held}
-use Rattle.rules.specs.Mending.{perChange, differs, changeAt, changesBelow}
+use Rattle.rules.specs.Mending.{per_change, differs, change_at, changes_below}
 
 module _ (old new : List ℕ) where
   abbrev count : ℕ → ℕ
   count k = held (differs old new) k
 
   -- three numbers each
-  pub changes-length : (k : ℕ) → length (changesBelow old new k) ≡ perChange * count k
-  unfolding changesBelow held
+  pub changes-length : (k : ℕ) → length (changes_below old new k) ≡ per_change * count k
+  unfolding changes_below held
   changes-length zero = refl
-  changes-length (suc k) = length-append (changesBelow old new k) (changeAt old new k) ∙ go (changes-length k) (differs old new k)
+  changes-length (suc k) = length-append (changes_below old new k) (change_at old new k) ∙ go (changes-length k) (differs old new k)
     where
-      go : length (changesBelow old new k) ≡ perChange * count k → (b : Bool)
-          → length (changesBelow old new k) + length (cond b (k ∷ get_or old k 0 ∷ get_or new k 0 ∷ []) []) ≡ perChange * (count k + cond b 1 0)
+      go : length (changes_below old new k) ≡ per_change * count k → (b : Bool)
+          → length (changes_below old new k) + length (cond b (k ∷ get_or old k 0 ∷ get_or new k 0 ∷ []) []) ≡ per_change * (count k + cond b 1 0)
       go e true = omega arith
       go e false = omega arith
 
   -- a place where they differ is listed, behind the lower ones
   pub record Listed (k place : ℕ) : Type 0 where
     pub later : List ℕ
-    pub parts : changesBelow old new k ≡ changesBelow old new place ++ (place ∷ get_or old place 0 ∷ get_or new place 0 ∷ []) ++ later
+    pub parts : changes_below old new k ≡ changes_below old new place ++ (place ∷ get_or old place 0 ∷ get_or new place 0 ∷ []) ++ later
 
   pub listed : (k place : ℕ) → place < k → differs old new place ≡ true → Listed k place
-  unfolding changesBelow
+  unfolding changes_below
   listed zero place l d = absurd (omega arith)
   listed (suc k) place l d =
       elim (dec_lt place k) [
         | yes h ↦
             let before = listed k place h d in
             record {
-              later = before.later ++ changeAt old new k;
-              parts = ap (λ xs. xs ++ changeAt old new k) before.parts ∙ append_assoc (changesBelow old new place ++ (place ∷ get_or old place 0 ∷ get_or new place 0 ∷ [])) before.later _;
+              later = before.later ++ change_at old new k;
+              parts = ap (λ xs. xs ++ change_at old new k) before.parts ∙ append_assoc (changes_below old new place ++ (place ∷ get_or old place 0 ∷ get_or new place 0 ∷ [])) before.later _;
             }
         | no h ↦
             let e : k ≡ place = omega arith in
             record {
               later = [];
               parts =
-                  ap (λ p. changesBelow old new p ++ changeAt old new p) e
-                  ∙ ap (λ b. changesBelow old new place ++ cond b (place ∷ get_or old place 0 ∷ get_or new place 0 ∷ []) []) d
+                  ap (λ p. changes_below old new p ++ change_at old new p) e
+                  ∙ ap (λ b. changes_below old new place ++ cond b (place ∷ get_or old place 0 ∷ get_or new place 0 ∷ []) []) d
                   ∙ sym (append-nil _);
             }
       ]
@@ -72,11 +72,11 @@ module _ (old new : List ℕ) where
 
   -- past a place from which on they are the same there are no changes more
   module _ (k : ℕ) where
-    pub changes-upto : (j : ℕ) → ((i : ℕ) → i < j → get_or old (k + i) 0 ≡ get_or new (k + i) 0) → changesBelow old new (k + j) ≡ changesBelow old new k
-    unfolding changesBelow
+    pub changes-upto : (j : ℕ) → ((i : ℕ) → i < j → get_or old (k + i) 0 ≡ get_or new (k + i) 0) → changes_below old new (k + j) ≡ changes_below old new k
+    unfolding changes_below
     changes-upto zero same = rw (add-zero k)
     changes-upto (suc j) same =
-        rw (add-suc k j, eq-eqb (get_or old (k + j) 0) (get_or new (k + j) 0) (same j (omega arith)), append-nil (changesBelow old new (k + j)))
+        rw (add-suc k j, eq-eqb (get_or old (k + j) 0) (get_or new (k + j) 0) (same j (omega arith)), append-nil (changes_below old new (k + j)))
         (changes-upto j (λ i l. same i (omega arith)))
 
     pub count-upto : (j : ℕ) → ((i : ℕ) → i < j → get_or old (k + i) 0 ≡ get_or new (k + i) 0) → count (k + j) ≡ count k
@@ -103,8 +103,8 @@ module _ (old new : List ℕ) where
 
 -- the places below k tell
 pub changes-same : (old new old' new' : List ℕ) (k : ℕ) → ((p : ℕ) → p < k → get_or old p 0 ≡ get_or old' p 0) → ((p : ℕ) → p < k → get_or new p 0 ≡ get_or new' p 0)
-    → changesBelow old new k ≡ changesBelow old' new' k
-unfolding changesBelow
+    → changes_below old new k ≡ changes_below old' new' k
+unfolding changes_below
 changes-same old new old' new' zero olds news = refl
 changes-same old new old' new' (suc k) olds news =
     ap₂ (λ xs ys. xs ++ ys) (changes-same old new old' new' k (λ p l. olds p (omega arith)) (λ p l. news p (omega arith)))

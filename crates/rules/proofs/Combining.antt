@@ -14,7 +14,7 @@ use lib.Pow.{pow-add}
 use lib.ListN.{length, get_or, drop}
 use Rattle.rules.specs.State.{number_of}
 use Rattle.rules.specs.Figure.{rounded, mixed}
-use Rattle.rules.specs.Boards.{boardDown, lost, behind, combined}
+use Rattle.rules.specs.Boards.{board_down, lost, behind, combined}
 use Rattle.rules.proofs.Lists.{below-is}
 use Rattle.rules.proofs.Bits.{bit-above}
 use Rattle.rules.proofs.Rounding.{unchanged}
@@ -100,9 +100,9 @@ behind-same boards out out' survival h =
 -- board b + 1's failing changes no list, hence no figure
 pub unused : (boards survival : List ℕ) (b : ℕ) → ((i : ℕ) → i < length survival → number_of boards (suc i) ≢ suc b)
     → (a w : ℕ) → w < 2 ^ b → behind boards ((a * 2 + 1) * 2 ^ b + w) survival ≡ behind boards (a * 2 * 2 ^ b + w) survival
-unfolding boardDown
+unfolding board_down
 unused boards survival b h a w l = behind-same boards _ _ survival (λ i m. go (number_of boards (suc i)) (h i m))
   where
-    go : (k : ℕ) → k ≢ suc b → boardDown ((a * 2 + 1) * 2 ^ b + w) k ≡ boardDown (a * 2 * 2 ^ b + w) k
+    go : (k : ℕ) → k ≢ suc b → board_down ((a * 2 + 1) * 2 ^ b + w) k ≡ board_down (a * 2 * 2 ^ b + w) k
     go zero ne = refl
     go (suc j) ne = rw (other-bit b a w 1 j l (omega arith) (λ e. ne (ap suc e)))

@@ -12,12 +12,12 @@ use native.Mathlib.Decide.{dec_lt}
 use borrow.Author.Tests.{lt-ltb, le-ltb}
 use Rattle.rules.specs.declared.Rule.{Rule}
 use Rattle.rules.specs.Below.{some}
-use Rattle.rules.specs.State.{S, ruleOf, number_of}
+use Rattle.rules.specs.State.{S, rule_of, number_of}
 use Rattle.rules.specs.Verdict.{fails, works}
-use Rattle.rules.specs.Count.{countIf, count_of}
+use Rattle.rules.specs.Count.{count_if, count_of}
 use Rattle.rules.specs.Memory.{run, reading_of, machine}
 use Rattle.rules.specs.Figure.{figure, low, high, exact, Third}
-use Rattle.rules.specs.Refusal.{lastKind, most, rangePairs, ranged, in_range, someAbove}
+use Rattle.rules.specs.Refusal.{last_kind, most, range_pairs, ranged, in_range, some_above}
 use Rattle.rules.proofs.EachKind.{each-kind, within-true, range-kind}
 use Rattle.rules.proofs.Tests.{both}
 use Rattle.rules.proofs.Windows.{some-none, not-lt}
@@ -27,17 +27,17 @@ use Rattle.rules.proofs.Adding.{kind1, kind2, kind3}
 use Rattle.rules.proofs.InARow.{kind4, kind5}
 use Rattle.rules.proofs.Apart.{kind6, kind7}
 use Rattle.rules.proofs.Lacking.{kind8}
-use Rattle.rules.specs.Pairs.{pairsOf, badMore}
+use Rattle.rules.specs.Pairs.{pairs_of, bad_more}
 
 module _ (n : ℕ) (weights : List ℕ) (w : ℕ) (small : w < 2 ^ n) (first second : ℕ) where
   abbrev Right : ℕ → Type 0
   Right kind =
-      in_range (ruleOf kind first second) n weights ≡ true
-      → run (machine (ruleOf kind first second) weights) n (machine (ruleOf kind first second) weights).start w
-      ≡ works (ruleOf kind first second) n weights w
+      in_range (rule_of kind first second) n weights ≡ true
+      → run (machine (rule_of kind first second) weights) n (machine (rule_of kind first second) weights).start w
+      ≡ works (rule_of kind first second) n weights w
 
-  by_kind : (kind : ℕ) → 1 ≤ kind → kind ≤ lastKind → Right kind
-  unfolding ranged rangePairs reading_of fails
+  by_kind : (kind : ℕ) → 1 ≤ kind → kind ≤ last_kind → Right kind
+  unfolding ranged range_pairs reading_of fails
   by_kind =
       each-kind Right
       (λ e. kind1 n first w (within-true 1 first n (both _ _ e).0).0 small)
@@ -47,7 +47,7 @@ module _ (n : ℕ) (weights : List ℕ) (w : ℕ) (small : w < 2 ^ n) (first sec
       (λ e. let h = within-true 1 first n (both _ _ e).0 in kind5 n first w h.0 h.1)
       (λ e. kind6 n second w (within-true 2 second most (both (eqb first 2) _ e).1).0)
       (λ e. let h = within-true 2 second n (both (eqb first 2) _ e).1 in kind7 n second w h.0 h.1)
-      (λ e. kind8 n (pairsOf first second weights) w (both (not (badMore weights)) _ e).1 small)
+      (λ e. kind8 n (pairs_of first second weights) w (both (not (bad_more weights)) _ e).1 small)
 
 pub reading-is-verdict : (rule : Rule) (n : ℕ) (weights : List ℕ) (w : ℕ) → in_range rule n weights ≡ true → w < 2 ^ n
     → run (machine rule weights) n (machine rule weights).start w ≡ works rule n weights w
@@ -57,20 +57,20 @@ reading-is-verdict rule n weights w e small =
 
 -- the counts, as a reading gives them
 pub count-by-reading : (rule : Rule) (n : ℕ) (weights : List ℕ) (j : ℕ) → in_range rule n weights ≡ true
-    → count_of rule n weights j ≡ countIf (run (machine rule weights) n (machine rule weights).start) n j
+    → count_of rule n weights j ≡ count_if (run (machine rule weights) n (machine rule weights).start) n j
 count-by-reading rule n weights j e = count_same _ _ n j (λ w l. sym (reading-is-verdict rule n weights w e l))
 
 -- no number of a list is above a limit: no P read above the unit, no fan on a board that there is not
-pub none_above : (limit : ℕ) (xs : List ℕ) → someAbove limit xs ≡ false → (i : ℕ) → get_or xs i 0 ≤ limit
-unfolding someAbove
+pub none_above : (limit : ℕ) (xs : List ℕ) → some_above limit xs ≡ false → (i : ℕ) → get_or xs i 0 ≤ limit
+unfolding some_above
 none_above limit xs e i = go (dec_lt i (length xs))
   where
     go : Dec (i < length xs) → get_or xs i 0 ≤ limit
     go (yes l) = not-lt _ _ (λ g. (some-none (λ i. ltb limit (get_or xs i 0)) (length xs)).0 e i l (lt-ltb _ _ g))
     go (no l) = rw (get_or-eq_default xs 0 (not-lt _ _ l)) (omega arith)
 
-pub above-none : (limit : ℕ) (xs : List ℕ) → ((i : ℕ) → get_or xs i 0 ≤ limit) → someAbove limit xs ≡ false
-unfolding someAbove
+pub above-none : (limit : ℕ) (xs : List ℕ) → ((i : ℕ) → get_or xs i 0 ≤ limit) → some_above limit xs ≡ false
+unfolding some_above
 above-none limit xs s = (some-none (λ i. ltb limit (get_or xs i 0)) (length xs)).1 (λ i l e. true≢false (sym e ∙ le-ltb limit (get_or xs i 0) (s i)))
 
 pub below-unit : {u : ℕ} (survival : List ℕ) → ((i : ℕ) → get_or survival i 0 ≤ u) → (i : ℕ) → number_of survival i ≤ u

@@ -16,12 +16,12 @@ use Rattle.rules.specs.declared.Rating.TheVariants.{Range}
 use Rattle.rules.specs.Below.{some, within}
 use Rattle.rules.specs.State.{S, unit_of}
 use Rattle.rules.specs.Figure.{rounded, low, high, exact, Third}
-use Rattle.rules.specs.Boards.{hasBoards}
+use Rattle.rules.specs.Boards.{has_boards}
 use Rattle.rules.specs.Stretch.{stretch}
-use Rattle.rules.specs.Asked.{questionOf, asked_of, weightsOf, roundedOf}
-use Rattle.rules.specs.Refusal.{lastKind, cells, badKind, badSize, badStretch, badWeights, in_range, first_of, figuresRefusal}
+use Rattle.rules.specs.Asked.{question_of, asked_of, weights_of, rounded_of}
+use Rattle.rules.specs.Refusal.{last_kind, cells, bad_kind, bad_size, bad_stretch, bad_weights, in_range, first_of, figures_refusal}
 use Rattle.rules.specs.Better.{excepted, rising}
-use Rattle.rules.specs.Doubles.{parts, spelt, own, isChance, whole_of, onGrid, Planned, askedIn, lowIn, highIn, floatsOf, sizeIn, readIn, exactIn, noChance, someOff, offGrid, plannedRefusal, plannedRating, widest, Spanned, SpannedOf}
+use Rattle.rules.specs.Doubles.{parts, spelt, own, is_chance, whole_of, on_grid, Planned, asked_in, low_in, high_in, floats_of, size_in, read_in, exact_in, no_chance, some_off, off_grid, planned_refusal, planned_rating, widest, Spanned, SpannedOf}
 use Rattle.rules.proofs.Lists.{map-stretch}
 use Rattle.rules.proofs.Tests.{by-test}
 use Rattle.rules.proofs.Windows.{some-none, not-lt}
@@ -47,19 +47,19 @@ each-passes p none fs e i = go (dec_lt i (length fs))
     go (yes l) = by (p (get_or fs i 0)) ((some-none (λ i. not (p (get_or fs i 0))) (length fs)).0 e i l)
     go (no l) = ap p (get_or-eq_default fs 0 {n = i} (not-lt _ _ l)) ∙ none
 
-pub each-chance : (fs : List ℕ) → noChance fs ≡ false → (i : ℕ) → isChance (get_or fs i 0) ≡ true
-unfolding noChance
-each-chance fs = each-passes isChance nought fs
+pub each-chance : (fs : List ℕ) → no_chance fs ≡ false → (i : ℕ) → is_chance (get_or fs i 0) ≡ true
+unfolding no_chance
+each-chance fs = each-passes is_chance nought fs
   where
-    nought : isChance 0 ≡ true
-    nought = unfold isChance own spelt parts in refl
+    nought : is_chance 0 ≡ true
+    nought = unfold is_chance own spelt parts in refl
 
-each-on-grid : (fs : List ℕ) → someOff fs ≡ false → (i : ℕ) → onGrid (get_or fs i 0) ≡ true
-unfolding someOff
-each-on-grid fs = each-passes onGrid nought fs
+each-on-grid : (fs : List ℕ) → some_off fs ≡ false → (i : ℕ) → on_grid (get_or fs i 0) ≡ true
+unfolding some_off
+each-on-grid fs = each-passes on_grid nought fs
   where
-    nought : onGrid 0 ≡ true
-    nought = unfold onGrid own spelt parts in refl
+    nought : on_grid 0 ≡ true
+    nought = unfold on_grid own spelt parts in refl
 
 pub whole-get : (up : Bool) (fs : List ℕ) (i : ℕ) → get_or (map (whole_of up) fs) i 0 ≡ whole_of up (get_or fs i 0)
 whole-get up fs i = ap (get_or (map (whole_of up) fs) i) (nought up) ∙ get_or-map (whole_of up) fs i 0
@@ -76,7 +76,7 @@ own-get fs i = ap (get_or (map own fs) i) nought ∙ get_or-map own fs i 0
 
 -- ---- the enclosure, of a list of chances
 
-module _ (rule : Rule) (fs beside : List ℕ) (chances : (i : ℕ) → isChance (get_or fs i 0) ≡ true) where
+module _ (rule : Rule) (fs beside : List ℕ) (chances : (i : ℕ) → is_chance (get_or fs i 0) ≡ true) where
   abbrev list : Bool → List ℕ
   list up = map (whole_of up) fs
 
@@ -85,8 +85,8 @@ module _ (rule : Rule) (fs beside : List ℕ) (chances : (i : ℕ) → isChance 
 
   finer : Finer S cell (list false) (list true) (map own fs)
   finer = record {
-    lower-length = length-map fs (whole_of false) ∙ sym (length-map fs own);
-    upper-length = length-map fs (whole_of true) ∙ sym (length-map fs own);
+    lower_length = length-map fs (whole_of false) ∙ sym (length-map fs own);
+    upper_length = length-map fs (whole_of true) ∙ sym (length-map fs own);
     under = λ i. rw (whole-get false fs i, own-get fs i) (under (get_or fs i 0));
     over = λ i. rw (whole-get true fs i, own-get fs i) (over (get_or fs i 0));
     near = λ i. rw (whole-get true fs i, whole-get false fs i) (one_apart (get_or fs i 0));
@@ -108,7 +108,7 @@ module _ (rule : Rule) (fs beside : List ℕ) (chances : (i : ℕ) → isChance 
         let power : (cell * S) ^ length fs ≡ 2 ^ (1074 * length fs) = ap (λ (p : ℕ). p ^ length fs) (sym parts_is) ∙ parts-power (length fs) in
         record {
           above_low = rw power at (step-low cell S (length fs) _ _ E fans (third_of false).above_low below);
-          below-high = rw power at (step-high cell S (length fs) _ _ E fans (third_of true).below-high above);
+          below_high = rw power at (step-high cell S (length fs) _ _ E fans (third_of true).below_high above);
           width = wide;
         }
 
@@ -124,7 +124,7 @@ module _ (rule : Rule) (fs beside : List ℕ) (chances : (i : ℕ) → isChance 
         (finer-high cell-pos finer rule beside kind (rw n range)))
         (rw n at (finer-width cell-pos finer rule beside (omega arith) (rw n fans))))
 
-    module _ (grid : (i : ℕ) → onGrid (get_or fs i 0) ≡ true) where
+    module _ (grid : (i : ℕ) → on_grid (get_or fs i 0) ≡ true) where
       one_list : list false ≡ list true
       one_list =
           ext_get_or 0 (list false) (list true) (length-map fs (whole_of false) ∙ sym (length-map fs (whole_of true)))
@@ -149,18 +149,18 @@ module _ (rule : Rule) (fs beside : List ℕ) (chances : (i : ℕ) → isChance 
 -- ---- what is asked in floats and not refused
 
 pub record Passed (q : Planned) (table : List ℕ) : Type 0 where
-  pub kind : badKind q.rule ≡ false
-  pub size : badSize (length q.survival) ≡ false
-  pub inside : badStretch q.a q.b (length q.survival) ≡ false
-  pub chances : noChance (floatsOf q) ≡ false
-  pub weighed : badWeights q.rule (length q.survival) q.weights (weightsOf (askedIn false q)) ≡ false
-  pub range : not (in_range q.rule (sizeIn q) (readIn q)) ≡ false
-  pub grid : offGrid q.rule (floatsOf q) ≡ false
+  pub kind : bad_kind q.rule ≡ false
+  pub size : bad_size (length q.survival) ≡ false
+  pub inside : bad_stretch q.a q.b (length q.survival) ≡ false
+  pub chances : no_chance (floats_of q) ≡ false
+  pub weighed : bad_weights q.rule (length q.survival) q.weights (weights_of (asked_in false q)) ≡ false
+  pub range : not (in_range q.rule (size_in q) (read_in q)) ≡ false
+  pub grid : off_grid q.rule (floats_of q) ≡ false
   pub room : cells ≤ length table
 
-module _ (q : Planned) (table : List ℕ) (none : plannedRefusal q table ≡ 0) where
+module _ (q : Planned) (table : List ℕ) (none : planned_refusal q table ≡ 0) where
   pub passed : Passed q table
-  unfolding plannedRefusal
+  unfolding planned_refusal
   passed =
       let one = none_first 0 _ _ none in
       let two = none_first 1 _ _ one.1 in
@@ -182,49 +182,49 @@ module _ (q : Planned) (table : List ℕ) (none : plannedRefusal q table ≡ 0) 
       }
 
   -- a list of whole numbers that has the stretch's: the figures do not refuse it
-  pub planned-accepted : (up : Bool) (xs : List ℕ) → length xs ≡ length q.survival → stretch q.a q.b xs ≡ map (whole_of up) (floatsOf q)
-      → figuresRefusal (asked_of (questionOf 1 q.rule q.a q.b) xs q.weights q.more [] []) table ≡ 0
-  unfolding figuresRefusal first_of unit_of
+  pub planned-accepted : (up : Bool) (xs : List ℕ) → length xs ≡ length q.survival → stretch q.a q.b xs ≡ map (whole_of up) (floats_of q)
+      → figures_refusal (asked_of (question_of 1 q.rule q.a q.b) xs q.weights q.more [] []) table ≡ 0
+  unfolding figures_refusal first_of unit_of
   planned-accepted up xs long part =
-      let units = units q.rule (floatsOf q) (readIn q) (each-chance (floatsOf q) passed.chances) up in
-      rw (long, passed.kind, passed.size, passed.inside, part, above-none S (map (whole_of up) (floatsOf q)) units, above-none S [] (λ i. zero-le), passed.weighed, passed.range, le-ltb (length table) cells passed.room)
+      let units = units q.rule (floats_of q) (read_in q) (each-chance (floats_of q) passed.chances) up in
+      rw (long, passed.kind, passed.size, passed.inside, part, above-none S (map (whole_of up) (floats_of q)) units, above-none S [] (λ i. zero-le), passed.weighed, passed.range, le-ltb (length table) cells passed.room)
 
   -- both figures are within 2^30
-  pub planned-within : (up : Bool) → roundedOf up (askedIn up q) ≤ S
+  pub planned-within : (up : Bool) → rounded_of up (asked_in up q) ≤ S
   unfolding unit_of
   planned-within up =
       let none = planned-accepted up (map (whole_of up) q.survival) (length-map q.survival (whole_of up)) (sym (map-stretch (whole_of up) q.a q.b q.survival)) in
-      rw (rounded-before (askedIn up q) refl up) (figure-within up (unit-some 1) q.rule _ _ (figures-ratable (askedIn up q) table none).2.units)
+      rw (rounded-before (asked_in up q) refl up) (figure-within up (unit-some 1) q.rule _ _ (figures-ratable (asked_in up q) table none).2.units)
 
-  pub passed-size : length (floatsOf q) ≡ sizeIn q
+  pub passed-size : length (floats_of q) ≡ size_in q
   passed-size = stretch-length q.a q.b q.survival passed.inside
 
   abbrev Between : (n w : ℕ) → Type 0
-  Between n w = Spanned n w (low S q.rule (map (whole_of false) (floatsOf q)) (readIn q)) (high S q.rule (map (whole_of true) (floatsOf q)) (readIn q)) (exactIn q)
+  Between n w = Spanned n w (low S q.rule (map (whole_of false) (floats_of q)) (read_in q)) (high S q.rule (map (whole_of true) (floats_of q)) (read_in q)) (exact_in q)
 
   -- on the grid under kind 3, by request 09 under every other
-  by-grid : Between (length (floatsOf q)) (widest q.rule (length (floatsOf q)))
+  by-grid : Between (length (floats_of q)) (widest q.rule (length (floats_of q)))
   by-grid =
-      let n = length (floatsOf q) in
-      let chances = each-chance (floatsOf q) passed.chances in
+      let n = length (floats_of q) in
+      let chances = each-chance (floats_of q) passed.chances in
       let inside = in-stretch q.a q.b (length q.survival) passed.inside in
       let fans : 0 < n = rw passed-size (omega arith) in
-      let range : in_range q.rule n (readIn q) ≡ true = rw passed-size (not-false _ passed.range) in
+      let range : in_range q.rule n (read_in q) ≡ true = rw passed-size (not-false _ passed.range) in
       by-test (Between n) (excepted q.rule.kind) (n - 1) (2 * n - 1)
-      (λ out. grid-spanned q.rule (floatsOf q) (readIn q) chances fans range (each-on-grid (floatsOf q) (rw out at passed.grid)))
-      (λ other. rising-spanned q.rule (floatsOf q) (readIn q) chances fans range (rw (not-false (within 1 q.rule.kind lastKind) passed.kind, other)))
+      (λ out. grid-spanned q.rule (floats_of q) (read_in q) chances fans range (each-on-grid (floats_of q) (rw out at passed.grid)))
+      (λ other. rising-spanned q.rule (floats_of q) (read_in q) chances fans range (rw (not-false (within 1 q.rule.kind last_kind) passed.kind, other)))
 
-  pub planned-spanned : SpannedOf q (lowIn q) (highIn q)
+  pub planned-spanned : SpannedOf q (low_in q) (high_in q)
   unfolding unit_of
   planned-spanned =
-      rw (rounded-before (askedIn false q) refl false, rounded-before (askedIn true q) refl true, ← (map-stretch (whole_of false) q.a q.b q.survival), ← (map-stretch (whole_of true) q.a q.b q.survival))
+      rw (rounded-before (asked_in false q) refl false, rounded-before (asked_in true q) refl true, ← (map-stretch (whole_of false) q.a q.b q.survival), ← (map-stretch (whole_of true) q.a q.b q.survival))
       (subst (λ (n : ℕ). Between n (widest q.rule n)) passed-size by-grid)
 
 -- of every range that is answered
-pub planned-answers : (q : Planned) (table : List ℕ) (l h : ℕ) → plannedRating q table ≡ Range l h → SpannedOf q l h
-unfolding plannedRating
+pub planned-answers : (q : Planned) (table : List ℕ) (l h : ℕ) → planned_rating q table ≡ Range l h → SpannedOf q l h
+unfolding planned_rating
 planned-answers q table l h e =
     let v = answered _ l h _ e in
-    let low-is : lowIn q ≡ l = cc v.1 in
-    let high_is : highIn q ≡ h = cc v.1 in
+    let low-is : low_in q ≡ l = cc v.1 in
+    let high_is : high_in q ≡ h = cc v.1 in
     rw (← low-is, ← high_is) (planned-spanned q table v.0)

@@ -8,7 +8,7 @@ use native.Mathlib.Omega.{arith}
 use native.Mathlib.Nat.{pow-suc, pow-zero, mul-le-mul_left, mul-le-mul_right, le_of_mul-le-mul_right}
 use Rattle.rules.specs.State.{failure}
 use Rattle.rules.specs.Memory.{Machine, run}
-use Rattle.rules.specs.Figure.{rounded, mixed, value, exactIf, Third}
+use Rattle.rules.specs.Figure.{rounded, mixed, value, exact_if, Third}
 use Rattle.rules.proofs.Split.{exact-zero, exact-split}
 use Rattle.rules.proofs.Rounding.{down_le, le_up, whole, step-gap, step-le}
 
@@ -33,12 +33,12 @@ third-step u (suc k) p l h e l' h' e' pos some s a b =
             mul-le-mul_left q (rw c at b.above_low),
             mul-le-mul_right (u ^ k) (down_le u (mixed u p l l')),
           ));
-      below-high =
+      below_high =
           rw (d, pow-suc u k)
           (omega (
             arith,
-            mul-le-mul_left p (rw c at a.below-high),
-            mul-le-mul_left q (rw c at b.below-high),
+            mul-le-mul_left p (rw c at a.below_high),
+            mul-le-mul_left q (rw c at b.below_high),
             mul-le-mul_right (u ^ k) (le_up u (mixed u p h h') pos),
           ));
       width = omega (arith, step-gap u p k h h' l l' pos s (omega (arith, a.width)) (omega (arith, b.width)));
@@ -57,19 +57,19 @@ module _ {M : Type 0} (K : Machine M) (u : ℕ) (P : ℕ → ℕ) (pos : 0 < u) 
       step-le up u (P (suc n)) _ _ pos (s _ (omega arith)) (value-le up n t _) (value-le up n t _)
 
   -- of one component nothing is lost
-  enclosed-one : (m : M) → Third u 1 (value K false u P 1 m) (value K true u P 1 m) (exactIf (run K 1 m) u P 1)
+  enclosed-one : (m : M) → Third u 1 (value K false u P 1 m) (value K true u P 1 m) (exact_if (run K 1 m) u P 1)
   unfolding value
   enclosed-one m =
       let a = K.ends (K.worked 1 m) in
       let b = K.ends (K.failed 1 m) in
       let c = P 1 * cond a 1 0 + failure u (P 1) * cond b 1 0 in
       let mix : mixed u (P 1) (cond a u 0) (cond b u 0) ≡ c * u = rw (cond-unit a u, cond-unit b u) (omega arith) in
-      let exact : exactIf (run K 1 m) u P 1 ≡ c = rw (exact-split K u P 0 m, exact-zero K u P (K.worked 1 m), exact-zero K u P (K.failed 1 m)) in
+      let exact : exact_if (run K 1 m) u P 1 ≡ c = rw (exact-split K u P 0 m, exact-zero K u P (K.worked 1 m), exact-zero K u P (K.failed 1 m)) in
       rw (mix, whole true u c pos, whole false u c pos, exact)
-      (record { above_low = rw (pow-zero u) (omega arith); below-high = rw (pow-zero u) (omega arith); width = omega arith })
+      (record { above_low = rw (pow-zero u) (omega arith); below_high = rw (pow-zero u) (omega arith); width = omega arith })
 
   -- the third condition, of any memory
-  pub enclosed : (n : ℕ) → 0 < n → ((i : ℕ) → i ≤ n → P i ≤ u) → (m : M) → Third u n (value K false u P n m) (value K true u P n m) (exactIf (run K n m) u P n)
+  pub enclosed : (n : ℕ) → 0 < n → ((i : ℕ) → i ≤ n → P i ≤ u) → (m : M) → Third u n (value K false u P n m) (value K true u P n m) (exact_if (run K n m) u P n)
   unfolding value
   enclosed zero h s m = absurd (omega arith)
   enclosed (suc zero) h s m = enclosed-one m

@@ -13,7 +13,7 @@ use lib.Pow.{pow_pos, pow_mono, shr-shr, field}
 use borrow.Author.Tests.{eqb-true, eq-eqb}
 use Rattle.rules.specs.declared.Pair.{Pair}
 use Rattle.rules.specs.State.{down}
-use Rattle.rules.specs.Memory.{lackingLast, lackingIn}
+use Rattle.rules.specs.Memory.{lacking_last, lacking_in}
 use Rattle.rules.proofs.Bits.{held-ones}
 use Rattle.rules.proofs.Words.{held_more}
 use Rattle.rules.proofs.Pairs.{too-few-more, any-more}
@@ -65,8 +65,8 @@ module _ {y x : ℕ} (h : NoMore y x) where
   ones-more : (r : ℕ) → ones (y % 2 ^ r) ≤ ones (x % 2 ^ r)
   ones-more r = rw (← held-ones y r, ← held-ones x r) (held_more _ _ r (λ d l. h.bit d))
 
-  pub lacking-more : (ps : List Pair) → lackingIn ps y ≡ true → lackingIn ps x ≡ true
-  unfolding lackingIn
+  pub lacking-more : (ps : List Pair) → lacking_in ps y ≡ true → lacking_in ps x ≡ true
+  unfolding lacking_in
   lacking-more ps =
-      any-more (lackingLast y) (lackingLast x)
+      any-more (lacking_last y) (lacking_last x)
       (λ p. too-few-more p (ones-more p.r)) ps

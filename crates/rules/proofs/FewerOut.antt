@@ -11,7 +11,7 @@ use borrow.Author.Tests.{eqb-true, eq-eqb}
 use lib.Arith.{digits_mod}
 use lib.ListN.{length, get_or, get_or-eq_default}
 use Rattle.rules.specs.State.{number_of, down}
-use Rattle.rules.specs.Boards.{boardDown, lost, behind, combined}
+use Rattle.rules.specs.Boards.{board_down, lost, behind, combined}
 use Rattle.rules.specs.Better.{NoLower}
 use Rattle.rules.proofs.Rounding.{round_up}
 use Rattle.rules.proofs.Monotone.{mix-up}
@@ -74,8 +74,8 @@ module _ (up : Bool) (u : ℕ) (pos : 0 < u) where
       (combined-more qs' _ _ (λ out. r (out * 2 + 1) (out * 2) (fewer-first out))))
 
 -- a fan that is lost with fewer failed boards is lost with more
-fewer-down : (out' out b : ℕ) → Fewer out' out → boardDown out' b ≡ true → boardDown out b ≡ true
-unfolding boardDown
+fewer-down : (out' out b : ℕ) → Fewer out' out → board_down out' b ≡ true → board_down out b ≡ true
+unfolding board_down
 fewer-down out' out zero r e = e
 fewer-down out' out (suc b) r e = r b e
 

@@ -20,8 +20,8 @@ use Rattle.rules.proofs.Better.{numbers, better-exact}
 use Rattle.rules.proofs.Scaling.{scaled, scaled-get, exact-scaled}
 
 pub record Finer (u c : ℕ) (xs ys vs : List ℕ) : Type 0 where
-  pub lower-length : length xs ≡ length vs
-  pub upper-length : length ys ≡ length vs
+  pub lower_length : length xs ≡ length vs
+  pub upper_length : length ys ≡ length vs
   pub under : (i : ℕ) → c * get_or xs i 0 ≤ get_or vs i 0
   pub over : (i : ℕ) → get_or vs i 0 ≤ c * get_or ys i 0
   pub near : (i : ℕ) → get_or ys i 0 ≤ get_or xs i 0 + 1
@@ -29,7 +29,7 @@ pub record Finer (u c : ℕ) (xs ys vs : List ℕ) : Type 0 where
 
 module _ {u c : ℕ} {xs ys vs : List ℕ} (some : 0 < c) (f : Finer u c xs ys vs) where
   in_order : NoLower xs ys
-  in_order = record { same_length = f.lower-length ∙ sym f.upper-length; no_lower = λ i. le_of_mul-le-mul_left (le_trans (f.under i) (f.over i)) some }
+  in_order = record { same_length = f.lower_length ∙ sym f.upper_length; no_lower = λ i. le_of_mul-le-mul_left (le_trans (f.under i) (f.over i)) some }
 
   -- the exact sum of each list, in the finer unit, beside that of the finer numbers
   module _ (rule : Rule) (beside : List ℕ) (kind : rising rule.kind ≡ true) (range : in_range rule (length vs) beside ≡ true) where
@@ -37,12 +37,12 @@ module _ {u c : ℕ} {xs ys vs : List ℕ} (some : 0 < c) (f : Finer u c xs ys v
     finer-low =
         rw (← (exact-scaled c u rule xs beside))
         (better-exact (c * u) (scaled c xs) vs beside
-        (record { same_length = length-map xs (λ x. c * x) ∙ f.lower-length; no_lower = λ i. rw (scaled-get c xs i) (f.under i) })
+        (record { same_length = length-map xs (λ x. c * x) ∙ f.lower_length; no_lower = λ i. rw (scaled-get c xs i) (f.under i) })
         (λ i. le_trans (f.over i) (mul-le-mul_left c (f.small i))) rule kind range)
 
     pub finer-high : exact (c * u) rule vs beside ≤ c ^ length ys * exact u rule ys beside
     finer-high =
-        let same : length vs ≡ length (scaled c ys) = sym (length-map ys (λ x. c * x) ∙ f.upper-length) in
+        let same : length vs ≡ length (scaled c ys) = sym (length-map ys (λ x. c * x) ∙ f.upper_length) in
         rw (← (exact-scaled c u rule ys beside))
         (better-exact (c * u) vs (scaled c ys) beside
         (record { same_length = same; no_lower = λ i. rw (scaled-get c ys i) (f.over i) })
@@ -50,7 +50,7 @@ module _ {u c : ℕ} {xs ys vs : List ℕ} (some : 0 < c) (f : Finer u c xs ys v
 
   pub finer-width : (rule : Rule) (beside : List ℕ) → 0 < u → 0 < length vs → high u rule ys beside - low u rule xs beside ≤ 2 * length vs - 1
   finer-width rule beside pos fans =
-      rw (f.lower-length, f.upper-length)
+      rw (f.lower_length, f.upper_length)
       (near-width (machine rule beside) u pos (number_of xs) (number_of ys) (length vs) fans (λ i l. below-unit ys f.small i)
       (λ i l. numbers xs ys in_order i) (λ i l. one_more i) _)
     where

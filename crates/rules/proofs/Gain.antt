@@ -16,15 +16,15 @@ use lib.Signed.{◌≤ℤ◌}
 use borrow.Author.Tests.{ltb-false, lt-ltb, not-false}
 use Rattle.rules.specs.declared.Worth.TheVariants.{Ends}
 use Rattle.rules.specs.State.{number_of, failure}
-use Rattle.rules.specs.Figure.{exactIf}
-use Rattle.rules.specs.Boards.{worksBehind}
+use Rattle.rules.specs.Figure.{exact_if}
+use Rattle.rules.specs.Boards.{works_behind}
 use Rattle.rules.specs.Stretch.{stretch}
-use Rattle.rules.specs.Asked.{Asked, questionIn, asked_of, unitIn, length_of, parts_of, part_of, size_of, read_of, boardsOf, switchboardsOf, boardCount, roundedOf, exactOf}
-use Rattle.rules.specs.Refusal.{numbersAbove, ratingRefusal, figuresRefusal}
-use Rattle.rules.specs.Answer.{figuresOf}
-use Rattle.rules.specs.Worth.{swapped, working, failing, badFan}
+use Rattle.rules.specs.Asked.{Asked, question_in, asked_of, unit_in, length_of, parts_of, part_of, size_of, read_of, boards_of, switchboards_of, board_count, rounded_of, exact_of}
+use Rattle.rules.specs.Refusal.{numbers_above, rating_refusal, figures_refusal}
+use Rattle.rules.specs.Answer.{figures_of}
+use Rattle.rules.specs.Worth.{swapped, working, failing, bad_fan}
 use Rattle.rules.specs.Better.{NoLower, rising}
-use Rattle.rules.specs.Gain.{own_of, gainLower, gainUpper, spareAbove, gainRefusal, gainOf, GainBetween}
+use Rattle.rules.specs.Gain.{own_of, gain_lower, gain_upper, spare_above, gain_refusal, gain_of, GainBetween}
 use Rattle.rules.proofs.Split.{exact-halves, exact-numbers}
 use Rattle.rules.proofs.Units.{unit-some}
 use Rattle.rules.proofs.Unless.{unless-none, after_none}
@@ -38,8 +38,8 @@ use Rattle.rules.proofs.Better.{set-better, stretch-better, better-exact-behind}
 -- ---- refusals: P is not above the unit, and the figures are not refused
 
 -- 4 not given for P or for the lists
-four-less : (above : Bool) (q : Asked) (table : List ℕ) → ratingRefusal (above || numbersAbove q) q table ≡ 0 → (above ≡ false) × (figuresRefusal q table ≡ 0)
-unfolding figuresRefusal
+four-less : (above : Bool) (q : Asked) (table : List ℕ) → rating_refusal (above || numbers_above q) q table ≡ 0 → (above ≡ false) × (figures_refusal q table ≡ 0)
+unfolding figures_refusal
 four-less false q table e = (refl, e)
 four-less true q table e =
     let i = none_first 10 _ _ e in
@@ -50,44 +50,44 @@ four-less true q table e =
     let p = none_first 20 _ _ g.1 in
     absurd (true≢false (none_first 3 _ _ p.1).0)
 
-module _ (q : Asked) (p : ℕ) (table : List ℕ) (none : ratingRefusal (spareAbove q p) q table ≡ 0) where
-  pub rating-accepted : figuresRefusal q table ≡ 0
-  rating-accepted = (four-less (ltb (unitIn q) p) q table none).1
+module _ (q : Asked) (p : ℕ) (table : List ℕ) (none : rating_refusal (spare_above q p) q table ≡ 0) where
+  pub rating-accepted : figures_refusal q table ≡ 0
+  rating-accepted = (four-less (ltb (unit_in q) p) q table none).1
 
-  pub rating-small : p ≤ unitIn q
-  rating-small = ltb-false (unitIn q) p (four-less (ltb (unitIn q) p) q table none).0
+  pub rating-small : p ≤ unit_in q
+  rating-small = ltb-false (unit_in q) p (four-less (ltb (unit_in q) p) q table none).0
 
-module _ (q : Asked) (fan p : ℕ) (table : List ℕ) (none : gainRefusal q fan p table ≡ 0) where
-  pub gain-accepted : figuresRefusal q table ≡ 0
+module _ (q : Asked) (fan p : ℕ) (table : List ℕ) (none : gain_refusal q fan p table ≡ 0) where
+  pub gain-accepted : figures_refusal q table ≡ 0
   gain-accepted = rating-accepted q p table (after_first _ _ none)
 
-  pub gain-small : p ≤ unitIn q
+  pub gain-small : p ≤ unit_in q
   gain-small = rating-small q p table (after_first _ _ none)
 
-  pub gain-chosen : badFan q fan ≡ false
-  gain-chosen = chosen-fan (badFan q fan) (sym (after_none _ _ (after_first _ _ none)) ∙ none)
+  pub gain-chosen : bad_fan q fan ≡ false
+  gain-chosen = chosen-fan (bad_fan q fan) (sym (after_none _ _ (after_first _ _ none)) ∙ none)
 
 -- ---- the ends
 
 module _ (q : Asked) (table : List ℕ) where
-  pub figures-within : figuresRefusal q table ≡ 0 → (up : Bool) → roundedOf up q ≤ unitIn q
+  pub figures-within : figures_refusal q table ≡ 0 → (up : Bool) → rounded_of up q ≤ unit_in q
   figures-within none =
-      behind-within (unitIn q) (unit-some q.version) q.rule (part_of q) (read_of q) (boardsOf q) (switchboardsOf q) (figures-ratable q table none).2.units
+      behind-within (unit_in q) (unit-some q.version) q.rule (part_of q) (read_of q) (boards_of q) (switchboards_of q) (figures-ratable q table none).2.units
       (figures-boarded q table none).1.units
 
   module _ (fan p : ℕ) where
-    swap-between : figuresRefusal q table ≡ 0 → p ≤ unitIn q → GainBetween q fan p (gainLower q fan p) (gainUpper q fan p)
-    unfolding figuresOf
+    swap-between : figures_refusal q table ≡ 0 → p ≤ unit_in q → GainBetween q fan p (gain_lower q fan p) (gain_upper q fan p)
+    unfolding figures_of
     swap-between none small =
         let after = swapped-within q table fan p none small in
         let before = figures-within none in
         let inside = in-stretch q.a q.b (length_of q) (figures-ratable q table none).0 in
-        between (unitIn q) (parts_of q) _ _ _ _ _ _ (omega arith) (swapped-third q table fan p none small) (figures-third q table _ _ (unless-none _ _ _ none))
+        between (unit_in q) (parts_of q) _ _ _ _ _ _ (omega arith) (swapped-third q table fan p none small) (figures-third q table _ _ (unless-none _ _ _ none))
         (after false) (after true) (before false) (before true)
 
     -- of every gain that is answered
-    pub gain-between : (l h : ℤ) → gainOf q fan p table ≡ Ends l h → GainBetween q fan p l h
-    unfolding gainOf
+    pub gain-between : (l h : ℤ) → gain_of q fan p table ≡ Ends l h → GainBetween q fan p l h
+    unfolding gain_of
     gain-between l h e =
         let v = (weighs (Ends l h) _ _ _).1 (sym e) in
         rw (v.1, v.2) (swap-between (gain-accepted q fan p table v.0) (gain-small q fan p table v.0))
@@ -96,7 +96,7 @@ module _ (q : Asked) (table : List ℕ) where
 
 -- a fan swapped for its like
 pub own-swapped : (q : Asked) (fan : ℕ) → swapped fan (own_of q fan) q ≡ q
-own-swapped q fan = ap (λ xs. asked_of (questionIn q) xs q.weights q.more q.boards q.switchboards) (set-get_or q.survival (fan - 1) 0)
+own-swapped q fan = ap (λ xs. asked_of (question_in q) xs q.weights q.more q.boards q.switchboards) (set-get_or q.survival (fan - 1) 0)
 
 top-mixed : (u x y a b : ℕ) → (x * a + y * b) * u ≡ x * (u * a + 0 * b) + y * (0 * a + u * b)
 top-mixed u x y a b = omega arith
@@ -119,11 +119,11 @@ module _ (u x j : ℕ) (xs : List ℕ) (inside : j < length xs) where
   elsewhere y y' i other = get_or-set_other xs j i y 0 other ∙ sym (get_or-set_other xs j i y' 0 other)
 
   -- what any test adds up to with x there, by what it does with the unit there and with 0
-  exact-mixed : (n : ℕ) (t : ℕ → Bool) → j < n → exactIf t u (at x) n * u ≡ x * exactIf t u (at u) n + failure u x * exactIf t u (at 0) n
+  exact-mixed : (n : ℕ) (t : ℕ → Bool) → j < n → exact_if t u (at x) n * u ≡ x * exact_if t u (at u) n + failure u x * exact_if t u (at 0) n
   exact-mixed zero t l = absurd (omega arith)
   exact-mixed (suc n) t l = elim (ℕ_discrete n j) [
     | yes e ↦
-        let same : (y : ℕ) (t : ℕ → Bool) → exactIf t u (at y) n ≡ exactIf t u (at x) n
+        let same : (y : ℕ) (t : ℕ → Bool) → exact_if t u (at y) n ≡ exact_if t u (at x) n
         = λ y t. exact-numbers t u (at y) (at x) n (λ i m. elsewhere y x i (λ f. omega arith)) in
         let value : (y : ℕ) → at y (suc n) ≡ y = λ y. ap (λ i. at y (suc i)) e ∙ there y in
         let none : failure u u ≡ 0 = omega arith in
@@ -139,7 +139,7 @@ module _ (u x j : ℕ) (xs : List ℕ) (inside : j < length xs) where
 
 -- ---- of a stretch
 
-module _ (q : Asked) (table : List ℕ) (fan : ℕ) (none : figuresRefusal q table ≡ 0) (in-it : badFan q fan ≡ false) where
+module _ (q : Asked) (table : List ℕ) (fan : ℕ) (none : figures_refusal q table ≡ 0) (in-it : bad_fan q fan ≡ false) where
   inside : (1 ≤ q.a) × (q.a ≤ fan) × (fan ≤ q.b) × (q.b ≤ length_of q)
   inside =
       let h = in-stretch q.a q.b (length_of q) (figures-ratable q table none).0 in
@@ -157,51 +157,51 @@ module _ (q : Asked) (table : List ℕ) (fan : ℕ) (none : figuresRefusal q tab
   in-part = omega (arith, inside, stretch-length q.a q.b q.survival (figures-ratable q table none).0)
 
   exact-swapped : (p : ℕ)
-      → exactOf (swapped fan p q)
-      ≡ exactIf (worksBehind q.rule (length (part_of q)) (read_of q) (boardsOf q)) (unitIn q) (number_of (set (part_of q ++ switchboardsOf q) (fan - q.a) p)) (length (part_of q) + boardCount q)
+      → exact_of (swapped fan p q)
+      ≡ exact_if (works_behind q.rule (length (part_of q)) (read_of q) (boards_of q)) (unit_in q) (number_of (set (part_of q ++ switchboards_of q) (fan - q.a) p)) (length (part_of q) + board_count q)
   exact-swapped p =
-      rw (part-swapped p, length-set (part_of q) (fan - q.a) p, set-append_left (part_of q) (switchboardsOf q) (fan - q.a) p in-part)
+      rw (part-swapped p, length-set (part_of q) (fan - q.a) p, set-append_left (part_of q) (switchboards_of q) (fan - q.a) p in-part)
 
   -- E times the unit, by E with the fan sure to work and with it sure to fail
-  pub swapped-mixed : (p : ℕ) → exactOf (swapped fan p q) * unitIn q ≡ p * exactOf (working fan q) + failure (unitIn q) p * exactOf (failing fan q)
+  pub swapped-mixed : (p : ℕ) → exact_of (swapped fan p q) * unit_in q ≡ p * exact_of (working fan q) + failure (unit_in q) p * exact_of (failing fan q)
   swapped-mixed p =
-      rw (exact-swapped p, exact-swapped (unitIn q), exact-swapped 0)
-      (exact-mixed (unitIn q) p (fan - q.a) (part_of q ++ switchboardsOf q) (omega (arith, in-part, length-append (part_of q) (switchboardsOf q)))
-      (length (part_of q) + boardCount q) _ (omega (arith, in-part)))
+      rw (exact-swapped p, exact-swapped (unit_in q), exact-swapped 0)
+      (exact-mixed (unit_in q) p (fan - q.a) (part_of q ++ switchboards_of q) (omega (arith, in-part, length-append (part_of q) (switchboards_of q)))
+      (length (part_of q) + board_count q) _ (omega (arith, in-part)))
 
   -- the fan's own number is one of the stretch's
-  own-small : own_of q fan ≤ unitIn q
+  own-small : own_of q fan ≤ unit_in q
   own-small =
       let e : q.a - 1 + (fan - q.a) ≡ fan - 1 = omega (arith, inside) in
       let l : ltb (fan - q.a) (size_of q) ≡ true = lt-ltb (fan - q.a) (size_of q) (omega (arith, inside)) in
       rw (stretch-get q.a q.b q.survival (fan - q.a), l, e) at ((figures-ratable q table none).2.units (fan - q.a))
 
   -- the exact gain of a sure spare is the exact worth times the fan's own failure number over the unit
-  pub sure-gain : sub_ℕ (exactOf (working fan q)) (exactOf q) *ℤ pos (unitIn q) ≡ sub_ℕ (exactOf (working fan q)) (exactOf (failing fan q)) *ℤ pos (failure (unitIn q) (own_of q fan))
+  pub sure-gain : sub_ℕ (exact_of (working fan q)) (exact_of q) *ℤ pos (unit_in q) ≡ sub_ℕ (exact_of (working fan q)) (exact_of (failing fan q)) *ℤ pos (failure (unit_in q) (own_of q fan))
   sure-gain =
-      let w = exactOf (working fan q) in
-      let f = exactOf (failing fan q) in
+      let w = exact_of (working fan q) in
+      let f = exact_of (failing fan q) in
       let own = own_of q fan in
-      let d = failure (unitIn q) own in
-      let whole : unitIn q ≡ own + d = omega (arith, own-small) in
-      let mixed : exactOf q * unitIn q ≡ own * w + d * f = sym (ap (λ r. exactOf r * unitIn q) (own-swapped q fan)) ∙ swapped-mixed own in
-      less-times w (exactOf q) (unitIn q) ∙ less-same (w * unitIn q) (exactOf q * unitIn q) (w * d) (f * d) (omega (arith, mixed, ap (λ v. w * v) whole)) ∙ sym (less-times w f d)
+      let d = failure (unit_in q) own in
+      let whole : unit_in q ≡ own + d = omega (arith, own-small) in
+      let mixed : exact_of q * unit_in q ≡ own * w + d * f = sym (ap (λ r. exact_of r * unit_in q) (own-swapped q fan)) ∙ swapped-mixed own in
+      less-times w (exact_of q) (unit_in q) ∙ less-same (w * unit_in q) (exact_of q * unit_in q) (w * d) (f * d) (omega (arith, mixed, ap (λ v. w * v) whole)) ∙ sym (less-times w f d)
 
   -- where no better list is spoilt, a spare that is not below the fan's own number takes nothing away
-  pub exact-rising : (p : ℕ) → rising q.rule.kind ≡ true → own_of q fan ≤ p → p ≤ unitIn q → exactOf q ≤ exactOf (swapped fan p q)
+  pub exact-rising : (p : ℕ) → rising q.rule.kind ≡ true → own_of q fan ≤ p → p ≤ unit_in q → exact_of q ≤ exact_of (swapped fan p q)
   exact-rising p kind not-below small =
       let part = swapped-units q table fan p none small in
       let better : NoLower (part_of q) (part_of (swapped fan p q)) = rw (set-get_or q.survival (fan - 1) 0) at (stretch-better q.a q.b (set-better q.survival (fan - 1) (own_of q fan) p not-below)) in
-      better-exact-behind (unitIn q) q.rule (part_of q) (part_of (swapped fan p q)) (read_of q) (boardsOf q) (switchboardsOf q) kind better part
+      better-exact-behind (unit_in q) q.rule (part_of q) (part_of (swapped fan p q)) (read_of q) (boards_of q) (switchboards_of q) kind better part
       (rw (← better.same_length) (figures-ratable q table none).2.accepted.in-range)
 
 -- and so it is of every gain that is answered: the exact gain is not negative
-pub gain-rising : (q : Asked) (table : List ℕ) (fan p : ℕ) (l h : ℤ) → rising q.rule.kind ≡ true → own_of q fan ≤ p → gainOf q fan p table ≡ Ends l h
-    → pos 0 ≤ℤ sub_ℕ (exactOf (swapped fan p q)) (exactOf q)
-unfolding gainOf
+pub gain-rising : (q : Asked) (table : List ℕ) (fan p : ℕ) (l h : ℤ) → rising q.rule.kind ≡ true → own_of q fan ≤ p → gain_of q fan p table ≡ Ends l h
+    → pos 0 ≤ℤ sub_ℕ (exact_of (swapped fan p q)) (exact_of q)
+unfolding gain_of
 gain-rising q table fan p l h kind not-below e =
     let v = (weighs (Ends l h) _ _ _).1 (sym e) in
     let none = gain-accepted q fan p table v.0 in
     let in-it = gain-chosen q fan p table v.0 in
     rw (← (less_none 0))
-    (less-le 0 0 (exactOf (swapped fan p q)) (exactOf q) (omega (arith, exact-rising q table fan none in-it p kind not-below (gain-small q fan p table v.0))))
+    (less-le 0 0 (exact_of (swapped fan p q)) (exact_of q) (omega (arith, exact-rising q table fan none in-it p kind not-below (gain-small q fan p table v.0))))

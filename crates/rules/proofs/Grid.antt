@@ -11,7 +11,7 @@ use lib.Pow.{pow_pos, pow-add}
 use borrow.Author.Tests.{eqb-true, eq-eqb, ne_eqb, leb-true}
 use Rattle.rules.specs.State.{S}
 use Rattle.rules.specs.Figure.{rounded}
-use Rattle.rules.specs.Doubles.{parts, sign, own, notANumber, isChance, whole_of, onGrid}
+use Rattle.rules.specs.Doubles.{parts, sign, own, not_aNumber, is_chance, whole_of, on_grid}
 use Rattle.rules.proofs.Tests.{both}
 use Rattle.rules.proofs.Rounding.{down_le, le_up, whole}
 
@@ -91,31 +91,31 @@ module _ (b : ℕ) where
   unfolding whole_of
   one_apart = one_more parts (own b * S) parts-pos
 
-  pub within : isChance b ≡ true → own b ≤ parts
-  unfolding isChance
-  within t = leb-true (own b) parts (both (not (notANumber b) && (not (sign b) || eqb (own b) 0)) (leb (own b) parts) t).1
+  pub within : is_chance b ≡ true → own b ≤ parts
+  unfolding is_chance
+  within t = leb-true (own b) parts (both (not (not_aNumber b) && (not (sign b) || eqb (own b) 0)) (leb (own b) parts) t).1
 
-  pub small : (up : Bool) → isChance b ≡ true → whole_of up b ≤ S
+  pub small : (up : Bool) → is_chance b ≡ true → whole_of up b ≤ S
   unfolding whole_of
   small up t = at_most up parts S (own b * S) parts-pos (le_trans (mul-le-mul_right S (within t)) (le_of_eq (mul_comm parts S)))
 
   -- "equal where nothing is lost"
-  pub equal-on-grid : (whole_of false b ≡ whole_of true b) ↔ (onGrid b ≡ true)
-  unfolding whole_of onGrid
+  pub equal-on-grid : (whole_of false b ≡ whole_of true b) ↔ (on_grid b ≡ true)
+  unfolding whole_of on_grid
   equal-on-grid = (
     λ e. eq-eqb _ 0 (lost-none parts (own b * S) parts-pos e),
     λ t. unlost-same parts (own b * S) parts-pos (eqb-true _ 0 t),
   )
 
-  pub grid-test : eqb (whole_of false b) (whole_of true b) ≡ onGrid b
-  grid-test = go (onGrid b) refl
+  pub grid-test : eqb (whole_of false b) (whole_of true b) ≡ on_grid b
+  grid-test = go (on_grid b) refl
     where
-      go : (t : Bool) → onGrid b ≡ t → eqb (whole_of false b) (whole_of true b) ≡ t
+      go : (t : Bool) → on_grid b ≡ t → eqb (whole_of false b) (whole_of true b) ≡ t
       go true e = eq-eqb _ _ (equal-on-grid.1 e)
       go false e = ne_eqb _ _ (λ same. true≢false (sym (equal-on-grid.0 same) ∙ e))
 
-  pub on-grid : (up : Bool) → onGrid b ≡ true → own b ≡ cell * whole_of up b
-  unfolding whole_of onGrid
+  pub on-grid : (up : Bool) → on_grid b ≡ true → own b ≡ cell * whole_of up b
+  unfolding whole_of on_grid
   on-grid up t =
       eq_of_mul-eq-mul_right S (omega arith) (own b) (cell * rounded up parts (own b * S))
       (unlost up parts (own b * S) parts-pos (eqb-true _ 0 t) ∙ ap (λ (z : ℕ). rounded up parts (own b * S) * z) parts_is ∙ turn (rounded up parts (own b * S)) cell)

@@ -12,7 +12,7 @@ use native.Mathlib.Decide.{dec_lt}
 use lib.Dec.{ltb}
 use borrow.Author.Tests.{ltb-true, lt-ltb}
 use Rattle.rules.specs.State.{down, window, starts}
-use Rattle.rules.specs.Verdict.{someWindow}
+use Rattle.rules.specs.Verdict.{some_window}
 use Rattle.rules.specs.Memory.{run, Memory, live, dead, moved, ended, machine_of, below, Ring, lead, pair, working5, failing5, end5, row4, row5}
 use Rattle.rules.proofs.Windows.{opposite, last, first, held_all, all_held, no-window, not-lt, at, turned}
 use Rattle.rules.proofs.Reading.{step, upto}
@@ -25,7 +25,7 @@ Past f k i t s = (a : ℕ) → a + k ≤ t + i + s → ((p : ℕ) → p < i → 
 abbrev Clear : (f : ℕ → Bool) (k n s : ℕ) → Type 0
 Clear f k n s = (a : ℕ) → a < s → ((d : ℕ) → d < k → f ((a + d) % n) ≡ true) → ⊥
 
-clear : (ring : Bool) (n k w : ℕ) → (someWindow ring n k k w ≡ false) ↔ Clear (λ p. down p w) k n (starts ring n k)
+clear : (ring : Bool) (n k w : ℕ) → (some_window ring n k k w ≡ false) ↔ Clear (λ p. down p w) k n (starts ring n k)
 clear ring n k w = Iff.trans (no-window ring n k k w) (
   λ h a l all. omega (arith, h a l, held_all (window n a w) k all),
   λ h a l. lt_of_not-le (λ g. h a l (all_held (window n a w) k g)),
@@ -100,11 +100,11 @@ module _ (n k w : ℕ) (pos : 0 < k) (fits : k ≤ n) where
       (λ u h. h i (omega arith) (λ d m. at (λ p. down p w) n _ _ refl (omega arith) ∙ more (i + d) (omega arith) (omega arith))))
       (λ e. Iff.trans (past-ok w k i t 0 pos) (opened (λ p. down p w) n k pos fits i t sum e top))
 
-  pub kind5 : run (machine_of (row5 k)) n (live (lead 0)) w ≡ not (someWindow true n k k w)
+  pub kind5 : run (machine_of (row5 k)) n (live (lead 0)) w ≡ not (some_window true n k k w)
   kind5 = opposite _ _ (lead-ok n 0 (omega arith) pos (λ p l m. absurd (omega arith))) (clear true n k w)
 
   -- the line: a ring on which a component works before the first
-  past-line : run (machine_of (row5 k)) n (live (pair 0 0)) w ≡ not (someWindow false n k k w)
+  past-line : run (machine_of (row5 k)) n (live (pair 0 0)) w ≡ not (some_window false n k k w)
   past-line = opposite _ _ (Iff.trans (past-ok w k n 0 0 pos) (line_clear (λ p. down p w) n k pos fits)) (clear false n k w)
 
 -- the line's number s beside the ring's (0, s)
@@ -137,5 +137,5 @@ module _ (k : ℕ) (pos : 0 < k) where
 pub line_row : (n k : ℕ) → 0 < k → Same (machine_of (row4 k)) (live 0) (machine_of (row5 k)) (live (pair 0 0)) n
 line_row n k pos = alike_same (alike k pos) n _ _ (both pos)
 
-pub kind4 : (n k w : ℕ) → 0 < k → k ≤ n → run (machine_of (row4 k)) n (live 0) w ≡ not (someWindow false n k k w)
+pub kind4 : (n k w : ℕ) → 0 < k → k ≤ n → run (machine_of (row4 k)) n (live 0) w ≡ not (some_window false n k k w)
 kind4 n k w pos fits = (line_row n k pos).runs w ∙ past-line n k w pos fits

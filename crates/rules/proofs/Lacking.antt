@@ -14,9 +14,9 @@ use lib.Pow.{pow_pos}
 use borrow.Author.Tests.{eqb-true, eqb-false}
 use Rattle.rules.specs.declared.Pair.{Pair}
 use Rattle.rules.specs.Below.{some}
-use Rattle.rules.specs.State.{down, heldIn}
-use Rattle.rules.specs.Memory.{run, live, dead, moved, ended, machine_of, kept, lackingLast, lackingIn, remembered, row8}
-use Rattle.rules.specs.Pairs.{tooFew, lacking, fails8, goodPair, inRange8}
+use Rattle.rules.specs.State.{down, held_in}
+use Rattle.rules.specs.Memory.{run, live, dead, moved, ended, machine_of, kept, lacking_last, lacking_in, remembered, row8}
+use Rattle.rules.specs.Pairs.{too_few, lacking, fails8, good_pair, in_range8}
 use Rattle.rules.proofs.Tests.{by-test}
 use Rattle.rules.proofs.Dead.{row-run}
 use Rattle.rules.proofs.Windows.{some-none}
@@ -46,8 +46,8 @@ same_false false true h k = absurd (true≢false (k.1 (h.0 refl)))
 same_false false false h k = refl
 
 -- only the last states are looked at, as many as the longest window has
-pub lacking-low : (ps : List Pair) (x : ℕ) → lackingIn ps (x % 2 ^ suc (kept ps)) ≡ lackingIn ps x
-unfolding lackingIn
+pub lacking-low : (ps : List Pair) (x : ℕ) → lacking_in ps (x % 2 ^ suc (kept ps)) ≡ lacking_in ps x
+unfolding lacking_in
 lacking-low ps x = any-upto _ _ (suc (kept ps)) (λ p l. rw (lowest (suc (kept ps)) p.r x l)) ps (omega arith)
 
 -- and of these the memory keeps all but the first
@@ -71,41 +71,41 @@ module _ (ps : List Pair) (w : ℕ) where
       joined x h = rw h (remembered-low ps (seen i))
 
   -- the reading from i components left on ends working exactly if at no place below i too few work
-  reads : (i : ℕ) → run (machine_of (row8 ps)) i (live (seen i % 2 ^ kept ps)) w ≡ not (some (λ a. lackingIn ps (seen a)) i)
+  reads : (i : ℕ) → run (machine_of (row8 ps)) i (live (seen i % 2 ^ kept ps)) w ≡ not (some (λ a. lacking_in ps (seen a)) i)
   unfolding run moved ended some remembered
   reads zero = refl
-  reads (suc i) = rw (next i) (go (lackingIn ps (seen i)) (reads i))
+  reads (suc i) = rw (next i) (go (lacking_in ps (seen i)) (reads i))
     where
-      go : (b : Bool) → run (machine_of (row8 ps)) i (live (seen i % 2 ^ kept ps)) w ≡ not (some (λ a. lackingIn ps (seen a)) i)
-          → run (machine_of (row8 ps)) i (cond b dead (live (seen i % 2 ^ kept ps))) w ≡ not (some (λ a. lackingIn ps (seen a)) i || b)
+      go : (b : Bool) → run (machine_of (row8 ps)) i (live (seen i % 2 ^ kept ps)) w ≡ not (some (λ a. lacking_in ps (seen a)) i)
+          → run (machine_of (row8 ps)) i (cond b dead (live (seen i % 2 ^ kept ps))) w ≡ not (some (λ a. lacking_in ps (seen a)) i || b)
       go true ih = rw (row-run (row8 ps) i w, or-true)
       go false ih = rw or-false ih
 
 -- a window for each start on the line, or one for each component: the same verdict
 module _ (p : Pair) (n w : ℕ) (one : 1 ≤ p.r) (fits : p.r ≤ n) (small : w < 2 ^ n) where
-  at-starts : ((a : ℕ) → a < n → lackingLast (w / 2 ^ a) p ≡ true → ⊥) ↔ ((a : ℕ) → a < suc n - p.r → tooFew p (heldIn n a w p.r) ≡ true → ⊥)
+  at-starts : ((a : ℕ) → a < n → lacking_last (w / 2 ^ a) p ≡ true → ⊥) ↔ ((a : ℕ) → a < suc n - p.r → too_few p (held_in n a w p.r) ≡ true → ⊥)
   at-starts = (
     λ h a l e. h a (omega arith) (rw (← window-ones n a p.r w (omega arith)) e),
     λ h a l e. part h a e (dec_lt n (a + p.r)),
   )
     where
-      part : ((a : ℕ) → a < suc n - p.r → tooFew p (heldIn n a w p.r) ≡ true → ⊥) → (a : ℕ) → lackingLast (w / 2 ^ a) p ≡ true → Dec (n < a + p.r) → ⊥
+      part : ((a : ℕ) → a < suc n - p.r → too_few p (held_in n a w p.r) ≡ true → ⊥) → (a : ℕ) → lacking_last (w / 2 ^ a) p ≡ true → Dec (n < a + p.r) → ⊥
       part h a e (yes o) =
           h (n - p.r) (omega arith)
           (too-few-more p (omega (arith, hangs n a p.r w small fits (omega arith), window-ones n (n - p.r) p.r w (omega arith))) e)
       part h a e (no o) = h a (omega arith) (rw (window-ones n a p.r w (omega arith)) e)
 
-  pair_same : some (λ a. lackingLast (w / 2 ^ a) p) n ≡ lacking n w p
+  pair_same : some (λ a. lacking_last (w / 2 ^ a) p) n ≡ lacking n w p
   pair_same =
-      same_false _ _ (Iff.trans (some-none (λ a. lackingLast (w / 2 ^ a) p) n) at-starts)
-      (some-none (λ a. tooFew p (heldIn n a w p.r)) (suc n - p.r))
+      same_false _ _ (Iff.trans (some-none (λ a. lacking_last (w / 2 ^ a) p) n) at-starts)
+      (some-none (λ a. too_few p (held_in n a w p.r)) (suc n - p.r))
 
-pub kind8 : (n : ℕ) (ps : List Pair) (w : ℕ) → inRange8 n ps ≡ true → w < 2 ^ n → run (machine_of (row8 ps)) n (live (row8 ps).start) w ≡ not (fails8 ps n w)
-unfolding fails8 lackingIn inRange8
+pub kind8 : (n : ℕ) (ps : List Pair) (w : ℕ) → in_range8 n ps ≡ true → w < 2 ^ n → run (machine_of (row8 ps)) n (live (row8 ps).start) w ≡ not (fails8 ps n w)
+unfolding fails8 lacking_in in_range8
 kind8 n ps w range small =
     let z : w / 2 ^ n % 2 ^ kept ps ≡ 0 = rw (div-eq_of_lt small) (mod-eq_of_lt (pow_pos (kept ps))) in
     let r = reads ps w n in
     (rw z at r)
     ∙ ap not
-    (exchange (λ a. lackingLast (w / 2 ^ a)) n ps
-    ∙ any_same (goodPair n) _ _ (λ p g. let h = good-pair n p g in pair_same p n w (omega (arith, h.some, h.order)) h.fits small) ps range)
+    (exchange (λ a. lacking_last (w / 2 ^ a)) n ps
+    ∙ any_same (good_pair n) _ _ (λ p g. let h = good-pair n p g in pair_same p n w (omega (arith, h.some, h.order)) h.fits small) ps range)

@@ -14,13 +14,13 @@ use borrow.Author.Tests.{lt-ltb, le-ltb, ltb-true, leb-true, leb-false, le-leb, 
 use Rattle.rules.specs.declared.Rule.{Rule}
 use Rattle.rules.specs.declared.Pair.{Pair}
 use Rattle.rules.specs.Below.{some, first, row_of}
-use Rattle.rules.specs.State.{heldIn, starts, ruleOf}
-use Rattle.rules.specs.Verdict.{someWindow, twoNear, fails, firstWindow, firstNear, place_of}
+use Rattle.rules.specs.State.{held_in, starts, rule_of}
+use Rattle.rules.specs.Verdict.{some_window, two_near, fails, first_window, first_near, place_of}
 use Rattle.rules.proofs.Tests.{neither, both}
 use Rattle.rules.proofs.Windows.{some-none, some-found}
 use Rattle.rules.proofs.Apart.{near-window}
 use Rattle.rules.proofs.Pairs.{any_same, exchange, good-pair}
-use Rattle.rules.specs.Pairs.{tooFew, lacking, lackingFrom, firstLacking, fails8, goodPair, inRange8, any_of}
+use Rattle.rules.specs.Pairs.{too_few, lacking, lacking_from, first_lacking, fails8, good_pair, in_range8, any_of}
 
 module _ (p : ℕ → Bool) where
   pub nowhere-yet : some p 0 ≡ false
@@ -73,15 +73,15 @@ pub record Lowest (ring : Bool) (n width need w p : ℕ) : Type 0 where
   pub a : ℕ
   pub counted : p ≡ suc a
   pub start : a < starts ring n width
-  pub holds : need ≤ heldIn n a w width
-  pub lower : (b : ℕ) → b < a → heldIn n b w width < need
+  pub holds : need ≤ held_in n a w width
+  pub lower : (b : ℕ) → b < a → held_in n b w width < need
 
 module _ (ring : Bool) (n width need w : ℕ) where
   abbrev failing : ℕ → Bool
-  failing a = leb need (heldIn n a w width)
+  failing a = leb need (held_in n a w width)
 
-  pub window-lowest : someWindow ring n width need w ≡ true → Lowest ring n width need w (firstWindow ring n width need w)
-  unfolding someWindow firstWindow
+  pub window-lowest : some_window ring n width need w ≡ true → Lowest ring n width need w (first_window ring n width need w)
+  unfolding some_window first_window
   window-lowest e =
       let f = first_found failing (starts ring n width) e in
       record {
@@ -92,16 +92,16 @@ module _ (ring : Bool) (n width need w : ℕ) where
         lower = λ b l. lt_of_not-le (λ h. (some-none failing _).0 f.lowest b l (le-leb _ _ h));
       }
 
-  pub lowest-window : (p : ℕ) → Lowest ring n width need w p → someWindow ring n width need w ≡ true
-  unfolding someWindow
+  pub lowest-window : (p : ℕ) → Lowest ring n width need w p → some_window ring n width need w ≡ true
+  unfolding some_window
   lowest-window p h = some-found failing (starts ring n width) h.a h.start (le-leb _ _ h.holds)
 
 -- kind 6: a window that fits the line
-pub near_first : (n r w : ℕ) → twoNear n r w ≡ true → firstWindow false n (min r n) 2 w ≡ firstNear n r w
-unfolding firstNear
+pub near_first : (n r w : ℕ) → two_near n r w ≡ true → first_window false n (min r n) 2 w ≡ first_near n r w
+unfolding first_near
 near_first n r w e = go (leb n r) refl
   where
-    go : (b : Bool) → leb n r ≡ b → firstWindow false n (min r n) 2 w ≡ cond b 1 (firstWindow false n r 2 w)
+    go : (b : Bool) → leb n r ≡ b → first_window false n (min r n) 2 w ≡ cond b 1 (first_window false n r 2 w)
     go true l =
         let long = leb-true n r l in
         let h = window-lowest false n (min r n) 2 w (sym (near-window n r w) ∙ e) in
@@ -109,7 +109,7 @@ near_first n r w e = go (leb n r) refl
     go false l =
         let short = leb-false n r l in
         let fits : min r n ≡ r = omega arith in
-        ap (λ width. firstWindow false n width 2 w) fits
+        ap (λ width. first_window false n width 2 w) fits
 
 -- the windows of a rule of kinds 4 to 7
 pub record Windows : Type 0 where
@@ -120,8 +120,8 @@ pub record Windows : Type 0 where
 abbrev of : (ring : Bool) (width need : ℕ) → Windows
 of ring width need = record { ring = ring; width = width; need = need }
 
-unfoldable pub windowsOf : Rule → (n : ℕ) → Windows
-windowsOf rule n =
+unfoldable pub windows_of : Rule → (n : ℕ) → Windows
+windows_of rule n =
     let first = rule.first in
     let second = rule.second in
     let none = of false 0 0 in
@@ -134,14 +134,14 @@ LowestOf v n w p = Lowest v.ring n v.width v.need w p
 module _ (n : ℕ) (weights : List ℕ) (w first second : ℕ) where
   abbrev Right : ℕ → Type 0
   Right kind =
-      let rule = ruleOf kind first second in
-      (fails rule n weights w ≡ true) ↔ LowestOf (windowsOf rule n) n w (place_of rule n weights w)
+      let rule = rule_of kind first second in
+      (fails rule n weights w ≡ true) ↔ LowestOf (windows_of rule n) n w (place_of rule n weights w)
 
-  exactly : (ring : Bool) (width need : ℕ) → (someWindow ring n width need w ≡ true) ↔ Lowest ring n width need w (firstWindow ring n width need w)
+  exactly : (ring : Bool) (width need : ℕ) → (some_window ring n width need w ≡ true) ↔ Lowest ring n width need w (first_window ring n width need w)
   exactly ring width need = (window-lowest ring n width need w, lowest-window ring n width need w _)
 
   by_kind : (kind : ℕ) → 4 ≤ kind → kind ≤ 7 → Right kind
-  unfolding fails windowsOf place_of
+  unfolding fails windows_of place_of
   by_kind zero l h = absurd (omega arith)
   by_kind (suc zero) l h = absurd (omega arith)
   by_kind (suc (suc zero)) l h = absurd (omega arith)
@@ -156,7 +156,7 @@ module _ (n : ℕ) (weights : List ℕ) (w first second : ℕ) where
   by_kind (suc (suc (suc (suc (suc (suc (suc (suc kind)))))))) l h = absurd (omega arith)
 
 pub place-lowest : (rule : Rule) (n : ℕ) (weights : List ℕ) (w : ℕ) → 4 ≤ rule.kind → rule.kind ≤ 7
-    → (fails rule n weights w ≡ true) ↔ LowestOf (windowsOf rule n) n w (place_of rule n weights w)
+    → (fails rule n weights w ≡ true) ↔ LowestOf (windows_of rule n) n w (place_of rule n weights w)
 place-lowest rule n weights w = by_kind n weights w rule.first rule.second rule.kind
 
 -- kind 8: some pair has a failing window exactly if at some start some pair has
@@ -169,21 +169,21 @@ below-start t s n l = go (some t s) refl
         let v = both (ltb a s) (t a) h in
         (some-none t s).0 e a (ltb-true a s v.0) v.1)
 
-pub fails-from : (n w : ℕ) (ps : List Pair) → inRange8 n ps ≡ true → fails8 ps n w ≡ some (λ a. any_of (lackingFrom n w a) ps) n
-unfolding fails8 inRange8
+pub fails-from : (n w : ℕ) (ps : List Pair) → in_range8 n ps ≡ true → fails8 ps n w ≡ some (λ a. any_of (lacking_from n w a) ps) n
+unfolding fails8 in_range8
 fails-from n w ps range =
-    any_same (goodPair n) (lacking n w) (λ p. some (λ a. lackingFrom n w a p) n)
-    (λ p g. sym (below-start (λ a. tooFew p (heldIn n a w p.r)) (starts false n p.r) n (omega (arith, (good-pair n p g).some, (good-pair n p g).order)))) ps range
-    ∙ sym (exchange (lackingFrom n w) n ps)
+    any_same (good_pair n) (lacking n w) (λ p. some (λ a. lacking_from n w a p) n)
+    (λ p g. sym (below-start (λ a. too_few p (held_in n a w p.r)) (starts false n p.r) n (omega (arith, (good-pair n p g).some, (good-pair n p g).order)))) ps range
+    ∙ sym (exchange (lacking_from n w) n ps)
 
 -- "A failing verdict names the lowest start of any failing window"
 pub record LowestPair (n w : ℕ) (ps : List Pair) (p : ℕ) : Type 0 where
   pub a : ℕ
   pub counted : p ≡ suc a
-  pub found : Found (λ a. any_of (lackingFrom n w a) ps) n a
+  pub found : Found (λ a. any_of (lacking_from n w a) ps) n a
 
-pub pairs-lowest : (n w : ℕ) (ps : List Pair) → inRange8 n ps ≡ true → (fails8 ps n w ≡ true) ↔ LowestPair n w ps (firstLacking ps n w)
-unfolding firstLacking
+pub pairs-lowest : (n w : ℕ) (ps : List Pair) → in_range8 n ps ≡ true → (fails8 ps n w ≡ true) ↔ LowestPair n w ps (first_lacking ps n w)
+unfolding first_lacking
 pairs-lowest n w ps range = (
   λ e. record { a = _; counted = refl; found = first_found _ n (sym (fails-from n w ps range) ∙ e) },
   λ h. fails-from n w ps range ∙ some-found _ n h.a h.found.below h.found.holds,

@@ -6,14 +6,14 @@ use Prim.Native.Nat.{ℕ, zero, suc, ◌+◌, ◌*◌, ◌-◌, ◌≤◌, ◌<�
 use native.Mathlib.Omega.{arith}
 use native.Mathlib.Nat.{mul-le-mul_left, add-le-add}
 use Rattle.rules.specs.Memory.{Machine, run}
-use Rattle.rules.specs.Figure.{value, mixed, exactIf}
+use Rattle.rules.specs.Figure.{value, mixed, exact_if}
 use Rattle.rules.proofs.Split.{exact-zero, exact-split}
 use Rattle.rules.proofs.Rounding.{round_up}
 
 pub record Ordered {M : Type 0} (K : Machine M) (L : M → M → Type 0) : Type 0 where
-  pub ends-up : {m m' : M} → L m m' → le (K.ends m) (K.ends m')
-  pub worked-up : (i : ℕ) {m m' : M} → L m m' → L (K.worked i m) (K.worked i m')
-  pub failed-up : (i : ℕ) {m m' : M} → L m m' → L (K.failed i m) (K.failed i m')
+  pub ends_up : {m m' : M} → L m m' → le (K.ends m) (K.ends m')
+  pub worked_up : (i : ℕ) {m m' : M} → L m m' → L (K.worked i m) (K.worked i m')
+  pub failed_up : (i : ℕ) {m m' : M} → L m m' → L (K.failed i m) (K.failed i m')
   pub lower : (i : ℕ) (m : M) → L (K.failed i m) (K.worked i m)
 
 cond_up : (b c : Bool) (u : ℕ) → le b c → cond b u 0 ≤ cond c u 0
@@ -38,10 +38,10 @@ mix-up u p p' a b a' b' t h x y z =
 module _ {M : Type 0} (K : Machine M) (L : M → M → Type 0) (O : Ordered K L) (up : Bool) (u : ℕ) (pos : 0 < u) where
   pub value-up : (n : ℕ) (P : ℕ → ℕ) (m m' : M) → L m m' → value K up u P n m ≤ value K up u P n m'
   unfolding value
-  value-up zero P m m' r = cond_up _ _ u (O.ends-up r)
+  value-up zero P m m' r = cond_up _ _ u (O.ends_up r)
   value-up (suc i) P m m' r =
       round_up up u _ _ pos
-      (add-le-add (mul-le-mul_left _ (value-up i P _ _ (O.worked-up (suc i) r))) (mul-le-mul_left _ (value-up i P _ _ (O.failed-up (suc i) r))))
+      (add-le-add (mul-le-mul_left _ (value-up i P _ _ (O.worked_up (suc i) r))) (mul-le-mul_left _ (value-up i P _ _ (O.failed_up (suc i) r))))
 
   pub value-raise : (n : ℕ) (P P' : ℕ → ℕ) → ((i : ℕ) → i ≤ n → P' i ≤ u) → ((i : ℕ) → i ≤ n → P i ≤ P' i) → (m : M)
       → value K up u P n m ≤ value K up u P' n m
@@ -56,14 +56,14 @@ module _ {M : Type 0} (K : Machine M) (L : M → M → Type 0) (O : Ordered K L)
 
 -- the same of the exact sum
 module _ {M : Type 0} (K : Machine M) (L : M → M → Type 0) (O : Ordered K L) (u : ℕ) where
-  pub exact-up : (n : ℕ) (P : ℕ → ℕ) (m m' : M) → L m m' → exactIf (run K n m) u P n ≤ exactIf (run K n m') u P n
-  exact-up zero P m m' r = rw (exact-zero K u P m, exact-zero K u P m') (cond_up _ _ 1 (O.ends-up r))
+  pub exact-up : (n : ℕ) (P : ℕ → ℕ) (m m' : M) → L m m' → exact_if (run K n m) u P n ≤ exact_if (run K n m') u P n
+  exact-up zero P m m' r = rw (exact-zero K u P m, exact-zero K u P m') (cond_up _ _ 1 (O.ends_up r))
   exact-up (suc i) P m m' r =
       rw (exact-split K u P i m, exact-split K u P i m')
-      (add-le-add (mul-le-mul_left _ (exact-up i P _ _ (O.worked-up (suc i) r))) (mul-le-mul_left _ (exact-up i P _ _ (O.failed-up (suc i) r))))
+      (add-le-add (mul-le-mul_left _ (exact-up i P _ _ (O.worked_up (suc i) r))) (mul-le-mul_left _ (exact-up i P _ _ (O.failed_up (suc i) r))))
 
   pub exact-raise : (n : ℕ) (P P' : ℕ → ℕ) → ((i : ℕ) → i ≤ n → P' i ≤ u) → ((i : ℕ) → i ≤ n → P i ≤ P' i) → (m : M)
-      → exactIf (run K n m) u P n ≤ exactIf (run K n m) u P' n
+      → exact_if (run K n m) u P n ≤ exact_if (run K n m) u P' n
   exact-raise zero P P' t h m = rw (exact-zero K u P m, exact-zero K u P' m) (omega arith)
   exact-raise (suc i) P P' t h m =
       let s : (j : ℕ) → j ≤ i → P' j ≤ u = λ j l. t j (omega arith) in

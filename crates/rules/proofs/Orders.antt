@@ -9,7 +9,7 @@ use native.Mathlib.Nat.{add-zero}
 use lib.Dec.{ltb}
 use borrow.Author.Tests.{ltb-true, lt-ltb, leb-true, le-leb}
 use Rattle.rules.specs.declared.Pair.{Pair}
-use Rattle.rules.specs.Memory.{Memory, live, dead, Row, moved, ended, machine_of, below, row1, row4, Ring, lead, pair, working5, failing5, end5, row5, failing6, row6, working7, failing7, end7, row7, kept, lackingIn, remembered, row8}
+use Rattle.rules.specs.Memory.{Memory, live, dead, Row, moved, ended, machine_of, below, row1, row4, Ring, lead, pair, working5, failing5, end5, row5, failing6, row6, working7, failing7, end7, row7, kept, lacking_in, remembered, row8}
 use Rattle.rules.proofs.Tests.{by-test}
 use Rattle.rules.proofs.Monotone.{Ordered}
 use Rattle.rules.proofs.Fewer.{NoMore, cut, grow, lacking-more}
@@ -29,9 +29,9 @@ pub record Respects {A : Type 0} (R : Row A) (W : A → A → Type 0) : Type 0 w
 pub row-ordered : {A : Type 0} (R : Row A) (W : A → A → Type 0) → Respects R W → Ordered (machine_of R) (Worse W)
 unfolding moved ended Worse
 row-ordered {A} R W r = record {
-  ends-up = λ {m} {m'}. at-end m m';
-  worked-up = λ i {m} {m'}. on-working i m m';
-  failed-up = λ i {m} {m'}. on-failed i m m';
+  ends_up = λ {m} {m'}. at-end m m';
+  worked_up = λ i {m} {m'}. on-working i m m';
+  failed_up = λ i {m} {m'}. on-failed i m m';
   lower = lower;
 }
   where
@@ -168,9 +168,9 @@ MoreDown x y = NoMore y x
 
 remembered-worse : (ps : List Pair) (x y : ℕ) → MoreDown x y → Worse MoreDown (remembered ps x) (remembered ps y)
 unfolding Worse remembered
-remembered-worse ps x y h = go (lackingIn ps x) refl (lackingIn ps y) refl
+remembered-worse ps x y h = go (lacking_in ps x) refl (lacking_in ps y) refl
   where
-    go : (b : Bool) → lackingIn ps x ≡ b → (c : Bool) → lackingIn ps y ≡ c → Worse MoreDown (cond b dead (live (x % 2 ^ kept ps))) (cond c dead (live (y % 2 ^ kept ps)))
+    go : (b : Bool) → lacking_in ps x ≡ b → (c : Bool) → lacking_in ps y ≡ c → Worse MoreDown (cond b dead (live (x % 2 ^ kept ps))) (cond c dead (live (y % 2 ^ kept ps)))
     go true e c f = tt
     go false e true f = absurd (true≢false (sym (lacking-more h ps f) ∙ e))
     go false e false f = cut h (kept ps)

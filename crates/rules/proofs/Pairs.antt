@@ -9,7 +9,7 @@ use lib.Dec.{ltb}
 use borrow.Author.Tests.{leb-true, ltb-true, lt-ltb}
 use Rattle.rules.specs.declared.Pair.{Pair}
 use Rattle.rules.specs.Below.{some}
-use Rattle.rules.specs.Pairs.{tooFew, any_of, all_of, longestWindow, goodPair}
+use Rattle.rules.specs.Pairs.{too_few, any_of, all_of, longest_window, good_pair}
 use Rattle.rules.specs.Memory.{longest}
 use Rattle.rules.proofs.Tests.{both}
 
@@ -17,7 +17,7 @@ ltb-less : (x y k : ℕ) → y ≤ x → ltb x k ≡ true → ltb y k ≡ true
 ltb-less x y k l e = lt-ltb y k (omega (arith, ltb-true x k e))
 
 -- with more failed there are no more working
-pub too-few-more : (p : Pair) {a b : ℕ} → a ≤ b → tooFew p a ≡ true → tooFew p b ≡ true
+pub too-few-more : (p : Pair) {a b : ℕ} → a ≤ b → too_few p a ≡ true → too_few p b ≡ true
 too-few-more p {a} {b} l e = ltb-less (p.r - a) (p.r - b) _ (omega arith) e
 
 or_swap : (a b c d : Bool) → (a || b) || (c || d) ≡ (a || c) || (b || d)
@@ -73,10 +73,10 @@ any-more q s h (p ∷ ps) e = or-more (q p) (s p) (any_of q ps) (any_of s ps) (h
 pub record Good (n : ℕ) (p : Pair) : Type 0 where
   pub some : 1 ≤ p.k
   pub order : p.k ≤ p.r
-  pub short : p.r ≤ longestWindow
+  pub short : p.r ≤ longest_window
   pub fits : p.r ≤ n
 
-pub good-pair : (n : ℕ) (p : Pair) → goodPair n p ≡ true → Good n p
+pub good-pair : (n : ℕ) (p : Pair) → good_pair n p ≡ true → Good n p
 good-pair n p e =
     let a = both _ _ e in
     let k = both _ _ a.0 in

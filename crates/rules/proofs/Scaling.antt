@@ -8,7 +8,7 @@ use native.Mathlib.Nat.{pow-zero, pow-suc, mul-sub}
 use lib.ListN.{length, get_or, length-map}
 use Rattle.rules.specs.declared.Rule.{Rule}
 use Rattle.rules.specs.State.{number_of, down}
-use Rattle.rules.specs.Figure.{product, exactIf, exact}
+use Rattle.rules.specs.Figure.{product, exact_if, exact}
 use Rattle.rules.proofs.Sums.{sum-scale}
 use Rattle.rules.proofs.Split.{cond-mul}
 
@@ -37,8 +37,8 @@ product-scale c u xs (suc n) w =
     rw (scaled-number c xs (suc n), product-scale c u xs n w, pow-suc c n)
     (factor (down n w) c u (number_of xs (suc n)) (c ^ n) (product u (number_of xs) n w))
 
-exact-scale : (c : ℕ) (p : ℕ → Bool) (u : ℕ) (xs : List ℕ) (n : ℕ) → exactIf p (c * u) (number_of (scaled c xs)) n ≡ c ^ n * exactIf p u (number_of xs) n
-unfolding exactIf
+exact-scale : (c : ℕ) (p : ℕ → Bool) (u : ℕ) (xs : List ℕ) (n : ℕ) → exact_if p (c * u) (number_of (scaled c xs)) n ≡ c ^ n * exact_if p u (number_of xs) n
+unfolding exact_if
 exact-scale c p u xs n = sum-scale (2 ^ n) (c ^ n) _ _ (λ w l. rw (product-scale c u xs n w, cond-mul))
 
 pub exact-scaled : (c u : ℕ) (rule : Rule) (xs beside : List ℕ) → exact (c * u) rule (scaled c xs) beside ≡ c ^ length xs * exact u rule xs beside

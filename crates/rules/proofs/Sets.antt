@@ -13,11 +13,11 @@ use lib.ListN.{length, get_or-append}
 use lib.Pow.{pow-add}
 use lib.Seq.{get_or-append-add}
 use Rattle.rules.specs.declared.Rule.{Rule}
-use Rattle.rules.specs.Below.{sumBelow}
+use Rattle.rules.specs.Below.{sum_below}
 use Rattle.rules.specs.State.{number_of, failure, down}
 use Rattle.rules.specs.Verdict.{works}
-use Rattle.rules.specs.Figure.{product, exactIf, exact}
-use Rattle.rules.specs.Boards.{lost, behind, fansDown, worksBehind, exactBehind}
+use Rattle.rules.specs.Figure.{product, exact_if, exact}
+use Rattle.rules.specs.Boards.{lost, behind, fans_down, works_behind, exact_behind}
 use Rattle.rules.proofs.Sums.{sum-scale, sum_same, sum-split}
 use Rattle.rules.proofs.Bits.{down-low, down-high}
 use Rattle.rules.proofs.Split.{product-above, product-same, exact-halves, exact_same, exact-numbers}
@@ -25,8 +25,8 @@ use Rattle.rules.proofs.Lists.{below_length, below_get}
 use Rattle.rules.proofs.Lost.{exact-lost}
 
 -- a sum over every set of failed boards, each weighed by the product of the boards' P and Q
-unfoldable pub overSets : (u : ℕ) (switchboards : List ℕ) (f : ℕ → ℕ) → ℕ
-overSets u switchboards f = sumBelow (2 ^ length switchboards) (λ out. product u (number_of switchboards) (length switchboards) out * f out)
+unfoldable pub over_sets : (u : ℕ) (switchboards : List ℕ) (f : ℕ → ℕ) → ℕ
+over_sets u switchboards f = sum_below (2 ^ length switchboards) (λ out. product u (number_of switchboards) (length switchboards) out * f out)
 
 -- ---- E, of any test: the parts above n and those below
 
@@ -35,10 +35,10 @@ module _ (u : ℕ) (P : ℕ → ℕ) (n : ℕ) where
   upper b = P (n + b)
 
   abbrev lower : (ℕ → Bool) → ℕ → ℕ
-  lower p out = exactIf (λ w. p (out * 2 ^ n + w)) u P n
+  lower p out = exact_if (λ w. p (out * 2 ^ n + w)) u P n
 
-  exact-join : (g : ℕ) (p : ℕ → Bool) → exactIf p u P (n + g) ≡ sumBelow (2 ^ g) (λ out. product u upper g out * lower p out)
-  unfolding sumBelow product
+  exact-join : (g : ℕ) (p : ℕ → Bool) → exact_if p u P (n + g) ≡ sum_below (2 ^ g) (λ out. product u upper g out * lower p out)
+  unfolding sum_below product
   exact-join zero p =
       rw (add-zero n) (exact_same p (λ w. p (0 * 2 ^ n + w)) u P n (λ w l. ap p (omega arith)) ∙ omega arith)
   exact-join (suc g) p =
@@ -46,12 +46,12 @@ module _ (u : ℕ) (P : ℕ → ℕ) (n : ℕ) where
       let d = failure u c in
       let p' : ℕ → Bool = λ w. p (1 * 2 ^ (n + g) + w) in
       let e : n + suc g ≡ suc (n + g) = omega arith in
-      let s : sumBelow (2 ^ suc g) (λ out. product u upper (suc g) out * lower p out)
-      ≡ c * sumBelow (2 ^ g) (λ out. product u upper g out * lower p out) + d * sumBelow (2 ^ g) (λ out. product u upper g out * lower p' out) =
+      let s : sum_below (2 ^ suc g) (λ out. product u upper (suc g) out * lower p out)
+      ≡ c * sum_below (2 ^ g) (λ out. product u upper g out * lower p out) + d * sum_below (2 ^ g) (λ out. product u upper g out * lower p' out) =
       sum-split g c d _ _ _
       (λ out l. rw (down-low g out l, e) (omega arith))
       (λ out l. rw (down-high g out l, e, product-above u upper g 1 out, lower_high g p out) (omega arith)) in
-      ap (exactIf p u P) e ∙ exact-halves p u P (n + g) ∙ rw (exact-join g p, exact-join g p') (sym s)
+      ap (exact_if p u P) e ∙ exact-halves p u P (n + g) ∙ rw (exact-join g p, exact-join g p') (sym s)
     where
       lower_high : (g : ℕ) (p : ℕ → Bool) (out : ℕ) → lower p (1 * 2 ^ g + out) ≡ lower (λ w. p (1 * 2 ^ (n + g) + w)) out
       lower_high g p out = exact_same _ _ u P n (λ w l. ap p (rw (pow-add 2 n g) (omega arith)))
@@ -81,34 +81,34 @@ module _ (u : ℕ) (rule : Rule) (survival beside boards : List ℕ) (units : (i
   n = length survival
 
   -- one set of failed boards: that those fans' survival is 0 is right of E
-  exact-set : (out : ℕ) → exactIf (λ w. worksBehind rule n beside boards (out * 2 ^ n + w)) u (number_of survival) n ≡ exact u rule (behind boards out survival) beside
-  unfolding worksBehind
+  exact-set : (out : ℕ) → exact_if (λ w. works_behind rule n beside boards (out * 2 ^ n + w)) u (number_of survival) n ≡ exact u rule (behind boards out survival) beside
+  unfolding works_behind
   exact-set out =
-      exact_same _ (λ w. works rule n beside (fansDown (lost boards out) n w)) u (number_of survival) n
+      exact_same _ (λ w. works rule n beside (fans_down (lost boards out) n w)) u (number_of survival) n
       (λ w l. rw (digits_div out l, digits_mod out l))
       ∙ exact-lost (lost boards out) u (number_of survival) n (λ i l. units i) (works rule n beside)
       ∙ exact-numbers _ u _ (number_of (behind boards out survival)) n (λ i l. sym (behind-number boards out survival i l))
       ∙ rw (behind-length boards out survival)
 
   pub exact-boards : (switchboards : List ℕ)
-      → exactBehind u rule survival beside boards switchboards ≡ overSets u switchboards (λ out. exact u rule (behind boards out survival) beside)
-  unfolding overSets
+      → exact_behind u rule survival beside boards switchboards ≡ over_sets u switchboards (λ out. exact u rule (behind boards out survival) beside)
+  unfolding over_sets
   exact-boards switchboards =
       let g = length switchboards in
       let P = number_of (survival ++ switchboards) in
-      exact-join u P n g (worksBehind rule n beside boards)
+      exact-join u P n g (works_behind rule n beside boards)
       ∙ sum_same (2 ^ g) _ _
       (λ out l. rw (
         product-same u (λ b. P (n + b)) (number_of switchboards) g out (λ i l. number-second survival switchboards i),
-        exact-numbers (λ w. worksBehind rule n beside boards (out * 2 ^ n + w)) u P (number_of survival) n (number-first survival switchboards),
+        exact-numbers (λ w. works_behind rule n beside boards (out * 2 ^ n + w)) u P (number_of survival) n (number-first survival switchboards),
         exact-set out,
       ))
 
 -- ---- the sets without board 1, and those with it
 
 -- the even numbers and the odd ones
-sum-alternate : (k : ℕ) (f : ℕ → ℕ) → sumBelow (k * 2) f ≡ sumBelow k (λ out. f (out * 2)) + sumBelow k (λ out. f (out * 2 + 1))
-unfolding sumBelow
+sum-alternate : (k : ℕ) (f : ℕ → ℕ) → sum_below (k * 2) f ≡ sum_below k (λ out. f (out * 2)) + sum_below k (λ out. f (out * 2 + 1))
+unfolding sum_below
 sum-alternate zero f = refl
 sum-alternate (suc k) f =
     let e : suc k * 2 ≡ suc (suc (k * 2)) = omega arith in
@@ -137,13 +137,13 @@ product-lowest u P (suc g) out c l =
     rw (product-top u P (suc g) (out * 2 + c), product-top u (λ b. P (suc b)) g out, down-up g out c l, product-lowest u P g out c l) (omega arith)
 
 -- no boards: one set, the empty one
-pub sets-none : (u : ℕ) (f : ℕ → ℕ) → overSets u [] f ≡ f 0
-unfolding overSets sumBelow product
+pub sets-none : (u : ℕ) (f : ℕ → ℕ) → over_sets u [] f ≡ f 0
+unfolding over_sets sum_below product
 sets-none u f = omega arith
 
 pub sets_first : (u q : ℕ) (qs : List ℕ) (f : ℕ → ℕ)
-    → overSets u (q ∷ qs) f ≡ q * overSets u qs (λ out. f (out * 2)) + failure u q * overSets u qs (λ out. f (out * 2 + 1))
-unfolding overSets number_of
+    → over_sets u (q ∷ qs) f ≡ q * over_sets u qs (λ out. f (out * 2)) + failure u q * over_sets u qs (λ out. f (out * 2 + 1))
+unfolding over_sets number_of
 sets_first u q qs f =
     let g = length qs in
     let P = number_of (q ∷ qs) in

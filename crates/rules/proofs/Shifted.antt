@@ -6,7 +6,7 @@ use native.Mathlib.Nat.{mod-lt, mod-eq_of_lt}
 use native.Mathlib.Numerals.{add-one}
 use lib.Count.{ones, ones_cat}
 use lib.Pow.{pow_pos, shr-shr, shr_lt, shr_le, split, mod-pow-add, mod-mod-pow}
-use Rattle.rules.specs.State.{down, window, heldIn}
+use Rattle.rules.specs.State.{down, window, held_in}
 use Rattle.rules.proofs.Bits.{held-ones}
 use Rattle.rules.proofs.Sums.{held_same}
 
@@ -25,7 +25,7 @@ down-shift : (a d w : ℕ) → down d (w / 2 ^ a) ≡ down (a + d) w
 down-shift a d w = rw (shr-shr w a d)
 
 -- the window from component a + 1 on, on the line
-pub window-ones : (n a r w : ℕ) → a + r ≤ n → heldIn n a w r ≡ ones (w / 2 ^ a % 2 ^ r)
+pub window-ones : (n a r w : ℕ) → a + r ≤ n → held_in n a w r ≡ ones (w / 2 ^ a % 2 ^ r)
 window-ones n a r w l =
     held_same (window n a w) (λ d. down d (w / 2 ^ a)) r
     (λ d h. let m : (a + d) % n ≡ a + d = mod-eq_of_lt (omega arith) in rw m (sym (down-shift a d w)))

@@ -15,10 +15,10 @@ use Rattle.rules.specs.declared.Worth.{Worth}
 use Rattle.rules.specs.declared.Worth.TheVariants.{Ends, Refused}
 use Rattle.rules.specs.Figure.{Third}
 use Rattle.rules.specs.Stretch.{stretch}
-use Rattle.rules.specs.Asked.{Asked, unitIn, length_of, parts_of, part_of, weightsOf, read_of, boardsOf, switchboardsOf, boardCount, roundedOf, low_of, high_of, ThirdOf}
-use Rattle.rules.specs.Refusal.{after, someAbove, badWeights, badSize, badStretch, misplaced, figuresRefusal}
-use Rattle.rules.specs.Answer.{unless, figuresOf}
-use Rattle.rules.specs.Worth.{swapped, lowerOf, upperOf, Weighs, worthOf, Signed, Between, BetweenOf}
+use Rattle.rules.specs.Asked.{Asked, unit_in, length_of, parts_of, part_of, weights_of, read_of, boards_of, switchboards_of, board_count, rounded_of, low_of, high_of, ThirdOf}
+use Rattle.rules.specs.Refusal.{after, some_above, bad_weights, bad_size, bad_stretch, misplaced, figures_refusal}
+use Rattle.rules.specs.Answer.{unless, figures_of}
+use Rattle.rules.specs.Worth.{swapped, lower_of, upper_of, Weighs, worth_of, Signed, Between, BetweenOf}
 use Rattle.rules.proofs.Tests.{by-test}
 use Rattle.rules.proofs.Unless.{unless-none}
 use Rattle.rules.proofs.Answer.{given_is, none_is}
@@ -45,35 +45,35 @@ part-within u p a b j xs h s i =
 
 -- ---- a rating that is not refused, with one of its numbers replaced
 
-module _ (q : Asked) (table : List ℕ) (fan p : ℕ) (none : figuresRefusal q table ≡ 0) (small : p ≤ unitIn q) where
+module _ (q : Asked) (table : List ℕ) (fan p : ℕ) (none : figures_refusal q table ≡ 0) (small : p ≤ unit_in q) where
   swapped-length : length_of (swapped fan p q) ≡ length_of q
   swapped-length = length-set q.survival (fan - 1) p
 
-  pub swapped-units : (i : ℕ) → get_or (part_of (swapped fan p q)) i 0 ≤ unitIn q
-  swapped-units = part-within (unitIn q) p q.a q.b (fan - 1) q.survival small (figures-ratable q table none).2.units
+  pub swapped-units : (i : ℕ) → get_or (part_of (swapped fan p q)) i 0 ≤ unit_in q
+  swapped-units = part-within (unit_in q) p q.a q.b (fan - 1) q.survival small (figures-ratable q table none).2.units
 
-  swapped-refusal : figuresRefusal (swapped fan p q) table ≡ figuresRefusal q table
-  unfolding figuresRefusal
+  swapped-refusal : figures_refusal (swapped fan p q) table ≡ figures_refusal q table
+  unfolding figures_refusal
   swapped-refusal =
       first-same 11 _ _ _ _ refl (λ eleven.
       first-same 1 _ _ _ _ refl (λ one.
-      first-same 2 _ _ _ _ (ap badSize swapped-length) (λ two.
-      first-same 3 _ _ _ _ (ap (badStretch q.a q.b) swapped-length) (λ three.
+      first-same 2 _ _ _ _ (ap bad_size swapped-length) (λ two.
+      first-same 3 _ _ _ _ (ap (bad_stretch q.a q.b) swapped-length) (λ three.
       first-same 20 _ _ _ _ refl (λ twenty.
-      first-same 21 _ _ _ _ (ap (λ n. misplaced q.version n (boardCount q) q.boards (boardsOf q)) swapped-length) (λ placed.
-      first-same 4 _ _ _ _ (ap (λ b. b || someAbove (unitIn q) (switchboardsOf q)) (above-none _ _ swapped-units ∙ sym (above-none _ _ (figures-ratable q table none).2.units))) (λ four.
-      first-same 5 _ _ _ _ (ap (λ n. badWeights q.rule n q.weights (weightsOf q)) swapped-length) (λ five. refl))))))))
+      first-same 21 _ _ _ _ (ap (λ n. misplaced q.version n (board_count q) q.boards (boards_of q)) swapped-length) (λ placed.
+      first-same 4 _ _ _ _ (ap (λ b. b || some_above (unit_in q) (switchboards_of q)) (above-none _ _ swapped-units ∙ sym (above-none _ _ (figures-ratable q table none).2.units))) (λ four.
+      first-same 5 _ _ _ _ (ap (λ n. bad_weights q.rule n q.weights (weights_of q)) swapped-length) (λ five. refl))))))))
 
-  pub swapped-accepted : figuresRefusal (swapped fan p q) table ≡ 0
+  pub swapped-accepted : figures_refusal (swapped fan p q) table ≡ 0
   swapped-accepted = swapped-refusal ∙ none
 
   pub swapped-third : ThirdOf (swapped fan p q) (low_of (swapped fan p q)) (high_of (swapped fan p q))
-  unfolding figuresOf
+  unfolding figures_of
   swapped-third = figures-third (swapped fan p q) table _ _ (unless-none _ _ _ swapped-accepted)
 
-  pub swapped-within : (up : Bool) → roundedOf up (swapped fan p q) ≤ unitIn q
+  pub swapped-within : (up : Bool) → rounded_of up (swapped fan p q) ≤ unit_in q
   swapped-within =
-      behind-within (unitIn q) (unit-some q.version) q.rule (part_of (swapped fan p q)) (read_of q) (boardsOf q) (switchboardsOf q) swapped-units
+      behind-within (unit_in q) (unit-some q.version) q.rule (part_of (swapped fan p q)) (read_of q) (boards_of q) (switchboards_of q) swapped-units
       (figures-boarded q table none).1.units
 
 -- ---- the worth
@@ -98,11 +98,11 @@ pub between : (u n l₁ h₁ e₁ l₀ h₀ e₀ : ℕ) → 0 < n → Third u n 
 between u n l₁ h₁ e₁ l₀ h₀ e₀ some works fails a b c d =
     let s = u ^ (n - 1) in
     record {
-      above_lower = rw (less-times l₁ h₀ s) (less-le (l₁ * s) (h₀ * s) e₁ e₀ (omega (arith, works.above_low, fails.below-high)));
-      below-upper = rw (less-times h₁ l₀ s) (less-le e₁ e₀ (h₁ * s) (l₀ * s) (omega (arith, works.below-high, fails.above_low)));
+      above_lower = rw (less-times l₁ h₀ s) (less-le (l₁ * s) (h₀ * s) e₁ e₀ (omega (arith, works.above_low, fails.below_high)));
+      below_upper = rw (less-times h₁ l₀ s) (less-le e₁ e₀ (h₁ * s) (l₀ * s) (omega (arith, works.below_high, fails.above_low)));
       width = rw (less-less h₁ l₀ l₁ h₀, ← (less_none (2 * n - 2))) (less-le (h₁ + h₀) (l₀ + l₁) (2 * n - 2) 0 (omega (arith, works.width, fails.width)));
-      lower-signed = signed u l₁ h₀ a d;
-      upper-signed = signed u h₁ l₀ b c;
+      lower_signed = signed u l₁ h₀ a d;
+      upper_signed = signed u h₁ l₀ b c;
     }
 
 -- 17 not given
@@ -111,35 +111,35 @@ chosen-fan true e = absurd (omega arith)
 chosen-fan false e = refl
 
 module _ (q : Asked) (table : List ℕ) (fan : ℕ) where
-  pub figures-between : figuresRefusal q table ≡ 0 → BetweenOf q fan (lowerOf q fan) (upperOf q fan)
+  pub figures-between : figures_refusal q table ≡ 0 → BetweenOf q fan (lower_of q fan) (upper_of q fan)
   figures-between none =
-      let works = swapped-within q table fan (unitIn q) none (le_refl _) in
+      let works = swapped-within q table fan (unit_in q) none (le_refl _) in
       let fails = swapped-within q table fan 0 none zero-le in
       let inside = in-stretch q.a q.b (length_of q) (figures-ratable q table none).0 in
-      between (unitIn q) (parts_of q) _ _ _ _ _ _ (omega arith) (swapped-third q table fan (unitIn q) none (le_refl _)) (swapped-third q table fan 0 none zero-le)
+      between (unit_in q) (parts_of q) _ _ _ _ _ _ (omega arith) (swapped-third q table fan (unit_in q) none (le_refl _)) (swapped-third q table fan 0 none zero-le)
       (works false) (works true) (fails false) (fails true)
 
   -- of every worth that is answered
-  pub worth-between : (l h : ℤ) → worthOf q fan table ≡ Ends l h → BetweenOf q fan l h
-  unfolding worthOf
+  pub worth-between : (l h : ℤ) → worth_of q fan table ≡ Ends l h → BetweenOf q fan l h
+  unfolding worth_of
   worth-between l h e =
       let v = weighed _ l h _ e in
-      let lower-is : lowerOf q fan ≡ l = cc v.1 in
-      let upper_is : upperOf q fan ≡ h = cc v.1 in
+      let lower-is : lower_of q fan ≡ l = cc v.1 in
+      let upper_is : upper_of q fan ≡ h = cc v.1 in
       rw (← lower-is, ← upper_is) (figures-between (after_first _ _ v.0))
 
-abbrev worthBy : (refusal : ℕ) (lower upper : ℤ) → Worth
-worthBy refusal lower upper = unless refusal Refused (Ends lower upper)
+abbrev worth_by : (refusal : ℕ) (lower upper : ℤ) → Worth
+worth_by refusal lower upper = unless refusal Refused (Ends lower upper)
 
 -- the answer by its cases is the answer as one equation
-pub weighs : (r : Worth) (refusal : ℕ) (lower upper : ℤ) → Weighs r refusal lower upper ↔ (r ≡ worthBy refusal lower upper)
+pub weighs : (r : Worth) (refusal : ℕ) (lower upper : ℤ) → Weighs r refusal lower upper ↔ (r ≡ worth_by refusal lower upper)
 unfolding unless
 weighs r refusal lower upper = (to r, λ e. rw e (from refusal))
   where
-    to : (r : Worth) → Weighs r refusal lower upper → r ≡ worthBy refusal lower upper
+    to : (r : Worth) → Weighs r refusal lower upper → r ≡ worth_by refusal lower upper
     to (Ends l h) v = none_is Refused _ refusal v.0 (ap₂ Ends v.1 v.2)
     to (Refused number) v = given_is Refused _ number refusal v
 
-    from : (refusal : ℕ) → Weighs (worthBy refusal lower upper) refusal lower upper
+    from : (refusal : ℕ) → Weighs (worth_by refusal lower upper) refusal lower upper
     from zero = (refl, refl, refl)
     from (suc q) = (refl, omega arith)

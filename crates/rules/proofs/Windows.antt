@@ -8,8 +8,8 @@ use native.Mathlib.Nat.{eq-or-lt_of_le, le_of_suc-le-suc, lt_of_not-le, mod-eq_o
 use lib.Dec.{leb}
 use borrow.Author.Tests.{leb-true, le-leb}
 use Rattle.rules.specs.Below.{held, some}
-use Rattle.rules.specs.State.{heldIn, starts}
-use Rattle.rules.specs.Verdict.{someWindow}
+use Rattle.rules.specs.State.{held_in, starts}
+use Rattle.rules.specs.Verdict.{some_window}
 
 -- where one statement says that a reading works and that no window fails, the reading is the verdict
 pub opposite : (a b : Bool) {P : Type 0} → ((a ≡ true) ↔ P) → ((b ≡ false) ↔ P) → a ≡ not b
@@ -96,10 +96,10 @@ all_held p (suc k) h = go (all_held p k) (p k) refl
     go ih false q = absurd (omega (arith, held-le p k, rw q at h))
 
 pub no-window : (ring : Bool) (n width need w : ℕ)
-    → (someWindow ring n width need w ≡ false) ↔ ((a : ℕ) → a < starts ring n width → heldIn n a w width < need)
-unfolding someWindow
+    → (some_window ring n width need w ≡ false) ↔ ((a : ℕ) → a < starts ring n width → held_in n a w width < need)
+unfolding some_window
 no-window ring n width need w =
-    let s = some-none (λ a. leb need (heldIn n a w width)) (starts ring n width) in (
+    let s = some-none (λ a. leb need (held_in n a w width)) (starts ring n width) in (
       λ e a l. lt_of_not-le (λ g. s.0 e a l (le-leb _ _ g)),
       λ h. s.1 (λ a l e. omega (arith, leb-true, h a l)),
     )

@@ -8,7 +8,7 @@ use native.Mathlib.Nat.{zero-add, add-zero, add-suc, one-mul}
 use lib.Dec.{eqb, eqb-zero-suc, eqb-suc-zero, eqb-suc-suc}
 use lib.Count.{ones}
 use Rattle.rules.specs.Below.{held}
-use Rattle.rules.specs.Count.{countIf}
+use Rattle.rules.specs.Count.{count_if}
 use Rattle.rules.proofs.Sums.{held_same}
 use Rattle.rules.proofs.Bits.{ones-high}
 
@@ -33,8 +33,8 @@ held_more p q zero h = omega arith
 held_more p q (suc k) h = omega (arith, one-le (p k) (q k) (h k (omega arith)), held_more p q k (λ w l. h w (omega arith)))
 
 -- where no state works
-pub count_none : (working : ℕ → Bool) (n j : ℕ) → ((w : ℕ) → working w ≡ false) → countIf working n j ≡ 0
-unfolding countIf
+pub count_none : (working : ℕ → Bool) (n j : ℕ) → ((w : ℕ) → working w ≡ false) → count_if working n j ≡ 0
+unfolding count_if
 count_none working n j h = held_none _ (2 ^ n) (λ w l. rw (h w))
 
 -- the words of one more bit: those with the new bit clear, and those with it set
@@ -52,31 +52,31 @@ held-split n p low high l h =
     ))
 
 -- no components: one state, with none failed
-pub count-base : (working : ℕ → Bool) → countIf working 0 0 ≡ cond (working 0) 1 0
-unfolding countIf held ones
+pub count-base : (working : ℕ → Bool) → count_if working 0 0 ≡ cond (working 0) 1 0
+unfolding count_if held ones
 count-base working = rw (and-true, zero-add)
 
 -- none failed: the new component works
-pub count-zero : (working : ℕ → Bool) (n : ℕ) → countIf working (suc n) 0 ≡ countIf working n 0
-unfolding countIf
+pub count-zero : (working : ℕ → Bool) (n : ℕ) → count_if working (suc n) 0 ≡ count_if working n 0
+unfolding count_if
 count-zero working n =
     held-split n _ _ (λ w. false) (λ w h. refl) (λ w h. rw (ones-high n w h, eqb-suc-zero, and-false))
     ∙ rw (held_none (λ w. false) (2 ^ n) (λ w h. refl)) (omega arith)
 
 -- the new component works, or has failed and leaves one failed less to the others
-pub count-suc : (working : ℕ → Bool) (n j : ℕ) → countIf working (suc n) (suc j) ≡ countIf working n (suc j) + countIf (λ w. working (1 * 2 ^ n + w)) n j
-unfolding countIf
+pub count-suc : (working : ℕ → Bool) (n j : ℕ) → count_if working (suc n) (suc j) ≡ count_if working n (suc j) + count_if (λ w. working (1 * 2 ^ n + w)) n j
+unfolding count_if
 count-suc working n j = held-split n _ _ _ (λ w h. refl) (λ w h. rw (ones-high n w h, eqb-suc-suc))
 
 -- no state has more failed than there are components
-pub count-above : (working : ℕ → Bool) (n j : ℕ) → n < j → countIf working n j ≡ 0
-unfolding countIf held ones
+pub count-above : (working : ℕ → Bool) (n j : ℕ) → n < j → count_if working n j ≡ 0
+unfolding count_if held ones
 count-above working n zero h = absurd (omega arith)
 count-above working zero (suc j) h = rw (eqb-zero-suc, and-false)
 count-above working (suc n) (suc j) h =
     rw (count-suc, count-above working n (suc j) (omega arith), count-above (λ w. working (1 * 2 ^ n + w)) n j (omega arith))
 
 -- the working states are among all states
-pub count-le : (working : ℕ → Bool) (n j : ℕ) → countIf working n j ≤ countIf (λ w. true) n j
-unfolding countIf
+pub count-le : (working : ℕ → Bool) (n j : ℕ) → count_if working n j ≤ count_if (λ w. true) n j
+unfolding count_if
 count-le working n j = held_more _ _ (2 ^ n) (λ w h e. ((and-eq-true_iff (working w) (eqb (ones w) j)).0 e).1)

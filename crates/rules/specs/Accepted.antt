@@ -2,15 +2,15 @@
 use Rattle.std.specs.Prelude.{◌≡◌, true, List, ℕ, ◌≤◌, length, get_or}
 use Rattle.rules.specs.declared.Rule.{Rule}
 use Rattle.rules.specs.Below.{total}
-use Rattle.rules.specs.Refusal.{lastKind, most, heaviest, in_range, cells, mostBoards}
+use Rattle.rules.specs.Refusal.{last_kind, most, heaviest, in_range, cells, most_boards}
 
 pub record Accepted (rule : Rule) (n : ℕ) (beside : List ℕ) : Type 0 where
-  pub kind-low : 1 ≤ rule.kind
-  pub kind-high : rule.kind ≤ lastKind
+  pub kind_low : 1 ≤ rule.kind
+  pub kind_high : rule.kind ≤ last_kind
   pub size_low : 1 ≤ n
-  pub size-high : n ≤ most
-  pub weights-length : rule.kind ≡ 2 → length beside ≡ n
-  pub weights-total : rule.kind ≡ 2 → total beside ≤ heaviest
+  pub size_high : n ≤ most
+  pub weights_length : rule.kind ≡ 2 → length beside ≡ n
+  pub weights_total : rule.kind ≡ 2 → total beside ≤ heaviest
   pub in-range : in_range rule n beside ≡ true
 
 -- the column "range", kinds 1, 2, 4 and 5: first from 1 to `most`, second 0
@@ -27,7 +27,7 @@ pub record Two (first r most : ℕ) : Type 0 where
 
 -- the boards of a list that is rated: at most four, numbers within the unit, and no fan on one that there is not
 pub record Boarded (u : ℕ) (boards switchboards : List ℕ) : Type 0 where
-  pub few : length switchboards ≤ mostBoards
+  pub few : length switchboards ≤ most_boards
   pub units : (i : ℕ) → get_or switchboards i 0 ≤ u
   pub placed : (i : ℕ) → get_or boards i 0 ≤ length switchboards
 

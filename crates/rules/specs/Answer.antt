@@ -8,11 +8,11 @@ use Rattle.rules.specs.declared.Rating.{Rating}
 use Rattle.rules.specs.declared.Rating.TheVariants as rating
 use Rattle.rules.specs.declared.Counting.{Counting}
 use Rattle.rules.specs.declared.Counting.TheVariants as counting
-use Rattle.rules.specs.State.{besideOf}
+use Rattle.rules.specs.State.{beside_of}
 use Rattle.rules.specs.Verdict.{fails, place_of}
-use Rattle.rules.specs.Count.{countsOf}
+use Rattle.rules.specs.Count.{counts_of}
 use Rattle.rules.specs.Asked.{Asked, low_of, high_of}
-use Rattle.rules.specs.Refusal.{cells, verdictRefusal, countRefusal, figuresRefusal}
+use Rattle.rules.specs.Refusal.{cells, verdict_refusal, count_refusal, figures_refusal}
 
 -- the refusal where there is one, else the answer
 unfoldable pub unless : {A : Type 0} → (refusal : ℕ) (refused : ℕ → A) (answer : A) → A
@@ -42,29 +42,29 @@ abbrev pub cleared : List ℕ → List ℕ
 cleared table = replicate cells 0 ++ drop cells table
 
 -- the working table after a call
-abbrev pub tableAfter : (refusal : ℕ) → List ℕ → List ℕ
-tableAfter refusal table = unless refusal (λ r. table) (cleared table)
+abbrev pub table_after : (refusal : ℕ) → List ℕ → List ℕ
+table_after refusal table = unless refusal (λ r. table) (cleared table)
 
 -- the verdict on one state: "works, or fails with a place"
 unfoldable pub judgment : (failing : Bool) (place : ℕ) → Verdict
 judgment failing place = cond failing (verdict.Fails place) verdict.Works
 
-unfoldable pub judgedOf : Rule → (n : ℕ) (weights more : List ℕ) (w : ℕ) → Verdict
-judgedOf rule n weights more w =
-    let beside = besideOf rule weights more in
+unfoldable pub judged_of : Rule → (n : ℕ) (weights more : List ℕ) (w : ℕ) → Verdict
+judged_of rule n weights more w =
+    let beside = beside_of rule weights more in
     judgment (fails rule n beside w) (place_of rule n beside w)
 
-unfoldable pub verdictOf : Rule → (n : ℕ) (weights more : List ℕ) (w : ℕ) → Verdict
-verdictOf rule n weights more w = unless (verdictRefusal rule n weights more w) verdict.Refused (judgedOf rule n weights more w)
+unfoldable pub verdict_of : Rule → (n : ℕ) (weights more : List ℕ) (w : ℕ) → Verdict
+verdict_of rule n weights more w = unless (verdict_refusal rule n weights more w) verdict.Refused (judged_of rule n weights more w)
 
 -- the figures: of the stretch that is asked, "as a list of those components alone would"
-unfoldable pub figuresOf : Asked → (table : List ℕ) → Rating
-figuresOf q table = unless (figuresRefusal q table) rating.Refused (rating.Range (low_of q) (high_of q))
+unfoldable pub figures_of : Asked → (table : List ℕ) → Rating
+figures_of q table = unless (figures_refusal q table) rating.Refused (rating.Range (low_of q) (high_of q))
 
 -- the count table's call, and the room for the counts after it: "the count table's first n + 1 cells are written and the rest untouched"
-unfoldable pub countingOf : Rule → (n : ℕ) (weights table room : List ℕ) → Counting
-countingOf rule n weights table room =
-    unless (countRefusal rule n weights table room) counting.Refused counting.Counted
+unfoldable pub counting_of : Rule → (n : ℕ) (weights table room : List ℕ) → Counting
+counting_of rule n weights table room =
+    unless (count_refusal rule n weights table room) counting.Refused counting.Counted
 
-unfoldable pub roomAfter : (refusal : ℕ) → Rule → (n : ℕ) (weights room : List ℕ) → List ℕ
-roomAfter refusal rule n weights room = unless refusal (λ r. room) (countsOf rule n weights ++ drop (suc n) room)
+unfoldable pub room_after : (refusal : ℕ) → Rule → (n : ℕ) (weights room : List ℕ) → List ℕ
+room_after refusal rule n weights room = unless refusal (λ r. room) (counts_of rule n weights ++ drop (suc n) room)

@@ -2,9 +2,9 @@
 use Rattle.std.specs.Prelude.{Bool, false, cond, ◌||◌, ◌&&◌, List, [], ◌∷◌, ◌++◌, ℕ, zero, suc, ◌+◌, leb, get_or}
 
 -- f 0 + f 1 + .. + f (k - 1)
-unfoldable pub sumBelow : ℕ → (ℕ → ℕ) → ℕ
-sumBelow zero f = 0
-sumBelow (suc k) f = sumBelow k f + f k
+unfoldable pub sum_below : ℕ → (ℕ → ℕ) → ℕ
+sum_below zero f = 0
+sum_below (suc k) f = sum_below k f + f k
 
 -- at how many places below k does p hold?
 unfoldable pub held : (ℕ → Bool) → ℕ → ℕ
@@ -22,9 +22,9 @@ first p zero = zero
 first p (suc k) = cond (some p k) (first p k) (cond (p k) k (suc k))
 
 -- f 0, f 1, .., f (k - 1)
-unfoldable pub listBelow : {A : Type 0} → ℕ → (ℕ → A) → List A
-listBelow zero f = []
-listBelow (suc k) f = listBelow k f ++ (f k ∷ [])
+unfoldable pub list_below : {A : Type 0} → ℕ → (ℕ → A) → List A
+list_below zero f = []
+list_below (suc k) f = list_below k f ++ (f k ∷ [])
 
 -- the sum of a list
 unfoldable pub total : List ℕ → ℕ

@@ -5,13 +5,13 @@ use Rattle.rules.specs.declared.Rating.{Rating}
 use Rattle.rules.specs.declared.Rating.TheVariants.{Range, Refused}
 use Rattle.rules.specs.declared.Worth.{Worth}
 use Rattle.rules.specs.declared.Worth.TheVariants as worth
-use Rattle.rules.specs.Below.{within, listBelow}
-use Rattle.rules.specs.Boards.{hasBoards, boardsRead}
-use Rattle.rules.specs.Asked.{Asked, questionOf, asked_of}
-use Rattle.rules.specs.Refusal.{most, cells, first_of, badVersion, badSize, badBoards, misplaced}
-use Rattle.rules.specs.Answer.{unless, figuresOf}
-use Rattle.rules.specs.Worth.{worthOf}
-use Rattle.rules.specs.Gain.{gainOf}
+use Rattle.rules.specs.Below.{within, list_below}
+use Rattle.rules.specs.Boards.{has_boards, boards_read}
+use Rattle.rules.specs.Asked.{Asked, question_of, asked_of}
+use Rattle.rules.specs.Refusal.{most, cells, first_of, bad_version, bad_size, bad_boards, misplaced}
+use Rattle.rules.specs.Answer.{unless, figures_of}
+use Rattle.rules.specs.Worth.{worth_of}
+use Rattle.rules.specs.Gain.{gain_of}
 
 -- a deck: its version, which says the unit, its fans' survival numbers, weights and board numbers, its boards' survival numbers, and its systems
 pub record Deck : Type 0 where
@@ -32,11 +32,11 @@ number_at zero bytes at = 0
 number_at (suc width) bytes at = get_or bytes at 0 + 256 * number_at width bytes (suc at)
 
 -- the i-th of the numbers that stand one after the other from a place on, and the first n of them
-abbrev pub nthNumber : (width : ℕ) (bytes : List ℕ) (from i : ℕ) → ℕ
-nthNumber width bytes from i = number_at width bytes (from + width * i)
+abbrev pub nth_number : (width : ℕ) (bytes : List ℕ) (from i : ℕ) → ℕ
+nth_number width bytes from i = number_at width bytes (from + width * i)
 
-abbrev pub numbersFrom : (width : ℕ) (bytes : List ℕ) (from n : ℕ) → List ℕ
-numbersFrom width bytes from n = listBelow n (nthNumber width bytes from)
+abbrev pub numbers_from : (width : ℕ) (bytes : List ℕ) (from n : ℕ) → List ℕ
+numbers_from width bytes from n = list_below n (nth_number width bytes from)
 
 -- the numbers of a list, each in so many bytes
 unfoldable pub all_bytes : (width : ℕ) → List ℕ → List ℕ
@@ -45,273 +45,273 @@ all_bytes width (x ∷ xs) = bytes_of width x ++ all_bytes width xs
 
 -- where the header has each of its numbers: "version (2 bytes, 1)", since request 11 1 to 3, "zero (2), n (2), systems m (2)", then the three offsets; request 11:
 -- "the 28-byte header ends in g (4) and the offset of those bytes (4)"
-abbrev pub versionField : ℕ
-versionField = 0
+abbrev pub version_field : ℕ
+version_field = 0
 
-abbrev pub zeroField : ℕ
-zeroField = 2
+abbrev pub zero_field : ℕ
+zero_field = 2
 
-abbrev pub fansField : ℕ
-fansField = 4
+abbrev pub fans_field : ℕ
+fans_field = 4
 
-abbrev pub countField : ℕ
-countField = 6
+abbrev pub count_field : ℕ
+count_field = 6
 
-abbrev pub survivalField : ℕ
-survivalField = 8
+abbrev pub survival_field : ℕ
+survival_field = 8
 
-abbrev pub weightsField : ℕ
-weightsField = 12
+abbrev pub weights_field : ℕ
+weights_field = 12
 
-abbrev pub systemsField : ℕ
-systemsField = 16
+abbrev pub systems_field : ℕ
+systems_field = 16
 
-abbrev pub boardCountField : ℕ
-boardCountField = 20
+abbrev pub board_count_field : ℕ
+board_count_field = 20
 
-abbrev pub boardsField : ℕ
-boardsField = 24
+abbrev pub boards_field : ℕ
+boards_field = 24
 
 -- how long it is: that of the versions without boards is the shortest
-abbrev pub shortestHeader : ℕ
-shortestHeader = 20
+abbrev pub shortest_header : ℕ
+shortest_header = 20
 
-abbrev pub headerLength : (version : ℕ) → ℕ
-headerLength version = cond (hasBoards version) 28 shortestHeader
+abbrev pub header_length : (version : ℕ) → ℕ
+header_length version = cond (has_boards version) 28 shortest_header
 
 -- "Then P (4 bytes each), weights (2 each), systems of 10 bytes"; request 11: "a byte per fan and the boards' numbers, in that order between weights and systems
 -- (a number takes 4 bytes)"
-abbrev pub survivalBytes : ℕ
-survivalBytes = 4
+abbrev pub survival_bytes : ℕ
+survival_bytes = 4
 
-abbrev pub weightBytes : ℕ
-weightBytes = 2
+abbrev pub weight_bytes : ℕ
+weight_bytes = 2
 
-abbrev pub boardBytes : ℕ
-boardBytes = 1
+abbrev pub board_bytes : ℕ
+board_bytes = 1
 
-abbrev pub systemBytes : ℕ
-systemBytes = 10
+abbrev pub system_bytes : ℕ
+system_bytes = 10
 
 -- of how many fans a file has the board number
-abbrev pub boardFans : (version n : ℕ) → ℕ
-boardFans version n = cond (hasBoards version) n 0
+abbrev pub board_fans : (version n : ℕ) → ℕ
+board_fans version n = cond (has_boards version) n 0
 
 -- the most fans and systems that a file has
-abbrev pub mostFans : ℕ
-mostFans = most
+abbrev pub most_fans : ℕ
+most_fans = most
 
-abbrev pub mostSystems : ℕ
-mostSystems = 32
+abbrev pub most_systems : ℕ
+most_systems = 32
 
 -- "offset of survival numbers (4) = 20, of weights (4) = 20 + 4n, of systems (4) = 20 + 6n", "Length 20 + 6n + 10m exactly": each part begins where the one before it
 -- ends. g is 0 where the version has no boards.
-abbrev pub survivalOffset : (version : ℕ) → ℕ
-survivalOffset version = headerLength version
+abbrev pub survival_offset : (version : ℕ) → ℕ
+survival_offset version = header_length version
 
-abbrev pub weightsOffset : (version n : ℕ) → ℕ
-weightsOffset version n = survivalOffset version + survivalBytes * n
+abbrev pub weights_offset : (version n : ℕ) → ℕ
+weights_offset version n = survival_offset version + survival_bytes * n
 
-abbrev pub boardsOffset : (version n : ℕ) → ℕ
-boardsOffset version n = weightsOffset version n + weightBytes * n
+abbrev pub boards_offset : (version n : ℕ) → ℕ
+boards_offset version n = weights_offset version n + weight_bytes * n
 
-abbrev pub switchboardsOffset : (version n : ℕ) → ℕ
-switchboardsOffset version n = boardsOffset version n + boardBytes * boardFans version n
+abbrev pub switchboards_offset : (version n : ℕ) → ℕ
+switchboards_offset version n = boards_offset version n + board_bytes * board_fans version n
 
-abbrev pub systemsOffset : (version n g : ℕ) → ℕ
-systemsOffset version n g = switchboardsOffset version n + survivalBytes * g
+abbrev pub systems_offset : (version n g : ℕ) → ℕ
+systems_offset version n g = switchboards_offset version n + survival_bytes * g
 
-abbrev pub fileLength : (version n g m : ℕ) → ℕ
-fileLength version n g m = systemsOffset version n g + systemBytes * m
+abbrev pub file_length : (version n g m : ℕ) → ℕ
+file_length version n g m = systems_offset version n g + system_bytes * m
 
 -- the header's bytes: four numbers in two bytes each, then offsets, and g, in four each
-abbrev pub countsOf : (version n m : ℕ) → List ℕ
-countsOf version n m = version ∷ 0 ∷ n ∷ m ∷ []
+abbrev pub counts_of : (version n m : ℕ) → List ℕ
+counts_of version n m = version ∷ 0 ∷ n ∷ m ∷ []
 
-abbrev pub offsetsOf : (version n g : ℕ) → List ℕ
-offsetsOf version n g =
-    survivalOffset version ∷ weightsOffset version n ∷ systemsOffset version n g ∷ boardsRead version (g ∷ boardsOffset version n ∷ [])
+abbrev pub offsets_of : (version n g : ℕ) → List ℕ
+offsets_of version n g =
+    survival_offset version ∷ weights_offset version n ∷ systems_offset version n g ∷ boards_read version (g ∷ boards_offset version n ∷ [])
 
-unfoldable pub headerOf : (version n g m : ℕ) → List ℕ
-headerOf version n g m = all_bytes 2 (countsOf version n m) ++ all_bytes 4 (offsetsOf version n g)
+unfoldable pub header_of : (version n g m : ℕ) → List ℕ
+header_of version n g m = all_bytes 2 (counts_of version n m) ++ all_bytes 4 (offsets_of version n g)
 
 -- "kind, first, second, a, b (2 each)"
-unfoldable pub systemNumbers : List System → List ℕ
-systemNumbers [] = []
-systemNumbers (s ∷ ss) =
-    s.rule.kind ∷ s.rule.first ∷ s.rule.second ∷ s.a ∷ s.b ∷ systemNumbers ss
+unfoldable pub system_numbers : List System → List ℕ
+system_numbers [] = []
+system_numbers (s ∷ ss) =
+    s.rule.kind ∷ s.rule.first ∷ s.rule.second ∷ s.a ∷ s.b ∷ system_numbers ss
 
 -- a system by its five numbers, and the systems of a list of numbers, five each; what is left of a part system is none
-abbrev pub perSystem : ℕ
-perSystem = 5
+abbrev pub per_system : ℕ
+per_system = 5
 
-abbrev pub fiveOf : (ℕ → ℕ) → System
-fiveOf f = record { rule = record { kind = f 0; first = f 1; second = f 2 }; a = f 3; b = f 4 }
+abbrev pub five_of : (ℕ → ℕ) → System
+five_of f = record { rule = record { kind = f 0; first = f 1; second = f 2 }; a = f 3; b = f 4 }
 
-unfoldable pub systemsOf : List ℕ → List System
-systemsOf numbers = listBelow (length numbers / perSystem) (λ s. fiveOf (λ i. get_or numbers (perSystem * s + i) 0))
+unfoldable pub systems_of : List ℕ → List System
+systems_of numbers = list_below (length numbers / per_system) (λ s. five_of (λ i. get_or numbers (per_system * s + i) 0))
 
 -- the layout
-unfoldable pub fileOf : Deck → List ℕ
-fileOf d =
-    headerOf d.version (length d.survival) (length d.switchboards) (length d.systems)
-    ++ all_bytes survivalBytes d.survival
-    ++ all_bytes weightBytes d.weights
-    ++ all_bytes boardBytes d.boards
-    ++ all_bytes survivalBytes d.switchboards
-    ++ all_bytes 2 (systemNumbers d.systems)
+unfoldable pub file_of : Deck → List ℕ
+file_of d =
+    header_of d.version (length d.survival) (length d.switchboards) (length d.systems)
+    ++ all_bytes survival_bytes d.survival
+    ++ all_bytes weight_bytes d.weights
+    ++ all_bytes board_bytes d.boards
+    ++ all_bytes survival_bytes d.switchboards
+    ++ all_bytes 2 (system_numbers d.systems)
 
 -- the version, n, m and g as a file has them
-abbrev pub versionIn : List ℕ → ℕ
-versionIn bytes = number_at 2 bytes versionField
+abbrev pub version_in : List ℕ → ℕ
+version_in bytes = number_at 2 bytes version_field
 
-abbrev pub fansIn : List ℕ → ℕ
-fansIn bytes = number_at 2 bytes fansField
+abbrev pub fans_in : List ℕ → ℕ
+fans_in bytes = number_at 2 bytes fans_field
 
-abbrev pub countIn : List ℕ → ℕ
-countIn bytes = number_at 2 bytes countField
+abbrev pub count_in : List ℕ → ℕ
+count_in bytes = number_at 2 bytes count_field
 
-abbrev pub boardCountIn : List ℕ → ℕ
-boardCountIn bytes = cond (hasBoards (versionIn bytes)) (number_at 4 bytes boardCountField) 0
+abbrev pub board_count_in : List ℕ → ℕ
+board_count_in bytes = cond (has_boards (version_in bytes)) (number_at 4 bytes board_count_field) 0
 
 -- where a file ends by its own version and counts
-abbrev pub lengthIn : List ℕ → ℕ
-lengthIn bytes = fileLength (versionIn bytes) (fansIn bytes) (boardCountIn bytes) (countIn bytes)
+abbrev pub length_in : List ℕ → ℕ
+length_in bytes = file_length (version_in bytes) (fans_in bytes) (board_count_in bytes) (count_in bytes)
 
 -- reading by position: a system, the s-th of those from a place on, a file's s-th, counted from 0, and its deck
-unfoldable pub systemAt : (bytes : List ℕ) (at : ℕ) → System
-systemAt bytes at = record {
+unfoldable pub system_at : (bytes : List ℕ) (at : ℕ) → System
+system_at bytes at = record {
   rule = record { kind = number_at 2 bytes at; first = number_at 2 bytes (at + 2); second = number_at 2 bytes (at + 4) };
   a = number_at 2 bytes (at + 6);
   b = number_at 2 bytes (at + 8);
 }
 
-abbrev pub nthSystem : (bytes : List ℕ) (from s : ℕ) → System
-nthSystem bytes from s = systemAt bytes (from + systemBytes * s)
+abbrev pub nth_system : (bytes : List ℕ) (from s : ℕ) → System
+nth_system bytes from s = system_at bytes (from + system_bytes * s)
 
-abbrev pub systemIn : (bytes : List ℕ) (s : ℕ) → System
-systemIn bytes s = nthSystem bytes (systemsOffset (versionIn bytes) (fansIn bytes) (boardCountIn bytes)) s
+abbrev pub system_in : (bytes : List ℕ) (s : ℕ) → System
+system_in bytes s = nth_system bytes (systems_offset (version_in bytes) (fans_in bytes) (board_count_in bytes)) s
 
-unfoldable pub deckIn : List ℕ → Deck
-deckIn bytes =
-    let version = versionIn bytes in
-    let n = fansIn bytes in
+unfoldable pub deck_in : List ℕ → Deck
+deck_in bytes =
+    let version = version_in bytes in
+    let n = fans_in bytes in
     record {
       version = version;
-      survival = numbersFrom survivalBytes bytes (survivalOffset version) n;
-      weights = numbersFrom weightBytes bytes (weightsOffset version n) n;
-      boards = numbersFrom boardBytes bytes (boardsOffset version n) (boardFans version n);
-      switchboards = numbersFrom survivalBytes bytes (switchboardsOffset version n) (boardCountIn bytes);
-      systems = listBelow (countIn bytes) (systemIn bytes);
+      survival = numbers_from survival_bytes bytes (survival_offset version) n;
+      weights = numbers_from weight_bytes bytes (weights_offset version n) n;
+      boards = numbers_from board_bytes bytes (boards_offset version n) (board_fans version n);
+      switchboards = numbers_from survival_bytes bytes (switchboards_offset version n) (board_count_in bytes);
+      systems = list_below (count_in bytes) (system_in bytes);
     }
 
 -- 10: deck file under 20 bytes; request 11: "10 also for a version 3 file under 28 bytes"
-abbrev pub shortFile : List ℕ → Bool
-shortFile bytes = ltb (length bytes) shortestHeader
+abbrev pub short_file : List ℕ → Bool
+short_file bytes = ltb (length bytes) shortest_header
 
-abbrev pub shortHeader : List ℕ → Bool
-shortHeader bytes = ltb (length bytes) (headerLength (versionIn bytes))
+abbrev pub short_header : List ℕ → Bool
+short_header bytes = ltb (length bytes) (header_length (version_in bytes))
 
 -- 11: version not 1, since request 11 not 1..3, or the zero field not 0
-abbrev pub badStart : List ℕ → Bool
-badStart bytes = badVersion (versionIn bytes) || not (eqb (number_at 2 bytes zeroField) 0)
+abbrev pub bad_start : List ℕ → Bool
+bad_start bytes = bad_version (version_in bytes) || not (eqb (number_at 2 bytes zero_field) 0)
 
 -- 12: number of systems not 1..32
-abbrev pub badSystems : List ℕ → Bool
-badSystems bytes = not (within 1 (countIn bytes) mostSystems)
+abbrev pub bad_systems : List ℕ → Bool
+bad_systems bytes = not (within 1 (count_in bytes) most_systems)
 
 -- 13: an offset or the file's length differs from the layout; the offset of the board bytes where the version has it
-abbrev pub boardsElsewhere : List ℕ → Bool
-boardsElsewhere bytes =
-    let version = versionIn bytes in
-    hasBoards version && not (eqb (number_at 4 bytes boardsField) (boardsOffset version (fansIn bytes)))
+abbrev pub boards_elsewhere : List ℕ → Bool
+boards_elsewhere bytes =
+    let version = version_in bytes in
+    has_boards version && not (eqb (number_at 4 bytes boards_field) (boards_offset version (fans_in bytes)))
 
-abbrev pub badLayout : List ℕ → Bool
-badLayout bytes =
-    let version = versionIn bytes in
-    let n = fansIn bytes in
-    let g = boardCountIn bytes in
+abbrev pub bad_layout : List ℕ → Bool
+bad_layout bytes =
+    let version = version_in bytes in
+    let n = fans_in bytes in
+    let g = board_count_in bytes in
     not
-    (eqb (number_at 4 bytes survivalField) (survivalOffset version)
-    && eqb (number_at 4 bytes weightsField) (weightsOffset version n)
-    && eqb (number_at 4 bytes systemsField) (systemsOffset version n g)
-    && not (boardsElsewhere bytes)
-    && eqb (length bytes) (fileLength version n g (countIn bytes)))
+    (eqb (number_at 4 bytes survival_field) (survival_offset version)
+    && eqb (number_at 4 bytes weights_field) (weights_offset version n)
+    && eqb (number_at 4 bytes systems_field) (systems_offset version n g)
+    && not (boards_elsewhere bytes)
+    && eqb (length bytes) (file_length version n g (count_in bytes)))
 
 -- 20 and 21, of a file
-abbrev pub badBoardsIn : List ℕ → Bool
-badBoardsIn bytes = badBoards (versionIn bytes) (boardCountIn bytes)
+abbrev pub bad_boards_in : List ℕ → Bool
+bad_boards_in bytes = bad_boards (version_in bytes) (board_count_in bytes)
 
-abbrev pub misplacedIn : List ℕ → Bool
-misplacedIn bytes =
-    let boards = (deckIn bytes).boards in
-    misplaced (versionIn bytes) (fansIn bytes) (boardCountIn bytes) boards boards
+abbrev pub misplaced_in : List ℕ → Bool
+misplaced_in bytes =
+    let boards = (deck_in bytes).boards in
+    misplaced (version_in bytes) (fans_in bytes) (board_count_in bytes) boards boards
 
 -- "A file is checked 10, 11, 2, 12, 13"; request 11: 10 again "right after 11", 20 "after 12", 21 "after 13"
-unfoldable pub fileRefusal : List ℕ → ℕ
-fileRefusal bytes =
+unfoldable pub file_refusal : List ℕ → ℕ
+file_refusal bytes =
     first_of
-    ((10, shortFile bytes)
-    ∷ (11, badStart bytes)
-    ∷ (10, shortHeader bytes)
-    ∷ (2, badSize (fansIn bytes))
-    ∷ (12, badSystems bytes)
-    ∷ (20, badBoardsIn bytes)
-    ∷ (13, badLayout bytes)
-    ∷ (21, misplacedIn bytes)
+    ((10, short_file bytes)
+    ∷ (11, bad_start bytes)
+    ∷ (10, short_header bytes)
+    ∷ (2, bad_size (fans_in bytes))
+    ∷ (12, bad_systems bytes)
+    ∷ (20, bad_boards_in bytes)
+    ∷ (13, bad_layout bytes)
+    ∷ (21, misplaced_in bytes)
     ∷ [])
 
 -- what a system asks of its deck; request 05: "a deck file carries a single pair in first and second"
-abbrev pub askedBy : Deck → System → Asked
-askedBy d s = asked_of (questionOf d.version s.rule s.a s.b) d.survival d.weights [] d.boards d.switchboards
+abbrev pub asked_by : Deck → System → Asked
+asked_by d s = asked_of (question_of d.version s.rule s.a s.b) d.survival d.weights [] d.boards d.switchboards
 
 -- a system's own answer, over a working table that the caller brings
-unfoldable pub systemOf : Deck → System → Rating
-systemOf d s = figuresOf (askedBy d s) (replicate cells 0)
+unfoldable pub system_of : Deck → System → Rating
+system_of d s = figures_of (asked_by d s) (replicate cells 0)
 
 -- the answer of a file's system, counted from 0
 abbrev pub answer_in : List ℕ → ℕ → Rating
-answer_in bytes s = systemOf (deckIn bytes) (systemIn bytes s)
+answer_in bytes s = system_of (deck_in bytes) (system_in bytes s)
 
 -- "low times 2^32 plus high; for a refusal, (2^32 - 1) times 2^32 plus its number"
-abbrev pub halfWord : ℕ
-halfWord = 2 ^ 32
+abbrev pub half_word : ℕ
+half_word = 2 ^ 32
 
-abbrev pub packedRefusal : ℕ → ℕ
-packedRefusal number = (halfWord - 1) * halfWord + number
+abbrev pub packed_refusal : ℕ → ℕ
+packed_refusal number = (half_word - 1) * half_word + number
 
 abbrev pub packed : Rating → ℕ
-packed (Range low high) = low * halfWord + high
-packed (Refused number) = packedRefusal number
+packed (Range low high) = low * half_word + high
+packed (Refused number) = packed_refusal number
 
 -- 14: system number 0 or above the file's count
-abbrev pub badNumber : List ℕ → ℕ → Bool
-badNumber bytes s = not (within 1 s (countIn bytes))
+abbrev pub bad_number : List ℕ → ℕ → Bool
+bad_number bytes s = not (within 1 s (count_in bytes))
 
 -- "the loading computer's call then checks 14, and only then the system's own 1 and 3 to 6"
-abbrev pub numberedOf : {A : Type 0} (bytes : List ℕ) (s : ℕ) (refused : ℕ → A) (answer : A) → A
-numberedOf bytes s refused answer = unless (fileRefusal bytes) refused (cond (badNumber bytes s) (refused 14) answer)
+abbrev pub numbered_of : {A : Type 0} (bytes : List ℕ) (s : ℕ) (refused : ℕ → A) (answer : A) → A
+numbered_of bytes s refused answer = unless (file_refusal bytes) refused (cond (bad_number bytes s) (refused 14) answer)
 
-unfoldable pub loadingOf : (bytes : List ℕ) (s : ℕ) → Rating
-loadingOf bytes s = numberedOf bytes s Refused (answer_in bytes (s - 1))
+unfoldable pub loading_of : (bytes : List ℕ) (s : ℕ) → Rating
+loading_of bytes s = numbered_of bytes s Refused (answer_in bytes (s - 1))
 
 -- request 06: the worth of a fan of a file's system, counted from 0, over a working table that the caller brings
-unfoldable pub systemWorth : Deck → System → (fan : ℕ) → Worth
-systemWorth d s fan = worthOf (askedBy d s) fan (replicate cells 0)
+unfoldable pub system_worth : Deck → System → (fan : ℕ) → Worth
+system_worth d s fan = worth_of (asked_by d s) fan (replicate cells 0)
 
-abbrev pub worthIn : List ℕ → (s fan : ℕ) → Worth
-worthIn bytes s fan = systemWorth (deckIn bytes) (systemIn bytes s) fan
+abbrev pub worth_in : List ℕ → (s fan : ℕ) → Worth
+worth_in bytes s fan = system_worth (deck_in bytes) (system_in bytes s) fan
 
 -- and as the loading computer's call gives it: the file's refusal, 14, the system's own, 17
-unfoldable pub worthLoadingOf : (bytes : List ℕ) (s fan : ℕ) → Worth
-worthLoadingOf bytes s fan = numberedOf bytes s worth.Refused (worthIn bytes (s - 1) fan)
+unfoldable pub worth_loading_of : (bytes : List ℕ) (s fan : ℕ) → Worth
+worth_loading_of bytes s fan = numbered_of bytes s worth.Refused (worth_in bytes (s - 1) fan)
 
 -- the gain of a spare in the same ways
-unfoldable pub systemGain : Deck → System → (fan p : ℕ) → Worth
-systemGain d s fan p = gainOf (askedBy d s) fan p (replicate cells 0)
+unfoldable pub system_gain : Deck → System → (fan p : ℕ) → Worth
+system_gain d s fan p = gain_of (asked_by d s) fan p (replicate cells 0)
 
-abbrev pub gainIn : List ℕ → (s fan p : ℕ) → Worth
-gainIn bytes s fan p = systemGain (deckIn bytes) (systemIn bytes s) fan p
+abbrev pub gain_in : List ℕ → (s fan p : ℕ) → Worth
+gain_in bytes s fan p = system_gain (deck_in bytes) (system_in bytes s) fan p
 
-unfoldable pub gainLoadingOf : (bytes : List ℕ) (s fan p : ℕ) → Worth
-gainLoadingOf bytes s fan p = numberedOf bytes s worth.Refused (gainIn bytes (s - 1) fan p)
+unfoldable pub gain_loading_of : (bytes : List ℕ) (s fan p : ℕ) → Worth
+gain_loading_of bytes s fan p = numbered_of bytes s worth.Refused (gain_in bytes (s - 1) fan p)

@@ -5,7 +5,7 @@ use Rattle.rules.specs.declared.Pair.{Pair}
 use Rattle.rules.specs.declared.Rule.{Rule}
 use Rattle.rules.specs.Below.{within, row_of}
 use Rattle.rules.specs.State.{number_of, down}
-use Rattle.rules.specs.Pairs.{pairsOf, any_of, tooFew}
+use Rattle.rules.specs.Pairs.{pairs_of, any_of, too_few}
 
 -- A general memory: where a reading starts, what it becomes on a working and on a failed component (whose number it is told), and whether it
 -- works at the end.
@@ -137,14 +137,14 @@ abbrev pub kept : List Pair → ℕ
 kept ps = longest ps - 1
 
 -- "too few working in a window is dead": of the last states x, the one just read among them
-abbrev pub lackingLast : ℕ → Pair → Bool
-lackingLast x p = tooFew p (ones (x % 2 ^ p.r))
+abbrev pub lacking_last : ℕ → Pair → Bool
+lacking_last x p = too_few p (ones (x % 2 ^ p.r))
 
-unfoldable pub lackingIn : List Pair → ℕ → Bool
-lackingIn ps x = any_of (lackingLast x) ps
+unfoldable pub lacking_in : List Pair → ℕ → Bool
+lacking_in ps x = any_of (lacking_last x) ps
 
 unfoldable pub remembered : List Pair → ℕ → Memory ℕ
-remembered ps x = cond (lackingIn ps x) dead (live (x % 2 ^ kept ps))
+remembered ps x = cond (lacking_in ps x) dead (live (x % 2 ^ kept ps))
 
 -- row 8, of request 05: start all working; a working one read; a failed one read; works
 abbrev pub row8 : List Pair → Row ℕ
@@ -171,7 +171,7 @@ reading_of rule beside =
     ∷ reading (row5 rule.first)
     ∷ reading (row6 rule.second)
     ∷ reading (row7 rule.second)
-    ∷ reading (row8 (pairsOf rule.first rule.second beside))
+    ∷ reading (row8 (pairs_of rule.first rule.second beside))
     ∷ [])
 
 abbrev pub machine : (rule : Rule) (beside : List ℕ) → Machine (Memory (reading_of rule beside).Live)

@@ -25,13 +25,13 @@ abbrev pub failure : (u p : ℕ) → ℕ
 failure u p = u - p
 
 -- "The rule carries two numbers"
-abbrev pub ruleOf : (kind first second : ℕ) → Rule
-ruleOf kind first second = record { kind = kind; first = first; second = second }
+abbrev pub rule_of : (kind first second : ℕ) → Rule
+rule_of kind first second = record { kind = kind; first = first; second = second }
 
 -- The list that stands beside the rule and is read with it: kind 2's weights, and since request 05 kind 8's further pairs, two numbers each. No other kind
 -- reads one.
-abbrev pub besideOf : Rule → (weights more : List ℕ) → List ℕ
-besideOf rule weights more = cond (eqb rule.kind 8) more weights
+abbrev pub beside_of : Rule → (weights more : List ℕ) → List ℕ
+beside_of rule weights more = cond (eqb rule.kind 8) more weights
 
 -- "bit i - 1 is one where component i has failed": has component i + 1 failed in the state w?
 abbrev pub down : ℕ → ℕ → Bool
@@ -42,8 +42,8 @@ abbrev pub window : (n a w : ℕ) → ℕ → Bool
 window n a w d = down ((a + d) % n) w
 
 -- "a window is judged by the ones it holds"
-abbrev pub heldIn : (n a w width : ℕ) → ℕ
-heldIn n a w width = held (window n a w) width
+abbrev pub held_in : (n a w width : ℕ) → ℕ
+held_in n a w width = held (window n a w) width
 
 -- where a window may start: on the ring anywhere, on the line so that it does not run past n
 abbrev pub starts : (ring : Bool) (n width : ℕ) → ℕ

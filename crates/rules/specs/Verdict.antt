@@ -2,32 +2,32 @@
 use Rattle.std.specs.Prelude.{Bool, true, false, cond, not, ◌&&◌, List, [], ◌∷◌, ℕ, suc, ◌-◌, ltb, leb}
 use Rattle.std.specs.Int.Count.{ones}
 use Rattle.rules.specs.declared.Rule.{Rule}
-use Rattle.rules.specs.Below.{sumBelow, some, first, within, row_of}
-use Rattle.rules.specs.State.{number_of, down, heldIn, starts}
-use Rattle.rules.specs.Pairs.{pairsOf, fails8, firstLacking}
+use Rattle.rules.specs.Below.{sum_below, some, first, within, row_of}
+use Rattle.rules.specs.State.{number_of, down, held_in, starts}
+use Rattle.rules.specs.Pairs.{pairs_of, fails8, first_lacking}
 
 -- row 1: at least k components have failed
 abbrev pub fails1 : (k w : ℕ) → Bool
 fails1 k w = leb k (ones w)
 
 -- row 2: the failed components' weights add up to k or more
-unfoldable pub weightDown : (n : ℕ) (weights : List ℕ) (w : ℕ) → ℕ
-weightDown n weights w = sumBelow n (λ i. cond (down i w) (number_of weights (suc i)) 0)
+unfoldable pub weight_down : (n : ℕ) (weights : List ℕ) (w : ℕ) → ℕ
+weight_down n weights w = sum_below n (λ i. cond (down i w) (number_of weights (suc i)) 0)
 
 abbrev pub fails2 : (k n : ℕ) (weights : List ℕ) (w : ℕ) → Bool
-fails2 k n weights w = leb k (weightDown n weights w)
+fails2 k n weights w = leb k (weight_down n weights w)
 
 -- row 3: the number failed is at least l and at most h
 abbrev pub fails3 : (l h w : ℕ) → Bool
 fails3 l h w = within l (ones w) h
 
 -- rows 4, 5 and 7: some `width` components in a row hold `need` failed ones or more
-unfoldable pub someWindow : (ring : Bool) (n width need w : ℕ) → Bool
-someWindow ring n width need w = some (λ a. leb need (heldIn n a w width)) (starts ring n width)
+unfoldable pub some_window : (ring : Bool) (n width need w : ℕ) → Bool
+some_window ring n width need w = some (λ a. leb need (held_in n a w width)) (starts ring n width)
 
 -- row 6, as request 03 mends it: "two failed components' numbers differ by less than r"
-unfoldable pub twoNear : (n r w : ℕ) → Bool
-twoNear n r w = some (λ j. some (λ i. down i w && down j w && ltb (j - i) r) j) n
+unfoldable pub two_near : (n r w : ℕ) → Bool
+two_near n r w = some (λ j. some (λ i. down i w && down j w && ltb (j - i) r) j) n
 
 -- the table: kinds 4 and 5 want all k of k in a row, on the line and on the ring; kind 7 two or more of r on the ring; kind 8
 -- fewer working than a pair asks for
@@ -39,23 +39,23 @@ fails rule n beside w =
     (fails1 first w
     ∷ fails2 first n beside w
     ∷ fails3 first second w
-    ∷ someWindow false n first first w
-    ∷ someWindow true n first first w
-    ∷ twoNear n second w
-    ∷ someWindow true n second 2 w
-    ∷ fails8 (pairsOf first second beside) n w
+    ∷ some_window false n first first w
+    ∷ some_window true n first first w
+    ∷ two_near n second w
+    ∷ some_window true n second 2 w
+    ∷ fails8 (pairs_of first second beside) n w
     ∷ [])
 
 abbrev pub works : Rule → (n : ℕ) (beside : List ℕ) (w : ℕ) → Bool
 works rule n beside w = not (fails rule n beside w)
 
 -- Document 02, request 04, "Say which fans": "for kinds 4 to 7 the lowest component at which a failing window starts"
-unfoldable pub firstWindow : (ring : Bool) (n width need w : ℕ) → ℕ
-firstWindow ring n width need w = suc (first (λ a. leb need (heldIn n a w width)) (starts ring n width))
+unfoldable pub first_window : (ring : Bool) (n width need w : ℕ) → ℕ
+first_window ring n width need w = suc (first (λ a. leb need (held_in n a w width)) (starts ring n width))
 
 -- "a kind 6 line no longer than r starts at 1"
-unfoldable pub firstNear : (n r w : ℕ) → ℕ
-firstNear n r w = cond (leb n r) 1 (firstWindow false n r 2 w)
+unfoldable pub first_near : (n r w : ℕ) → ℕ
+first_near n r w = cond (leb n r) 1 (first_window false n r 2 w)
 
 -- "for kinds 1 to 3 place 0"
 unfoldable pub place_of : Rule → (n : ℕ) (beside : List ℕ) (w : ℕ) → ℕ
@@ -66,9 +66,9 @@ place_of rule n beside w =
     (0
     ∷ 0
     ∷ 0
-    ∷ firstWindow false n first first w
-    ∷ firstWindow true n first first w
-    ∷ firstNear n second w
-    ∷ firstWindow true n second 2 w
-    ∷ firstLacking (pairsOf first second beside) n w
+    ∷ first_window false n first first w
+    ∷ first_window true n first first w
+    ∷ first_near n second w
+    ∷ first_window true n second 2 w
+    ∷ first_lacking (pairs_of first second beside) n w
     ∷ [])

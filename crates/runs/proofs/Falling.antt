@@ -13,7 +13,7 @@ use borrow.Author.Tests.{lt-ltb, le-ltb, le-leb}
 use Rattle.rules.specs.Figure.{rounded, mixed, value}
 use Rattle.rules.proofs.Rounding.{unchanged}
 use Rattle.memory.specs.declared.run.Run.{Run}
-use Rattle.memory.specs.Run.{run, runFailed, running}
+use Rattle.memory.specs.Run.{run, run_failed, running}
 use Rattle.memory.proofs.Runs.{run-works, run-fails, run_ends, run-dead}
 use Rattle.memory.proofs.Moves.{run-failed-before}
 use Rattle.places.specs.declared.Ends.{Ends}
@@ -91,7 +91,7 @@ module _ {u k : ℕ} {free : Run} {upto : ℕ} {survival t : List ℕ} (y : Fall
       pub back-small : m'.run + 1 < 2 ^ 64
       back-small = rw (before, v.is) (omega (arith, y.size, y.list.size))
 
-      pub back-failed : runFailed m' ≡ m
+      pub back-failed : run_failed m' ≡ m
       back-failed = rw before (run-failed-before m back_some)
 
     at-hand : Both (λ up. value_of u (running k) survival (run free.lead (upto - (i + 1) + 1)) up i) ends

@@ -10,12 +10,12 @@ use native.Mathlib.Omega.{arith}
 use lib.ListN.{length, get_or}
 use Rattle.rules.specs.State.{number_of}
 use Rattle.rules.specs.Memory.{machine_of, row4, row5}
-use Rattle.rules.specs.Figure.{rounded, mixed, figureOf}
+use Rattle.rules.specs.Figure.{rounded, mixed, figure_of}
 use Rattle.rules.proofs.Dead.{row-value}
 use Rattle.memory.specs.declared.run.Lead.{Lead}
 use Rattle.memory.specs.declared.run.Run.{Run}
-use Rattle.memory.specs.Run.{run, lead, leadFailed, running}
-use Rattle.memory.specs.Open.{leadOpen}
+use Rattle.memory.specs.Run.{run, lead, lead_failed, running}
+use Rattle.memory.specs.Open.{lead_open}
 use Rattle.memory.proofs.Runs.{run-row4, run-row5}
 use Rattle.memory.proofs.Moves.{lead-failed-before}
 use Rattle.memory.proofs.Opening.{lead-first, lead-start, lead-works, lead-fails}
@@ -38,18 +38,18 @@ module _ {u k : ℕ} {survival t₀ : List ℕ} (y : Asked u k survival t₀) wh
   abbrev n : ℕ
   n = length survival
 
-  pub line-is : {e : Ends} → Both (λ up. value_of u (running k) survival (run 0 0) up n) e → Both (λ up. figureOf (row4 k) up u survival) e
+  pub line-is : {e : Ends} → Both (λ up. value_of u (running k) survival (run 0 0) up n) e → Both (λ up. figure_of (row4 k) up u survival) e
   line-is = both-as (λ up. (run-row4 k y.some n).values up u (number_of survival))
 
   -- the value of the open lead with i components left
   abbrev opened : (up : Bool) (i : ℕ) → ℕ
-  opened up i = value_of u (machine_of (row5 k)) survival (leadOpen k n i) up i
+  opened up i = value_of u (machine_of (row5 k)) survival (lead_open k n i) up i
 
   open_more : (up : Bool) (i : ℕ) → i < n → n ≤ i + k
       → rounded up u (mixed u (get_or survival i 0) (value_of u (running k) survival (run (n - suc i) 0) up i) (opened up i)) ≡ opened up (i + 1)
   open_more up i left near =
       rw (add-one i)
-      (sym (valued-suc u (machine_of (row5 k)) survival i (leadOpen k n (suc i)) up
+      (sym (valued-suc u (machine_of (row5 k)) survival i (lead_open k n (suc i)) up
       ∙ rw (lead-works k n i left near, lead-fails k n i left near, (run-row5 k y.some i (n - suc i)).values up u (number_of survival))))
 
   -- the ring on the way: the lead, and its value
@@ -71,7 +71,7 @@ module _ {u k : ℕ} {survival t₀ : List ℕ} (y : Asked u k survival t₀) wh
     kept = kept-none;
   }
 
-  pub leading-last : {size i : ℕ} {m : Lead} {e : Ends} {t : List ℕ} → size ≤ i → Leading size i m e t → Both (λ up. figureOf (row5 k) up u survival) e
+  pub leading-last : {size i : ℕ} {m : Lead} {e : Ends} {t : List ℕ} → size ≤ i → Leading size i m e t → Both (λ up. figure_of (row5 k) up u survival) e
   leading-last {i = i} l v =
       let e : i ≡ n = omega (arith, v.most, v.all) in
       both-as (λ up. ap (λ m. value_of u (machine_of (row5 k)) survival m up n) (lead-start k n y.some)) (rw e at v.value)
@@ -88,7 +88,7 @@ module _ {u k : ℕ} {survival t₀ : List ℕ} (y : Asked u k survival t₀) wh
       pub leading-small : m'.lead + 1 < 2 ^ 64
       leading-small = rw (before, v.is) (omega (arith, y.list.size))
 
-      pub leading-failed : leadFailed m' ≡ m
+      pub leading-failed : lead_failed m' ≡ m
       leading-failed = rw before (lead-failed-before m leading-some)
 
       pub leading-fillable : Fillable u k (run m'.lead 0) i survival t

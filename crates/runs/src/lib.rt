@@ -5,7 +5,7 @@
 // a ring uses: one lead at a time, each written over the last.
 ghost use Rattle.std.specs.Prelude.{◌≡◌, suc, ◌-◌, min};
 ghost use Rattle.rules.specs.Memory.{row4, row5};
-ghost use Rattle.rules.specs.Figure.{figureOf};
+ghost use Rattle.rules.specs.Figure.{figure_of};
 ghost use Rattle.units.specs.Step.{whole};
 ghost use Rattle.memory.specs.Run.{running};
 ghost use Rattle.places.specs.Cells.{Both, Kept, Written, value_of};
@@ -85,7 +85,7 @@ fn fill(decimal: bool, k: usize, free: Run, upto: usize, survival: &[u32], table
 // Kind 4.
 pub fn line(decimal: bool, k: usize, survival: &[u32], table: &mut [u64]) -> Ends
     requires { Asked (whole decimal) k survival.now table.old }
-    ensures figure { Both (λ up. figureOf (row4 k) up (whole decimal) survival.now) result }
+    ensures figure { Both (λ up. figure_of (row4 k) up (whole decimal) survival.now) result }
     ensures kept { Kept table.old table.new }
 {
     let n = survival.len();
@@ -97,7 +97,7 @@ pub fn line(decimal: bool, k: usize, survival: &[u32], table: &mut [u64]) -> End
 // Kind 5: the lead, dead with k components read, taken back to none. A component that works closes it.
 pub fn ring(decimal: bool, k: usize, survival: &[u32], table: &mut [u64]) -> Ends
     requires { Asked (whole decimal) k survival.now table.old }
-    ensures figure { Both (λ up. figureOf (row5 k) up (whole decimal) survival.now) result }
+    ensures figure { Both (λ up. figure_of (row5 k) up (whole decimal) survival.now) result }
     ensures kept { Kept table.old table.new }
 {
     let n = survival.len();

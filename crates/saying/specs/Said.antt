@@ -1,59 +1,59 @@
 -- What a program says where its words ask for no work: how it is started, its version, or which word is wrong and what to do.
 use Rattle.std.specs.Prelude.{cond, ◌&&◌, List, [], ◌++◌, map, ℕ, ◌-◌, eqb, leb, take, get_or}
 use Rattle.text.specs.Decimal.{text}
-use Rattle.options.specs.Words.{askedBy}
+use Rattle.options.specs.Words.{asked_by}
 
 -- a program's name and its synopsis are no longer
-abbrev pub nameRoom : ℕ
-nameRoom = 16
+abbrev pub name_room : ℕ
+name_room = 16
 
-abbrev pub synopsisRoom : ℕ
-synopsisRoom = 64
+abbrev pub synopsis_room : ℕ
+synopsis_room = 64
 
 -- "usage: NAME SYNOPSIS", and the two words that every program takes
-abbrev pub helpText : (program synopsis : List ℕ) → List ℕ
-helpText program synopsis =
+abbrev pub help_text : (program synopsis : List ℕ) → List ℕ
+help_text program synopsis =
     text "usage: " ++ program ++ text " " ++ (synopsis ++ text "\n       " ++ program) ++ (text " --help\n       " ++ program ++ text " --version\n")
 
-abbrev pub versionText : (program : List ℕ) → List ℕ
-versionText program = program ++ text " " ++ text "1.1.0\n"
+abbrev pub version_text : (program : List ℕ) → List ℕ
+version_text program = program ++ text " " ++ text "1.1.0\n"
 
 -- a word as it is shown: its front, what is no plain character a question mark
-abbrev pub mostShown : ℕ
-mostShown = 60
+abbrev pub most_shown : ℕ
+most_shown = 60
 
 abbrev pub plain : ℕ → ℕ
 plain b = cond (leb 32 b && leb b 126) b 63
 
 abbrev pub shown : (word : List ℕ) → List ℕ
-shown word = map plain (take mostShown word)
+shown word = map plain (take most_shown word)
 
 -- what is wrong with it: an option that the table does not have, an operand too many, an option without its word
-abbrev pub wrongWords : (task : ℕ) → List ℕ
-wrongWords task =
+abbrev pub wrong_words : (task : ℕ) → List ℕ
+wrong_words task =
     cond (eqb task 3) (text ": there is no such option; ")
     (cond (eqb task 4) (text ": one word too many; ") (text ": the word that belongs to it is missing; "))
 
 -- and what to do
-abbrev pub remedyText : (task : ℕ) (program : List ℕ) → List ℕ
-remedyText task program = wrongWords task ++ program ++ text " --help says what it takes\n"
+abbrev pub remedy_text : (task : ℕ) (program : List ℕ) → List ℕ
+remedy_text task program = wrong_words task ++ program ++ text " --help says what it takes\n"
 
-abbrev pub remedyRoom : ℕ
-remedyRoom = 96
+abbrev pub remedy_room : ℕ
+remedy_room = 96
 
-abbrev pub wrongText : (program : List ℕ) (task : ℕ) (word : List ℕ) → List ℕ
-wrongText program task word = program ++ text ": " ++ shown word ++ remedyText task program
+abbrev pub wrong_text : (program : List ℕ) (task : ℕ) (word : List ℕ) → List ℕ
+wrong_text program task word = program ++ text ": " ++ shown word ++ remedy_text task program
 
 -- by what the words ask for; the word there is the one that decided
-abbrev pub answerText : (program synopsis : List ℕ) (task : ℕ) (word : List ℕ) → List ℕ
-answerText program synopsis task word =
-    cond (eqb task 1) (helpText program synopsis) (cond (eqb task 2) (versionText program) (wrongText program task word))
+abbrev pub answer_text : (program synopsis : List ℕ) (task : ℕ) (word : List ℕ) → List ℕ
+answer_text program synopsis task word =
+    cond (eqb task 1) (help_text program synopsis) (cond (eqb task 2) (version_text program) (wrong_text program task word))
 
-abbrev pub answerRoom : ℕ
-answerRoom = 256
+abbrev pub answer_room : ℕ
+answer_room = 256
 
 -- of all words, the first at place 1, by the program's table of options and the most operands that it takes
-abbrev pub answerTo : (program synopsis table : List ℕ) (most : ℕ) (words : List (List ℕ)) → List ℕ
-answerTo program synopsis table most words =
-    let a = askedBy table most words in
-    answerText program synopsis a.task (get_or words (a.at - 1) [])
+abbrev pub answer_to : (program synopsis table : List ℕ) (most : ℕ) (words : List (List ℕ)) → List ℕ
+answer_to program synopsis table most words =
+    let a = asked_by table most words in
+    answer_text program synopsis a.task (get_or words (a.at - 1) [])

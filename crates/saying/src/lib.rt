@@ -1,8 +1,8 @@
 // What a program says where its words ask for no work, put into a buffer.
 ghost use Rattle.std.specs.Prelude.{◌≡◌, ◌++◌, map, ◌+◌, ◌≤◌, length};
 ghost use Rattle.text.specs.Added.{Added};
-ghost use Rattle.saying.specs.Said.{nameRoom, synopsisRoom, mostShown, remedyRoom, answerRoom};
-ghost use Rattle.saying.specs.Said.{plain, shown, remedyText, helpText, wrongText, answerText};
+ghost use Rattle.saying.specs.Said.{name_room, synopsis_room, most_shown, remedy_room, answer_room};
+ghost use Rattle.saying.specs.Said.{plain, shown, remedy_text, help_text, wrong_text, answer_text};
 
 // Room for all that is said.
 pub const SAID: usize = 256;
@@ -23,9 +23,9 @@ pub fn put_three(a: &[u8], b: &[u8], c: &[u8], out: &mut [u8], at: usize) -> usi
 
 // How the program is started.
 fn put_help(program: &[u8], synopsis: &[u8], out: &mut [u8]) -> usize
-    requires named { (length program.now ≤ nameRoom) × (length synopsis.now ≤ synopsisRoom) }
-    requires room { answerRoom ≤ length out.old }
-    ensures { let text = helpText program.now synopsis.now in
+    requires named { (length program.now ≤ name_room) × (length synopsis.now ≤ synopsis_room) }
+    requires room { answer_room ≤ length out.old }
+    ensures { let text = help_text program.now synopsis.now in
         Added text out.old 0 out.new result }
 {
     let first = put_three(b"usage: ", program, b" ", out, 0);
@@ -61,7 +61,7 @@ fn put_plain(word: &[u8], out: &mut [u8]) -> usize
 
 // Puts the front of a word so.
 pub fn put_shown(word: &[u8], out: &mut [u8]) -> usize
-    requires { mostShown ≤ length out.old }
+    requires { most_shown ≤ length out.old }
     ensures { Added (shown word.now) out.old 0 out.new result }
 {
     if word.len() > SHOWN {
@@ -72,9 +72,9 @@ pub fn put_shown(word: &[u8], out: &mut [u8]) -> usize
 
 // What is wrong with a word, and what to do.
 fn put_remedy(task: u64, program: &[u8], out: &mut [u8], at: usize) -> usize
-    requires named { length program.now ≤ nameRoom }
-    requires room { at + remedyRoom ≤ length out.old }
-    ensures { Added (remedyText task program.now) out.old at out.new result }
+    requires named { length program.now ≤ name_room }
+    requires room { at + remedy_room ≤ length out.old }
+    ensures { Added (remedy_text task program.now) out.old at out.new result }
 {
     let last: &[u8] = b" --help says what it takes\n";
     match task {
@@ -92,9 +92,9 @@ fn put_remedy(task: u64, program: &[u8], out: &mut [u8], at: usize) -> usize
 
 // Which word is wrong and what to do.
 fn put_wrong(program: &[u8], task: u64, word: &[u8], out: &mut [u8]) -> usize
-    requires named { length program.now ≤ nameRoom }
-    requires room { answerRoom ≤ length out.old }
-    ensures { let text = wrongText program.now task word.now in
+    requires named { length program.now ≤ name_room }
+    requires room { answer_room ≤ length out.old }
+    ensures { let text = wrong_text program.now task word.now in
         Added text out.old 0 out.new result }
 {
     let mut front = [0u8; SHOWN];
@@ -105,9 +105,9 @@ fn put_wrong(program: &[u8], task: u64, word: &[u8], out: &mut [u8]) -> usize
 
 // What the program says, by its words: how it is started, its version, or which word is wrong.
 pub fn put_answer(program: &[u8], synopsis: &[u8], task: u64, word: &[u8], out: &mut [u8]) -> usize
-    requires named { (length program.now ≤ nameRoom) × (length synopsis.now ≤ synopsisRoom) }
-    requires room { answerRoom ≤ length out.old }
-    ensures { let text = answerText program.now synopsis.now task word.now in
+    requires named { (length program.now ≤ name_room) × (length synopsis.now ≤ synopsis_room) }
+    requires room { answer_room ≤ length out.old }
+    ensures { let text = answer_text program.now synopsis.now task word.now in
         Added text out.old 0 out.new result }
 {
     match task {

@@ -1,6 +1,6 @@
 // The loop over a season's stream: each read brings just the bytes that are asked for, and they are fed.
 ghost use Rattle.std.specs.Prelude.{◌≤◌, length};
-ghost use Rattle.shell.specs.Edges.{labelRoom, FitsNext};
+ghost use Rattle.shell.specs.Edges.{label_room, FitsNext};
 ghost use Rattle.season_stream.specs.Reading.{Sane};
 
 use ending::LONGEST;
@@ -48,7 +48,7 @@ fn read_piece(
     wanted: usize,
     piece: &mut [u8],
 ) -> More
-    requires { (source.end ≤ labelRoom) × (wanted ≤ length piece.old) }
+    requires { (source.end ≤ label_room) × (wanted ≤ length piece.old) }
     ensures { FitsNext (length piece.new) result }
 {
     sources::read_more(b"season", asked, source, label, &mut piece[..wanted])
@@ -56,7 +56,7 @@ fn read_piece(
 
 // Reads until the stream ends, or nothing more is read of it.
 fn read_stream(shown: bool, asked: Asked, source: Source, label: &mut [u8; LABEL]) -> Got
-    requires { source.end ≤ labelRoom }
+    requires { source.end ≤ label_room }
     ensures { Sane result.reading }
 {
     let mut piece = [0u8; LONGEST];

@@ -1,9 +1,9 @@
 // A season's files: each added to the totals of those before it.
 ghost use Rattle.std.specs.Prelude.{◌≡◌};
-ghost use Rattle.rules.specs.File.{countIn};
+ghost use Rattle.rules.specs.File.{count_in};
 ghost use Rattle.deck.specs.Outcome.{Headed};
-ghost use Rattle.totals.specs.Plus.{systemsPlus, filePlus};
-ghost use Rattle.totals.specs.Room.{answersBefore, Room, Open};
+ghost use Rattle.totals.specs.Plus.{systems_plus, file_plus};
+ghost use Rattle.totals.specs.Room.{answers_before, Room, Open};
 
 use deck::Head;
 use totals::Totals;
@@ -11,8 +11,8 @@ use totals::Totals;
 // The answers of a deck's systems, each rated once.
 fn plus_systems(totals: Totals, file: &[u8], head: Head) -> Totals
     requires headed { Headed file.now head }
-    requires room { Room answersBefore totals }
-    ensures { result ≡ systemsPlus totals file.now (countIn file.now) }
+    requires room { Room answers_before totals }
+    ensures { result ≡ systems_plus totals file.now (count_in file.now) }
 {
     let unit = units::whole(units::is_decimal(head.version));
     let mut sum = totals;
@@ -29,7 +29,7 @@ fn plus_systems(totals: Totals, file: &[u8], head: Head) -> Totals
 // One file more: a deck, or a refused one.
 pub fn plus_file(totals: Totals, file: &[u8]) -> Totals
     requires { Open totals }
-    ensures { result ≡ filePlus totals file.now }
+    ensures { result ≡ file_plus totals file.now }
 {
     let kinds = totals.kinds;
     let opened = deck::open(file);

@@ -2,10 +2,10 @@
 // all bytes that were fed.
 ghost use Rattle.std.specs.Prelude.{◌≡◌, [], ◌++◌, ◌+◌, ◌<◌, ◌≤◌, length, take};
 ghost use Rattle.ending.specs.Ending.{longest};
-ghost use Rattle.season_report.specs.Lines.{outputRoom};
-ghost use Rattle.totals.specs.Plus.{oneIf};
-ghost use Rattle.totals.specs.Room.{mostFiles};
-ghost use Rattle.season_stream.specs.Reading.{withFile, goesOn, Sane, Takes, Fed, Holds, Reported};
+ghost use Rattle.season_report.specs.Lines.{output_room};
+ghost use Rattle.totals.specs.Plus.{one_if};
+ghost use Rattle.totals.specs.Room.{most_files};
+ghost use Rattle.season_stream.specs.Reading.{with_file, goes_on, Sane, Takes, Fed, Holds, Reported};
 
 use ending::LONGEST;
 use rules::limit;
@@ -97,8 +97,8 @@ fn joined(part: [u8; LONGEST], kept: usize, more: &[u8]) -> [u8; LONGEST]
 // The file at hand is whole, and these are the totals with it. Behind a refused one nothing is read; behind the last
 // one it is only seen whether bytes are waiting.
 fn with_file(before: Reading, totals: Totals) -> Reading
-    requires { before.files < mostFiles }
-    ensures { result ≡ withFile before totals }
+    requires { before.files < most_files }
+    ensures { result ≡ with_file before totals }
 {
     let mut next = before;
     let files = before.files + 1;
@@ -159,7 +159,7 @@ pub fn feed(before: Reading, piece: &[u8]) -> Reading
 // What is told where the stream ends here: what is there of a file is one, cut short.
 pub fn settled(before: Reading) -> Season
     requires { Sane before }
-    ensures { result ≡ goesOn before [] }
+    ensures { result ≡ goes_on before [] }
 {
     let totals = before.totals;
     if before.closed {
@@ -185,7 +185,7 @@ pub fn settled(before: Reading) -> Season
 
 // 1 where a test holds.
 fn one_if(b: bool) -> u64
-    ensures { result ≡ oneIf b }
+    ensures { result ≡ one_if b }
 {
     if b { 1 } else { 0 }
 }
@@ -200,7 +200,7 @@ pub struct Report {
 // Puts the report on all bytes that were fed.
 pub fn put_report(before: Reading, out: &mut [u8]) -> Report
     requires sane { Sane before }
-    requires output_room_in_bounds { outputRoom ≤ length out.old }
+    requires output_room_in_bounds { output_room ≤ length out.old }
     ensures { Reported before out.new result }
 {
     let season = settled(before);

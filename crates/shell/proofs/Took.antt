@@ -11,7 +11,7 @@ use Rattle.shell.specs.declared.reading.Input.{Input}
 use Rattle.shell.specs.declared.reading.Input.TheVariants.{Filled, Failed}
 use Rattle.shell.specs.declared.taking.Taken.{Taken}
 use Rattle.shell.specs.declared.reading.Whole.{Whole}
-use Rattle.shell.specs.Taken.{nothing, unopened, goesOn, Adds, takenWith, Took, Fills, mostCounted, Counted, Through, unopenedWhole}
+use Rattle.shell.specs.Taken.{nothing, unopened, goes_on, Adds, taken_with, Took, Fills, most_counted, Counted, Through, unopened_whole}
 
 -- a read that fails, that brings nothing, and that brings some
 never : {A : Type 0} {b : Bool} → b ≡ false → b ≡ true → A
@@ -20,11 +20,11 @@ never off on = absurd (true≢false (sym on ∙ off))
 always : {A : Type 0} {b : Bool} → b ≡ true → b ≡ false → A
 always on off = absurd (true≢false (sym on ∙ off))
 
-by_count : (t : Taken) (most n : ℕ) → n ≤ most → (b : Bool) → eqb n 0 ≡ b → Took most t (takenWith t (Filled n))
+by_count : (t : Taken) (most n : ℕ) → n ≤ most → (b : Bool) → eqb n 0 ≡ b → Took most t (taken_with t (Filled n))
 by_count t most n few true e = rw e (record { few = omega arith; some = λ e. never refl e; none = λ e. refl })
 by_count t most n few false e = rw e (record { few = omega (arith, few); some = λ x. omega (arith, eqb-false n 0 e); none = λ e. always refl e })
 
-pub took-with : (t : Taken) (most : ℕ) (got : Input) → FitsIn most got → Took most t (takenWith t got)
+pub took-with : (t : Taken) (most : ℕ) (got : Input) → FitsIn most got → Took most t (taken_with t got)
 took-with t most (Filled n) few = by_count t most n few (eqb n 0) refl
 took-with t most Failed few = record { few = omega arith; some = λ e. never refl e; none = λ e. refl }
 
@@ -38,16 +38,16 @@ pub record Filling (most size : ℕ) (t : Taken) (filled : ℕ) : Type 0 where
   pub same : t.count ≡ filled
   pub within : filled ≤ most
   pub kept : size ≡ most
-  pub going : goesOn t ≡ true
+  pub going : goes_on t ≡ true
 
 pub filling-none : (most : ℕ) {t : Taken} → t ≡ nothing → Filling most most t 0
-filling-none most e = record { same = ap (λ t. t.count) e; within = omega arith; kept = refl; going = ap goesOn e }
+filling-none most e = record { same = ap (λ t. t.count) e; within = omega arith; kept = refl; going = ap goes_on e }
 
 module _ {most size : ℕ} {t : Taken} {filled : ℕ} (f : Filling most size t filled) where
-  pub filling-ends : {left last : ℕ} {r : Taken} → last ≡ most → Took left t r → goesOn r ≡ false → Fills last r
+  pub filling-ends : {left last : ℕ} {r : Taken} → last ≡ most → Took left t r → goes_on r ≡ false → Fills last r
   filling-ends same took ended = record { within = omega (arith, took.none ended, f.same, f.within, same); stops = λ e. never ended e }
 
-  pub filling-more : {left size' count : ℕ} {r : Taken} → Took left t r → goesOn r ≡ true → filled + left ≤ most → size' ≡ most → count ≡ r.count → Filling most size' r count
+  pub filling-more : {left size' count : ℕ} {r : Taken} → Took left t r → goes_on r ≡ true → filled + left ≤ most → size' ≡ most → count ≡ r.count → Filling most size' r count
   filling-more took going room kept is = record { same = sym is; within = omega (arith, took.few, f.same, room, is); kept = kept; going = going }
 
   pub filling-full : size ≤ filled → Fills size t
@@ -58,24 +58,24 @@ pub record Counting (size : ℕ) (t : Taken) (count : ℕ) : Type 0 where
   pub same : t.count ≡ count
   pub few : count < 2 ^ 63
   pub room : size ≡ 4096
-  pub going : goesOn t ≡ true
+  pub going : goes_on t ≡ true
 
 pub counting-none : (size : ℕ) → size ≡ 4096 → {t : Taken} → t ≡ nothing → Counting size t 0
-counting-none size room e = record { same = ap (λ t. t.count) e; few = omega arith; room = room; going = ap goesOn e }
+counting-none size room e = record { same = ap (λ t. t.count) e; few = omega arith; room = room; going = ap goes_on e }
 
 module _ {size : ℕ} {t : Taken} {count : ℕ} (k : Counting size t count) where
-  pub counting-ends : {left : ℕ} {r : Taken} → count < mostCounted → Took left t r → goesOn r ≡ false → Counted r
+  pub counting-ends : {left : ℕ} {r : Taken} → count < most_counted → Took left t r → goes_on r ≡ false → Counted r
   counting-ends below took ended = record { few = omega (arith, took.none ended, k.same, k.few); stops = λ e. never ended e }
 
-  pub counting_more : {left size' next : ℕ} {r : Taken} → count < mostCounted → Took left t r → goesOn r ≡ true → left ≤ 4096 → size' ≡ 4096 → next ≡ r.count → Counting size' r next
+  pub counting_more : {left size' next : ℕ} {r : Taken} → count < most_counted → Took left t r → goes_on r ≡ true → left ≤ 4096 → size' ≡ 4096 → next ≡ r.count → Counting size' r next
   counting_more below took going few room is = record { same = sym is; few = omega (arith, took.few, k.same, below, few, is); room = room; going = going }
 
-  pub counting-full : mostCounted ≤ count → Counted t
+  pub counting-full : most_counted ≤ count → Counted t
   counting-full full = record { few = omega (arith, k.same, k.few); stops = λ e. omega (arith, k.same, full) }
 
 -- an input read through
 module _ {most : ℕ} {front rest : Taken} (filled : Fills most front) where
-  pub through-front : goesOn front ≡ false → rest ≡ nothing → Through most (record { front = front; rest = rest })
+  pub through-front : goes_on front ≡ false → rest ≡ nothing → Through most (record { front = front; rest = rest })
   through-front ended none = record {
     front = filled;
     few = omega (arith, ap (λ t. t.count) none);
@@ -83,11 +83,11 @@ module _ {most : ℕ} {front rest : Taken} (filled : Fills most front) where
     ended = λ e. none;
   }
 
-  pub through-rest : goesOn front ≡ true → Counted rest → Through most (record { front = front; rest = rest })
+  pub through-rest : goes_on front ≡ true → Counted rest → Through most (record { front = front; rest = rest })
   through-rest going counted = record { front = filled; few = counted.few; full = λ e. counted; ended = λ e. always going e }
 
 pub unopened-filled : (most : ℕ) → Fills most unopened
 unopened-filled most = record { within = omega arith; stops = λ e. never refl e }
 
-pub unopened-through : (most : ℕ) → Through most unopenedWhole
+pub unopened-through : (most : ℕ) → Through most unopened_whole
 unopened-through most = record { front = unopened-filled most; few = omega arith; full = λ e. never refl e; ended = λ e. refl }

@@ -10,9 +10,9 @@ FitsIn most (Filled n) = n ≤ most
 FitsIn most Failed = Unit {0}
 
 -- room for what a message names, and what one of several inputs gave
-abbrev pub labelRoom : ℕ
-labelRoom = 4352
+abbrev pub label_room : ℕ
+label_room = 4352
 
 pub record FitsNext (most : ℕ) (r : More) : Type 0 where
   pub front : r.filled ≤ most
-  pub labelled : r.source.end ≤ labelRoom
+  pub labelled : r.source.end ≤ label_room

@@ -15,8 +15,8 @@ abbrev pub failed : ℤ
 failed = pos 2
 
 -- the status of what a program has found: whether that is a refusal
-abbrev pub statusOf : Bool → ℤ
-statusOf b = cond b refused done
+abbrev pub status_of : Bool → ℤ
+status_of b = cond b refused done
 
 -- a status, unless what goes with it could not be written
 abbrev pub OrFailed : (status r : ℤ) → Type 0
@@ -24,19 +24,19 @@ OrFailed status r = (r ≡ status) ⊎ (r ≡ failed)
 
 -- a file of so many bytes was handed over: there is none of a refused one
 abbrev pub Handed : (size : ℕ) (r : ℤ) → Type 0
-Handed size r = OrFailed (statusOf (eqb size 0)) r
+Handed size r = OrFailed (status_of (eqb size 0)) r
 
 -- what words ask for without work was written, or a word was wrong
-abbrev pub answerStatus : (task : ℕ) → ℤ
-answerStatus task = cond (eqb task 1) done (cond (eqb task 2) done failed)
+abbrev pub answer_status : (task : ℕ) → ℤ
+answer_status task = cond (eqb task 1) done (cond (eqb task 2) done failed)
 
 -- one of the three
-abbrev pub isStatus : ℤ → Bool
-isStatus (pos n) = ltb n 3
-isStatus (negsuc n) = false
+abbrev pub is_status : ℤ → Bool
+is_status (pos n) = ltb n 3
+is_status (negsuc n) = false
 
 abbrev pub Status : ℤ → Type 0
-Status r = isStatus r ≡ true
+Status r = is_status r ≡ true
 
 -- a program has begun: so many bytes of its input are in a buffer, and its status is one of these where it has ended
 pub record Begins (most : ℕ) (r : Begun) : Type 0 where

@@ -12,16 +12,16 @@ abbrev pub unopened : Taken
 unopened = record { count = 0; state = 2 }
 
 -- no read met the end or failed
-abbrev pub goesOn : Taken → Bool
-goesOn t = eqb t.state 0
+abbrev pub goes_on : Taken → Bool
+goes_on t = eqb t.state 0
 
-abbrev pub hasFailed : Taken → Bool
-hasFailed t = eqb t.state 2
+abbrev pub has_failed : Taken → Bool
+has_failed t = eqb t.state 2
 
 -- with what one read more gave: nothing at the input's end, some, or it failed
-abbrev pub takenWith : Taken → Input → Taken
-takenWith t (Filled n) = cond (eqb n 0) (record { count = t.count; state = 1 }) (record { count = t.count + n; state = 0 })
-takenWith t Failed = record { count = t.count; state = 2 }
+abbrev pub taken_with : Taken → Input → Taken
+taken_with t (Filled n) = cond (eqb n 0) (record { count = t.count; state = 1 }) (record { count = t.count + n; state = 0 })
+taken_with t Failed = record { count = t.count; state = 2 }
 
 -- so few bytes that they can be added
 abbrev pub Adds : Taken → Input → Type 0
@@ -31,28 +31,28 @@ Adds t Failed = Unit {0}
 -- one read more, of at most so many bytes: it took some and goes on, or none, at the end or where it failed
 pub record Took (most : ℕ) (t r : Taken) : Type 0 where
   pub few : r.count ≤ t.count + most
-  pub some : goesOn r ≡ true → t.count < r.count
-  pub none : goesOn r ≡ false → r.count ≡ t.count
+  pub some : goes_on r ≡ true → t.count < r.count
+  pub none : goes_on r ≡ false → r.count ≡ t.count
 
 -- reads into a buffer of so many bytes stop at the input's end, where one fails, or where the buffer is full
 pub record Fills (most : ℕ) (r : Taken) : Type 0 where
   pub within : r.count ≤ most
-  pub stops : goesOn r ≡ true → r.count ≡ most
+  pub stops : goes_on r ≡ true → r.count ≡ most
 
 -- counting stops at the input's end, where a read fails, or at 2^62 bytes, which no input has
-abbrev pub mostCounted : ℕ
-mostCounted = 2 ^ 62
+abbrev pub most_counted : ℕ
+most_counted = 2 ^ 62
 
 pub record Counted (r : Taken) : Type 0 where
   pub few : r.count < 2 ^ 63
-  pub stops : goesOn r ≡ true → mostCounted ≤ r.count
+  pub stops : goes_on r ≡ true → most_counted ≤ r.count
 
 -- the front of an input is in a buffer; what follows a full one is counted, and nothing else is read
 pub record Through (most : ℕ) (r : Whole) : Type 0 where
   pub front : Fills most r.front
   pub few : r.rest.count < 2 ^ 63
-  pub full : goesOn r.front ≡ true → Counted r.rest
-  pub ended : goesOn r.front ≡ false → r.rest ≡ nothing
+  pub full : goes_on r.front ≡ true → Counted r.rest
+  pub ended : goes_on r.front ≡ false → r.rest ≡ nothing
 
-abbrev pub unopenedWhole : Whole
-unopenedWhole = record { front = unopened; rest = nothing }
+abbrev pub unopened_whole : Whole
+unopened_whole = record { front = unopened; rest = nothing }

@@ -1,7 +1,7 @@
 // A program's input: standard input, or the file that one of its words names.
 ghost use Rattle.std.specs.Prelude.{◌≡◌, length};
 ghost use Rattle.shell.specs.Edges.{FitsIn};
-ghost use Rattle.shell.specs.Taken.{unopenedWhole, Fills, Counted, Through};
+ghost use Rattle.shell.specs.Taken.{unopened_whole, Fills, Counted, Through};
 
 use crate::names::LABEL;
 use crate::taking;
@@ -153,7 +153,7 @@ pub fn has_failed(whole: Whole) -> bool {
 
 // An input that could not be opened.
 fn unopened() -> Whole
-    ensures { result ≡ unopenedWhole }
+    ensures { result ≡ unopened_whole }
 {
     let front = taking::unopened();
     let rest = taking::nothing();

@@ -1,6 +1,6 @@
 // Several inputs one after another as one: the files that the operands name, or standard input where there are none.
 ghost use Rattle.std.specs.Prelude.{◌≤◌, length};
-ghost use Rattle.shell.specs.Edges.{labelRoom, FitsIn, FitsNext};
+ghost use Rattle.shell.specs.Edges.{label_room, FitsIn, FitsNext};
 
 use crate::names::LABEL;
 use crate::reading::Input;
@@ -39,7 +39,7 @@ fn operand_from(place: usize, ended: usize) -> usize {
 
 // Opens the input at a place and labels it; what fails is told, and its descriptor is below 0.
 fn open_at(program: &[u8], place: usize, label: &mut [u8; LABEL]) -> Source
-    ensures { result.end ≤ labelRoom }
+    ensures { result.end ≤ label_room }
 {
     let end = names::put_label(program, place, b"standard input", label);
     let line: &[u8] = label;
@@ -67,7 +67,7 @@ fn behind(place: usize) -> usize {
 
 // Opens the first input.
 pub fn begin(program: &[u8], asked: Asked, label: &mut [u8; LABEL]) -> Source
-    ensures { result.end ≤ labelRoom }
+    ensures { result.end ≤ label_room }
 {
     open_at(program, asked.first, label)
 }
@@ -80,7 +80,7 @@ pub fn read_more(
     label: &mut [u8; LABEL],
     buffer: &mut [u8],
 ) -> More
-    requires { source.end ≤ labelRoom }
+    requires { source.end ≤ label_room }
     ensures { FitsNext (length buffer.new) result }
 {
     let mut source = source;
@@ -113,7 +113,7 @@ pub fn read_more(
 
 // One read of an input; what fails is told by its label.
 fn read_told(source: Source, label: &[u8; LABEL], buffer: &mut [u8]) -> Input
-    requires { source.end ≤ labelRoom }
+    requires { source.end ≤ label_room }
     ensures { FitsIn (length buffer.new) result }
 {
     let Input::Filled(filled) = reading::read_some(source.fd, buffer) else {

@@ -1,8 +1,8 @@
 // How a program starts: it hears its words, answers those that ask for no work, and reads its input; and how it ends.
 ghost use Rattle.std.specs.Prelude.{◌≤◌, ◌*◌, length};
-ghost use Rattle.options.specs.Words.{rowLength, mostOptions};
-ghost use Rattle.saying.specs.Said.{nameRoom, synopsisRoom};
-ghost use Rattle.shell.specs.Status.{statusOf, answerStatus, Handed, OrFailed, Status, Begins};
+ghost use Rattle.options.specs.Words.{row_length, most_options};
+ghost use Rattle.saying.specs.Said.{name_room, synopsis_room};
+ghost use Rattle.shell.specs.Status.{status_of, answer_status, Handed, OrFailed, Status, Begins};
 
 use crate::{reading, taking, writing};
 use options::Asked;
@@ -18,7 +18,7 @@ pub struct Begun {
 
 // All words of the program, by its table of options and the most operands that it takes.
 pub fn hear_all(table: &[u8], most: u64) -> Asked
-    requires { length table.now ≤ rowLength * mostOptions }
+    requires { length table.now ≤ row_length * most_options }
 {
     let count = os::arg_count();
     let mut word = io::buffer();
@@ -34,8 +34,8 @@ pub fn hear_all(table: &[u8], most: u64) -> Asked
 
 // Hears the words; those that ask for no work are answered, and the program has ended.
 pub fn hear(program: &[u8], synopsis: &[u8], table: &[u8], most: u64) -> Begun
-    requires named { (length program.now ≤ nameRoom) × (length synopsis.now ≤ synopsisRoom) }
-    requires rows { length table.now ≤ rowLength * mostOptions }
+    requires named { (length program.now ≤ name_room) × (length synopsis.now ≤ synopsis_room) }
+    requires rows { length table.now ≤ row_length * most_options }
     ensures { Begins 0 result }
 {
     let asked = hear_all(table, most);
@@ -80,8 +80,8 @@ pub fn read_at(program: &[u8], asked: Asked, place: usize, input: &mut [u8]) -> 
 
 // Both, of the input that the first operand names, or of standard input.
 pub fn begin(program: &[u8], synopsis: &[u8], table: &[u8], most: u64, input: &mut [u8]) -> Begun
-    requires named { (length program.now ≤ nameRoom) × (length synopsis.now ≤ synopsisRoom) }
-    requires rows { length table.now ≤ rowLength * mostOptions }
+    requires named { (length program.now ≤ name_room) × (length synopsis.now ≤ synopsis_room) }
+    requires rows { length table.now ≤ row_length * most_options }
     ensures { Begins (length input.new) result }
 {
     let heard = hear(program, synopsis, table, most);
@@ -95,7 +95,7 @@ pub fn begin(program: &[u8], synopsis: &[u8], table: &[u8], most: u64, input: &m
 // Writes a text to the output at a place of the words, 0 for standard output, and answers the program's status: whether
 // the text tells a refusal.
 pub fn print(program: &[u8], place: usize, text: &[u8], refused: bool) -> i32
-    ensures or_failed { OrFailed (statusOf refused) result }
+    ensures or_failed { OrFailed (status_of refused) result }
     ensures status { Status result }
 {
     if !writing::write_out(program, place, text) {
@@ -106,7 +106,7 @@ pub fn print(program: &[u8], place: usize, text: &[u8], refused: bool) -> i32
 
 // The same of a text that stands in two buffers, to standard output.
 pub fn print_two(program: &[u8], text: &[u8], more: &[u8], refused: bool) -> i32
-    ensures or_failed { OrFailed (statusOf refused) result }
+    ensures or_failed { OrFailed (status_of refused) result }
     ensures status { Status result }
 {
     if !writing::write_out(program, 0, text) {
@@ -118,8 +118,8 @@ pub fn print_two(program: &[u8], text: &[u8], more: &[u8], refused: bool) -> i32
 // Answers words that ask for no work: how the program is started and its version on standard output, which word is
 // wrong on standard error.
 fn answer(program: &[u8], synopsis: &[u8], asked: Asked) -> i32
-    requires { (length program.now ≤ nameRoom) × (length synopsis.now ≤ synopsisRoom) }
-    ensures or_failed { OrFailed (answerStatus asked.task) result }
+    requires { (length program.now ≤ name_room) × (length synopsis.now ≤ synopsis_room) }
+    ensures or_failed { OrFailed (answer_status asked.task) result }
     ensures status { Status result }
 {
     let mut word = io::buffer();

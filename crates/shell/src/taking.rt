@@ -1,7 +1,7 @@
 // What reads take of an input. Only this file can make a `Taken`, so that its count is what reads answered, added up,
 // and its end one that a read met.
 ghost use Rattle.std.specs.Prelude.{◌≡◌, ◌+◌, ◌<◌, ◌^◌, length};
-ghost use Rattle.shell.specs.Taken.{nothing, unopened, goesOn, hasFailed, Adds, takenWith, Took};
+ghost use Rattle.shell.specs.Taken.{nothing, unopened, goes_on, has_failed, Adds, taken_with, Took};
 
 use crate::reading;
 use crate::reading::Input;
@@ -48,14 +48,14 @@ pub fn count(taken: Taken) -> usize
 
 // Has no read met the end or failed?
 pub fn goes_on(taken: Taken) -> bool
-    ensures { result ≡ goesOn taken }
+    ensures { result ≡ goes_on taken }
 {
     taken.state == GOING
 }
 
 // Has a read failed?
 pub fn has_failed(taken: Taken) -> bool
-    ensures { result ≡ hasFailed taken }
+    ensures { result ≡ has_failed taken }
 {
     taken.state == FAILED
 }
@@ -63,7 +63,7 @@ pub fn has_failed(taken: Taken) -> bool
 // With what one read more gave: a read of nothing is the input's end.
 fn added(taken: Taken, got: Input) -> Taken
     requires { Adds taken got }
-    ensures { result ≡ takenWith taken got }
+    ensures { result ≡ taken_with taken got }
 {
     let count = taken.count;
     match got {

@@ -15,20 +15,20 @@ use Rattle.rules.proofs.Sums.{held_same}
 use Rattle.places.specs.declared.Ends.{Ends}
 use Rattle.spares.specs.declared.Places.{Places}
 use Rattle.spares.specs.Highest.{highest}
-use Rattle.spare_lines.specs.Ranks.{reaches, leftIn}
-use Rattle.spare_lines.specs.Best.{rankedIn, Grouped}
+use Rattle.spare_lines.specs.Ranks.{reaches, left_in}
+use Rattle.spare_lines.specs.Best.{ranked_in, Grouped}
 use Rattle.spare_lines.proofs.Ranks.{less-leb, held-most}
 
 -- is a place one of those left, and does it reach?
 abbrev pub near : (left : List Bool) (high : List ℕ) (top h₀ : ℕ) → ℕ → Bool
-near left high top h₀ j = leftIn left j && leb top (get_or high j 0 + h₀)
+near left high top h₀ j = left_in left j && leb top (get_or high j 0 + h₀)
 
 abbrev pub far : (left : List Bool) (high : List ℕ) (top h₀ : ℕ) → ℕ → Bool
-far left high top h₀ j = leftIn left j && not (leb top (get_or high j 0 + h₀))
+far left high top h₀ j = left_in left j && not (leb top (get_or high j 0 + h₀))
 
 pub record Passed (left : List Bool) (high : List ℕ) (top h₀ i : ℕ) (rest alike : List Bool) (count : ℕ) : Type 0 where
   pub long : (length rest ≡ most) × (length alike ≡ most)
-  pub others : (j : ℕ) → j < i → leftIn rest j ≡ far left high top h₀ j
+  pub others : (j : ℕ) → j < i → left_in rest j ≡ far left high top h₀ j
   pub members : (j : ℕ) → j < i → get_or alike j false ≡ near left high top h₀ j
   pub counted : count ≡ held (near left high top h₀) i
 
@@ -60,15 +60,15 @@ few-counted {left} {high} {top} {h₀} {i} p = omega (arith, p.counted, held-mos
 
 -- all of them
 pub all-passed : {left rest alike : List Bool} (places : Places) (before : Ends) {size top count : ℕ}
-    → top ≡ highest (λ i. get_or places.low i 0) (leftIn left) size + before.low → Passed left places.high top before.high size rest alike count
-    → Grouped (rankedIn size places before) (leftIn left) rest alike count
+    → top ≡ highest (λ i. get_or places.low i 0) (left_in left) size + before.low → Passed left places.high top before.high size rest alike count
+    → Grouped (ranked_in size places before) (left_in left) rest alike count
 all-passed {left} places before {size} {top} is p =
-    let k = rankedIn size places before in
-    let reached : (j : ℕ) → leb top (get_or places.high j 0 + before.high) ≡ reaches k (leftIn left) j
-    = λ j. ap (λ t. leb t (get_or places.high j 0 + before.high)) is ∙ sym (less-leb (highest k.low (leftIn left) size) before.high (get_or places.high j 0) before.low) in
+    let k = ranked_in size places before in
+    let reached : (j : ℕ) → leb top (get_or places.high j 0 + before.high) ≡ reaches k (left_in left) j
+    = λ j. ap (λ t. leb t (get_or places.high j 0 + before.high)) is ∙ sym (less-leb (highest k.low (left_in left) size) before.high (get_or places.high j 0) before.low) in
     record {
       long = p.long;
-      others = λ j l. p.others j l ∙ ap (λ b. leftIn left j && not b) (reached j);
-      members = λ j l. p.members j l ∙ ap (λ b. leftIn left j && b) (reached j);
-      count = p.counted ∙ held_same _ _ size (λ j l. ap (λ b. leftIn left j && b) (reached j));
+      others = λ j l. p.others j l ∙ ap (λ b. left_in left j && not b) (reached j);
+      members = λ j l. p.members j l ∙ ap (λ b. left_in left j && b) (reached j);
+      count = p.counted ∙ held_same _ _ size (λ j l. ap (λ b. left_in left j && b) (reached j));
     }

@@ -6,9 +6,9 @@ use lib.IntN.{sub_ℕ}
 use lib.ListN.{length, length-append}
 use Rattle.text.proofs.Digits.{decimal-short, signed-short}
 use Rattle.places.specs.declared.Ends.{Ends}
-use Rattle.spare_lines.specs.Lines.{gainLine, gainRoom}
+use Rattle.spare_lines.specs.Lines.{gain_line, gain_room}
 
-pub gain-short : (s fan : ℕ) (after before : Ends) → length (gainLine s fan after before) ≤ gainRoom
+pub gain-short : (s fan : ℕ) (after before : Ends) → length (gain_line s fan after before) ≤ gain_room
 gain-short s fan after before =
     simp length-append
     (omega (

@@ -15,7 +15,7 @@ use Rattle.rules.proofs.Sums.{held_same}
 use Rattle.rules.proofs.Differences.{by_sign, less-le}
 use Rattle.spares.specs.Highest.{highest}
 use Rattle.spares.proofs.Highest.{high-most}
-use Rattle.spare_lines.specs.Ranks.{Ranked, lowerAt, upperAt, leading, reaches, alike, rest, leftAfter, groupAt, goneAfter}
+use Rattle.spare_lines.specs.Ranks.{Ranked, lower_at, upper_at, leading, reaches, alike, rest, left_after, group_at, gone_after}
 
 -- ---- signed differences compared as sums
 
@@ -44,12 +44,12 @@ less-leb a b c d =
 
 module _ (k : Ranked) (left : ℕ → Bool) where
   -- no lower end is above L
-  pub lower-most : (i : ℕ) → i < k.size → left i ≡ true → lowerAt k i ≤ℤ leading k left
+  pub lower-most : (i : ℕ) → i < k.size → left i ≡ true → lower_at k i ≤ℤ leading k left
   lower-most i l e =
       less-le (k.low i) k.before.high (highest k.low left k.size) k.before.high (omega (arith, high-most k.low left k.size i l e))
 
   -- every two of a group overlap
-  pub alike-overlap : (i j : ℕ) → j < k.size → alike k left i ≡ true → alike k left j ≡ true → lowerAt k j ≤ℤ upperAt k i
+  pub alike-overlap : (i j : ℕ) → j < k.size → alike k left i ≡ true → alike k left j ≡ true → lower_at k j ≤ℤ upper_at k i
   alike-overlap i j l one two =
       let top = highest k.low left k.size in
       let tested : leb (top + k.before.low) (k.high i + k.before.high) ≡ true
@@ -104,7 +104,7 @@ held-most p (suc n) = omega (arith, held-most p n, one (p n))
     one true = omega arith
     one false = omega arith
 
-pub gone-left : (k : Ranked) (r : ℕ) → goneAfter k r + held (leftAfter k r) k.size ≤ k.size
-unfolding goneAfter leftAfter
+pub gone-left : (k : Ranked) (r : ℕ) → gone_after k r + held (left_after k r) k.size ≤ k.size
+unfolding gone_after left_after
 gone-left k zero = omega (arith, held-most (λ i. true) k.size)
-gone-left k (suc r) = omega (arith, gone-left k r, held-parts (leftAfter k r) (reaches k (leftAfter k r)) k.size)
+gone-left k (suc r) = omega (arith, gone-left k r, held-parts (left_after k r) (reaches k (left_after k r)) k.size)

@@ -15,11 +15,11 @@ pub record Ranked : Type 0 where
   pub before : Ends
 
 -- a place's gain
-abbrev pub lowerAt : Ranked → ℕ → ℤ
-lowerAt k i = sub_ℕ (k.low i) k.before.high
+abbrev pub lower_at : Ranked → ℕ → ℤ
+lower_at k i = sub_ℕ (k.low i) k.before.high
 
-abbrev pub upperAt : Ranked → ℕ → ℤ
-upperAt k i = sub_ℕ (k.high i) k.before.low
+abbrev pub upper_at : Ranked → ℕ → ℤ
+upper_at k i = sub_ℕ (k.high i) k.before.low
 
 -- L, the highest lower end of the places that are left: that of the highest low
 abbrev pub leading : Ranked → (left : ℕ → Bool) → ℤ
@@ -27,7 +27,7 @@ leading k left = sub_ℕ (highest k.low left k.size) k.before.high
 
 -- is a place's upper end not below L? the group of those, and the rest
 abbrev pub reaches : Ranked → (left : ℕ → Bool) (i : ℕ) → Bool
-reaches k left i = le_z (leading k left) (upperAt k i)
+reaches k left i = le_z (leading k left) (upper_at k i)
 
 abbrev pub alike : Ranked → (left : ℕ → Bool) (i : ℕ) → Bool
 alike k left i = left i && reaches k left i
@@ -36,17 +36,17 @@ abbrev pub rest : Ranked → (left : ℕ → Bool) (i : ℕ) → Bool
 rest k left i = left i && not (reaches k left i)
 
 -- which are left after r groups, and how many are not
-unfoldable pub leftAfter : Ranked → (r : ℕ) → ℕ → Bool
-leftAfter k zero = λ i. true
-leftAfter k (suc r) = rest k (leftAfter k r)
+unfoldable pub left_after : Ranked → (r : ℕ) → ℕ → Bool
+left_after k zero = λ i. true
+left_after k (suc r) = rest k (left_after k r)
 
-abbrev pub groupAt : Ranked → (r : ℕ) → ℕ → Bool
-groupAt k r = alike k (leftAfter k r)
+abbrev pub group_at : Ranked → (r : ℕ) → ℕ → Bool
+group_at k r = alike k (left_after k r)
 
-unfoldable pub goneAfter : Ranked → (r : ℕ) → ℕ
-goneAfter k zero = 0
-goneAfter k (suc r) = goneAfter k r + held (groupAt k r) k.size
+unfoldable pub gone_after : Ranked → (r : ℕ) → ℕ
+gone_after k zero = 0
+gone_after k (suc r) = gone_after k r + held (group_at k r) k.size
 
 -- the places that an array has as left
-abbrev pub leftIn : List Bool → ℕ → Bool
-leftIn left i = get_or left i false
+abbrev pub left_in : List Bool → ℕ → Bool
+left_in left i = get_or left i false

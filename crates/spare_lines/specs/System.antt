@@ -2,26 +2,26 @@
 use Rattle.std.specs.Prelude.{not, cond, List, ℕ, ◌+◌, eqb}
 use Rattle.rules.specs.Asked.{Asked, size_of}
 use Rattle.rules.specs.Answer.{unless}
-use Rattle.spares.specs.Places.{spareRefusal}
-use Rattle.pair_lines.specs.Line.{twoText}
+use Rattle.spares.specs.Places.{spare_refusal}
+use Rattle.pair_lines.specs.Line.{two_text}
 use Rattle.spare_lines.specs.declared.Job.{Job}
 use Rattle.spare_lines.specs.declared.best.Shown.{Shown}
-use Rattle.spare_lines.specs.Lines.{gainsText, refusedLine}
-use Rattle.spare_lines.specs.Best.{rankedOf, bestText, bestRoom}
+use Rattle.spare_lines.specs.Lines.{gains_text, refused_line}
+use Rattle.spare_lines.specs.Best.{ranked_of, best_text, best_room}
 
 -- the unit is 2^30 in version 1 alone
-abbrev pub shownOf : (system : ℕ) → Asked → Shown
-shownOf system q = record { s = system; a = q.a; size = size_of q; decimal = not (eqb q.version 1) }
+abbrev pub shown_of : (system : ℕ) → Asked → Shown
+shown_of system q = record { s = system; a = q.a; size = size_of q; decimal = not (eqb q.version 1) }
 
-abbrev pub placesText : Job → Asked → List ℕ
-placesText job q =
-    cond (eqb job.best 0) (gainsText (job.s + 1) job.p q) (bestText (shownOf (job.s + 1) q) job.best (rankedOf q job.p))
+abbrev pub places_text : Job → Asked → List ℕ
+places_text job q =
+    cond (eqb job.best 0) (gains_text (job.s + 1) job.p q) (best_text (shown_of (job.s + 1) q) job.best (ranked_of q job.p))
 
-abbrev pub answeredText : Job → Asked → List ℕ
-answeredText job q = cond job.two (twoText (job.s + 1) job.p q) (placesText job q)
+abbrev pub answered_text : Job → Asked → List ℕ
+answered_text job q = cond job.two (two_text (job.s + 1) job.p q) (places_text job q)
 
-abbrev pub systemText : Job → Asked → List ℕ
-systemText job q = unless (spareRefusal q job.p) (refusedLine (job.s + 1)) (answeredText job q)
+abbrev pub system_text : Job → Asked → List ℕ
+system_text job q = unless (spare_refusal q job.p) (refused_line (job.s + 1)) (answered_text job q)
 
-abbrev pub systemRoom : ℕ
-systemRoom = bestRoom
+abbrev pub system_room : ℕ
+system_room = best_room

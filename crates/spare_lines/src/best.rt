@@ -5,9 +5,9 @@ ghost use Rattle.rules.specs.Refusal.{most};
 ghost use Rattle.text.specs.Added.{Added};
 ghost use Rattle.spare_lines.specs.Lines.{InUnit};
 ghost use Rattle.spares.specs.Highest.{highest};
-ghost use Rattle.spare_lines.specs.Ranks.{leftIn};
-ghost use Rattle.spare_lines.specs.Best.{rankedIn, Grouped, placeText, placeIf, groupIn};
-ghost use Rattle.spare_lines.specs.Best.{placeRoom, groupRoom, bestText, bestRoom, Few, Within};
+ghost use Rattle.spare_lines.specs.Ranks.{left_in};
+ghost use Rattle.spare_lines.specs.Best.{ranked_in, Grouped, place_text, place_if, group_in};
+ghost use Rattle.spare_lines.specs.Best.{place_room, group_room, best_text, best_room, Few, Within};
 
 use places::Ends;
 use rules::limit::FANS;
@@ -65,7 +65,7 @@ fn one_if(b: bool) -> u64
 // The highest low of the places that are left.
 fn highest(left: [bool; FANS], low: [u64; FANS], size: usize) -> u64
     requires { size ≤ most }
-    ensures { result ≡ highest (λ i. get_or low i 0) (leftIn left) size }
+    ensures { result ≡ highest (λ i. get_or low i 0) (left_in left) size }
 {
     let mut top: u64 = 0;
     let mut i: usize = 0;
@@ -81,7 +81,7 @@ fn group_of(left: [bool; FANS], places: Places, before: Ends, size: usize) -> Gr
     requires few { size ≤ most }
     requires within { InUnit places before }
     requires long { length left ≡ most }
-    ensures { Grouped (rankedIn size places before) (leftIn left) result.left result.alike result.count }
+    ensures { Grouped (ranked_in size places before) (left_in left) result.left result.alike result.count }
 {
     let low = places.low;
     let high = places.high;
@@ -116,8 +116,8 @@ fn put_place(
     at: usize,
 ) -> usize
     requires within { (after.low ≤ S) × (after.high ≤ S) }
-    requires room { at + placeRoom ≤ length out.old }
-    ensures { Added (placeText shown rank count fan after) out.old at out.new result }
+    requires room { at + place_room ≤ length out.old }
+    ensures { Added (place_text shown rank count fan after) out.old at out.new result }
 {
     let ranked = lines::put_pair(b"system ", shown.s, b" rank ", rank, out, at);
     let named = lines::put_pair(b" alike ", count, b" fan ", fan, out, ranked);
@@ -136,8 +136,8 @@ fn put_place_if(
     at: usize,
 ) -> usize
     requires within { (after.low ≤ S) × (after.high ≤ S) }
-    requires room { named ≡ true → at + placeRoom ≤ length out.old }
-    ensures { Added (placeIf named shown rank count fan after) out.old at out.new result }
+    requires room { named ≡ true → at + place_room ≤ length out.old }
+    ensures { Added (place_if named shown rank count fan after) out.old at out.new result }
 {
     if !named {
         return at;
@@ -157,8 +157,8 @@ fn put_group(
     requires few { Few shown places }
     requires within { Within places }
     requires group { length group.alike ≡ most }
-    requires room { at + groupRoom shown.size group.alike ≤ length out.old }
-    ensures { Added (groupIn shown rank group.count group.alike places) out.old at
+    requires room { at + group_room shown.size group.alike ≤ length out.old }
+    ensures { Added (group_in shown rank group.count group.alike places) out.old at
         out.new result }
 {
     let low = places.low;
@@ -199,8 +199,8 @@ fn put_round(
     requires few { Few shown places }
     requires within { Within places }
     requires group { length group.alike ≡ most }
-    requires room { named ≡ true → at + groupRoom shown.size group.alike ≤ length out.old }
-    ensures { let lines = groupIn shown rank group.count group.alike places in
+    requires room { named ≡ true → at + group_room shown.size group.alike ≤ length out.old }
+    ensures { let lines = group_in shown rank group.count group.alike places in
         Added (cond named lines []) out.old at out.new result }
 {
     if !named {
@@ -220,9 +220,9 @@ pub fn put_best(
 ) -> usize
     requires few { Few shown places }
     requires within { InUnit places before }
-    requires room { at + bestRoom ≤ length out.old }
-    ensures { let k = rankedIn shown.size places before in
-        Added (bestText shown best k) out.old at out.new result }
+    requires room { at + best_room ≤ length out.old }
+    ensures { let k = ranked_in shown.size places before in
+        Added (best_text shown best k) out.old at out.new result }
 {
     let mut left = [true; FANS];
     let mut gone: u64 = 0;

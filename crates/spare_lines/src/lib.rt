@@ -6,8 +6,8 @@ ghost use Rattle.std.specs.Prelude.{[], ◌≡◌, ◌+◌, ◌≤◌, length};
 ghost use Rattle.rules.specs.State.{S};
 ghost use Rattle.rules.specs.Asked.{asked_of};
 ghost use Rattle.text.specs.Added.{Added};
-ghost use Rattle.spare_lines.specs.Lines.{gainLine, gainLines, gainRoom, gainsRoom, FewPlaces, InUnit};
-ghost use Rattle.spare_lines.specs.System.{systemText, systemRoom};
+ghost use Rattle.spare_lines.specs.Lines.{gain_line, gain_lines, gain_room, gains_room, FewPlaces, InUnit};
+ghost use Rattle.spare_lines.specs.System.{system_text, system_room};
 
 use best::Shown;
 use pair_lines::Two;
@@ -29,8 +29,8 @@ pub struct Job {
 // `system S fan F lower L upper U`.
 fn put_gain(s: u64, fan: u64, after: Ends, before: Ends, out: &mut [u8], at: usize) -> usize
     requires within { (after.low ≤ S) × (after.high ≤ S) × (before.low ≤ S) × (before.high ≤ S) }
-    requires room { at + gainRoom ≤ length out.old }
-    ensures { Added (gainLine s fan after before) out.old at out.new result }
+    requires room { at + gain_room ≤ length out.old }
+    ensures { Added (gain_line s fan after before) out.old at out.new result }
 {
     let lower = swaps::less(after.low, before.high);
     let upper = swaps::less(after.high, before.low);
@@ -51,8 +51,8 @@ fn put_gains(
 ) -> usize
     requires few { FewPlaces a size places }
     requires within { InUnit places before }
-    requires room { at + gainsRoom ≤ length out.old }
-    ensures { Added (gainLines s a size places before) out.old at out.new result }
+    requires room { at + gains_room ≤ length out.old }
+    ensures { Added (gain_lines s a size places before) out.old at out.new result }
 {
     let low = places.low;
     let high = places.high;
@@ -81,10 +81,10 @@ pub fn put_asked(
     at: usize,
 ) -> usize
     requires place { job.s ≤ 64 }
-    requires room { at + systemRoom ≤ length out.old }
+    requires room { at + system_room ≤ length out.old }
     ensures { let q = asked_of question survival.now weights.now []
         boards.now switchboards.now in
-        Added (systemText job q) out.old at out.new result }
+        Added (system_text job q) out.old at out.new result }
 {
     let s = job.s as u64 + 1;
     let refused = spares::refusal(question, job.p, survival, weights, boards, switchboards);

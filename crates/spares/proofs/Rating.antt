@@ -10,10 +10,10 @@ use lib.ListN.{length, get_or, set, replicate, length-set}
 use lib.Seq.{get_or-set_same, get_or-set_other}
 use borrow.Author.Tests.{le-leb, le-ltb, lt-ltb}
 use Rattle.rules.specs.State.{S}
-use Rattle.rules.specs.Asked.{Asked, unitIn, length_of, size_of}
-use Rattle.rules.specs.Refusal.{most, cells, figuresRefusal}
-use Rattle.rules.specs.Worth.{swapped, badFan}
-use Rattle.rules.specs.Gain.{swappedBoth}
+use Rattle.rules.specs.Asked.{Asked, unit_in, length_of, size_of}
+use Rattle.rules.specs.Refusal.{most, cells, figures_refusal}
+use Rattle.rules.specs.Worth.{swapped, bad_fan}
+use Rattle.rules.specs.Gain.{swapped_both}
 use Rattle.rules.proofs.Accepted.{in-stretch, figures-ratable}
 use Rattle.rules.proofs.Sure.{swapped-accepted}
 use Rattle.rules.proofs.Gain.{rating-accepted, rating-small}
@@ -22,16 +22,16 @@ use Rattle.places.specs.declared.Ends.{Ends}
 use Rattle.stretches.specs.Outcome.{Worked}
 use Rattle.swaps.specs.Swapping.{Swappable}
 use Rattle.swaps.proofs.Replaced.{listed, kept-accepted, rated-within, worked-once}
-use Rattle.spares.specs.Places.{spareRefusal, AsItIs, up_to, lowWith, highWith, Rated}
+use Rattle.spares.specs.Places.{spare_refusal, AsItIs, up_to, low_with, high_with, Rated}
 
 abbrev pub clear : List ℕ
 clear = replicate cells 0
 
-module _ (q : Asked) (p : ℕ) (none : spareRefusal q p ≡ 0) where
-  pub accepted : figuresRefusal q clear ≡ 0
+module _ (q : Asked) (p : ℕ) (none : spare_refusal q p ≡ 0) where
+  pub accepted : figures_refusal q clear ≡ 0
   accepted = rating-accepted q p clear none
 
-  pub small : p ≤ unitIn q
+  pub small : p ≤ unit_in q
   small = rating-small q p clear none
 
   -- the stretch lies in the list, which has at most 64 fans
@@ -41,18 +41,18 @@ module _ (q : Asked) (p : ℕ) (none : spareRefusal q p ≡ 0) where
       (h.0, h.1, h.2, listed q clear accepted)
 
   -- a place of the stretch is a fan of it
-  pub in-it : (i : ℕ) → i < size_of q → badFan q (q.a + i) ≡ false
+  pub in-it : (i : ℕ) → i < size_of q → bad_fan q (q.a + i) ≡ false
   in-it i l = rw (le-leb q.a (q.a + i) (omega arith), le-leb (q.a + i) q.b (omega arith))
 
   pub swappable : (i j : ℕ) → i < size_of q → j < size_of q → (later : List ℕ) → Kept clear later
       → Swappable q (record { first = q.a + i; second = q.a + j; p = p }) later
   swappable i j l m later k = record { none = kept-accepted q clear accepted later k; first = in-it i l; second = in-it j m; small = small }
 
-  pub place-within : (i : ℕ) → i < size_of q → {t₀ t : List ℕ} {ends : Ends} → Worked (swappedBoth (q.a + i) (q.a + i) p q) t₀ t ends → (ends.low ≤ S) × (ends.high ≤ S)
+  pub place-within : (i : ℕ) → i < size_of q → {t₀ t : List ℕ} {ends : Ends} → Worked (swapped_both (q.a + i) (q.a + i) p q) t₀ t ends → (ends.low ≤ S) × (ends.high ≤ S)
   place-within i l w = rated-within (swapped (q.a + i) p q) clear (swapped-accepted q clear (q.a + i) p accepted small) (worked-once (q.a + i) p q w)
 
 -- the figures as they are
-pub as-it-is : (q : Asked) → figuresRefusal q clear ≡ 0 → {t : List ℕ} {r : Ends} → Worked q clear t r → AsItIs q r
+pub as-it-is : (q : Asked) → figures_refusal q clear ≡ 0 → {t : List ℕ} {r : Ends} → Worked q clear t r → AsItIs q r
 as-it-is q none w = record { low = w.low; high = w.high; within = rated-within q clear none w }
 
 -- no place, and one more
@@ -67,8 +67,8 @@ none_below f i = rw (le-ltb i 0 zero-le)
 pub no_place : (q : Asked) (p : ℕ) → Rated q p 0 (replicate most 0) (replicate most 0)
 no_place q p = record {
   long = (refl, refl);
-  low = λ i. zeros most i ∙ sym (none_below (lowWith q p) i);
-  high = λ i. zeros most i ∙ sym (none_below (highWith q p) i);
+  low = λ i. zeros most i ∙ sym (none_below (low_with q p) i);
+  high = λ i. zeros most i ∙ sym (none_below (high_with q p) i);
   within = λ i. let z = zeros most i in (omega arith, omega arith);
 }
 
@@ -92,13 +92,13 @@ within-set (y ∷ xs) (suc k) x zero h s = s
 within-set (y ∷ xs) (suc k) x (suc i) h s = within-set xs k x i h s
 
 module _ {q : Asked} {p k : ℕ} {lows highs : List ℕ} (r : Rated q p k lows highs) where
-  pub one_place : k < most → {t₀ t : List ℕ} {ends : Ends} → Worked (swappedBoth (q.a + k) (q.a + k) p q) t₀ t ends → (ends.low ≤ S) × (ends.high ≤ S)
+  pub one_place : k < most → {t₀ t : List ℕ} {ends : Ends} → Worked (swapped_both (q.a + k) (q.a + k) p q) t₀ t ends → (ends.low ≤ S) × (ends.high ≤ S)
       → Rated q p (k + 1) (set lows k ends.low) (set highs k ends.high)
   one_place few {ends = ends} w small =
       let once = worked-once (q.a + k) p q w in
       record {
         long = (length-set lows k ends.low ∙ r.long.0, length-set highs k ends.high ∙ r.long.1);
-        low = one_more k (lowWith q p) lows ends.low (omega (arith, r.long.0)) once.low r.low;
-        high = one_more k (highWith q p) highs ends.high (omega (arith, r.long.1)) once.high r.high;
+        low = one_more k (low_with q p) lows ends.low (omega (arith, r.long.0)) once.low r.low;
+        high = one_more k (high_with q p) highs ends.high (omega (arith, r.long.1)) once.high r.high;
         within = λ i. (within-set lows k ends.low i small.0 (r.within i).0, within-set highs k ends.high i small.1 (r.within i).1);
       }

@@ -1,8 +1,8 @@
 // Where a spare can go in a stretch: the figures as they are, and with the spare in each place.
 ghost use Rattle.std.specs.Prelude.{[], ◌≡◌, replicate};
 ghost use Rattle.rules.specs.Asked.{asked_of, low_of, high_of};
-ghost use Rattle.rules.specs.Refusal.{cells, figuresRefusal};
-ghost use Rattle.spares.specs.Places.{spareRefusal, Placed, AsItIs};
+ghost use Rattle.rules.specs.Refusal.{cells, figures_refusal};
+ghost use Rattle.spares.specs.Places.{spare_refusal, Placed, AsItIs};
 
 use places::Ends;
 use rules::limit::{CELLS, FANS};
@@ -27,7 +27,7 @@ pub fn refusal(
 ) -> u64
     ensures { let q = asked_of question survival.now weights.now []
         boards.now switchboards.now in
-        result ≡ spareRefusal q p }
+        result ≡ spare_refusal q p }
 {
     let working = [0u64; CELLS];
     gain::refusal(
@@ -51,7 +51,7 @@ pub fn rate_now(
     switchboards: &[u32],
 ) -> Ends
     requires { let q = asked_of question survival.now weights.now [] boards.now switchboards.now in
-        figuresRefusal q (replicate cells 0) ≡ 0 }
+        figures_refusal q (replicate cells 0) ≡ 0 }
     ensures { let q = asked_of question survival.now weights.now []
         boards.now switchboards.now in
         AsItIs q result }
@@ -78,7 +78,7 @@ pub fn rate_places(
     switchboards: &[u32],
 ) -> Places
     requires { let q = asked_of question survival.now weights.now [] boards.now switchboards.now in
-        spareRefusal q p ≡ 0 }
+        spare_refusal q p ≡ 0 }
     ensures { let q = asked_of question survival.now weights.now []
         boards.now switchboards.now in
         Placed q p result }

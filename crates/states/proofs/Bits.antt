@@ -7,14 +7,14 @@ use native.Mathlib.Nat.{pow-suc}
 use lib.Dec.{eqb}
 use lib.Pow.{shr-shr, field, mod-mod-pow}
 use Rattle.rules.specs.State.{down}
-use Rattle.states.specs.States.{stateIn}
+use Rattle.states.specs.States.{state_in}
 
 pub more-bit : (b : Bool) (i below : ℕ) → below < 2 ^ i → cond b (1 * 2 ^ i) 0 + below < 2 ^ suc i
 more-bit true i below h = rw (pow-suc 2 i) (omega arith)
 more-bit false i below h = rw (pow-suc 2 i) (omega arith)
 
 -- component i + 1 of the stretch is fan a + i
-pub seen-fan : (a b state i : ℕ) → i < suc b - a → down i (stateIn a b state) ≡ down (a - 1 + i) state
+pub seen-fan : (a b state i : ℕ) → i < suc b - a → down i (state_in a b state) ≡ down (a - 1 + i) state
 seen-fan a b state i h =
     let above = state / 2 ^ (a - 1) in
     let rest = suc b - a - i - 1 in

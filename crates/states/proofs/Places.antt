@@ -12,17 +12,17 @@ use Rattle.rules.specs.declared.Rule.{Rule}
 use Rattle.rules.specs.declared.Verdict.{Verdict}
 use Rattle.rules.specs.declared.Verdict.TheVariants.{Works, Fails, Refused}
 use Rattle.rules.specs.Below.{some, first}
-use Rattle.rules.specs.State.{heldIn, besideOf}
-use Rattle.rules.specs.Pairs.{pairsOf, any_of, lackingFrom, firstLacking}
-use Rattle.rules.specs.Verdict.{firstWindow, firstNear, place_of}
+use Rattle.rules.specs.State.{held_in, beside_of}
+use Rattle.rules.specs.Pairs.{pairs_of, any_of, lacking_from, first_lacking}
+use Rattle.rules.specs.Verdict.{first_window, first_near, place_of}
 use Rattle.rules.specs.Refusal.{most}
 use Rattle.rules.proofs.Tests.{by-test}
 use Rattle.verdict.specs.Outcome.{Judged}
-use Rattle.states.specs.States.{deckPlace}
+use Rattle.states.specs.States.{deck_place}
 use Rattle.states.specs.Placed.{FewPlaces}
 
-pub some-place : (a p : ℕ) → (p ≡ 0 → ⊥) → a - 1 + p ≡ deckPlace a p
-unfolding deckPlace
+pub some-place : (a p : ℕ) → (p ≡ 0 → ⊥) → a - 1 + p ≡ deck_place a p
+unfolding deck_place
 some-place a zero h = absurd (h refl)
 some-place a (suc p) h = refl
 
@@ -47,18 +47,18 @@ bounded_at m [] i h = omega arith
 bounded_at m (x ∷ xs) zero h = h.0
 bounded_at m (x ∷ xs) (suc i) h = bounded_at m xs i h.1
 
-window-within : (ring : Bool) (n width need w : ℕ) → firstWindow ring n width need w ≤ n + 2
-unfolding firstWindow
-window-within true n width need w = one-past (λ a. leb need (heldIn n a w width)) n n (omega arith)
-window-within false n width need w = one-past (λ a. leb need (heldIn n a w width)) (suc n - width) n (omega arith)
+window-within : (ring : Bool) (n width need w : ℕ) → first_window ring n width need w ≤ n + 2
+unfolding first_window
+window-within true n width need w = one-past (λ a. leb need (held_in n a w width)) n n (omega arith)
+window-within false n width need w = one-past (λ a. leb need (held_in n a w width)) (suc n - width) n (omega arith)
 
-near_within : (n r w : ℕ) → firstNear n r w ≤ n + 2
-unfolding firstNear
+near_within : (n r w : ℕ) → first_near n r w ≤ n + 2
+unfolding first_near
 near_within n r w = by-test (λ x. x ≤ n + 2) (leb n r) 1 _ (λ _. omega arith) (λ _. window-within false n r 2 w)
 
-lacking-within : (ps : List Pair) (n w : ℕ) → firstLacking ps n w ≤ n + 2
-unfolding firstLacking
-lacking-within ps n w = one-past (λ a. any_of (lackingFrom n w a) ps) n n (omega arith)
+lacking-within : (ps : List Pair) (n w : ℕ) → first_lacking ps n w ≤ n + 2
+unfolding first_lacking
+lacking-within ps n w = one-past (λ a. any_of (lacking_from n w a) ps) n n (omega arith)
 
 place-within : (rule : Rule) (n : ℕ) (beside : List ℕ) (w : ℕ) → place_of rule n beside w ≤ n + 2
 unfolding place_of Bounded
@@ -69,11 +69,11 @@ place-within rule n beside w =
     ∷ 0
     ∷ 0
     ∷ 0
-    ∷ firstWindow false n rule.first rule.first w
-    ∷ firstWindow true n rule.first rule.first w
-    ∷ firstNear n rule.second w
-    ∷ firstWindow true n rule.second 2 w
-    ∷ firstLacking (pairsOf rule.first rule.second beside) n w
+    ∷ first_window false n rule.first rule.first w
+    ∷ first_window true n rule.first rule.first w
+    ∷ first_near n rule.second w
+    ∷ first_window true n rule.second 2 w
+    ∷ first_lacking (pairs_of rule.first rule.second beside) n w
     ∷ [])
     rule.kind (
       none,
@@ -91,7 +91,7 @@ place-within rule n beside w =
                   near_within n rule.second w,
                   (
                     window-within true n rule.second 2 w,
-                    (lacking-within (pairsOf rule.first rule.second beside) n w, tt),
+                    (lacking-within (pairs_of rule.first rule.second beside) n w, tt),
                   ),
                 ),
               ),
@@ -104,5 +104,5 @@ place-within rule n beside w =
 pub few-places : (rule : Rule) (n : ℕ) (weights more : List ℕ) (state : ℕ) (r : Verdict) → Judged rule n weights more state r → n ≤ most → FewPlaces r
 few-places rule n weights more state Works h l = tt
 few-places rule n weights more state (Fails p) h l =
-    omega (arith, h.answer.2, place-within rule n (besideOf rule weights more) state)
+    omega (arith, h.answer.2, place-within rule n (beside_of rule weights more) state)
 few-places rule n weights more state (Refused r) h l = tt

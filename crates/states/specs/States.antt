@@ -6,45 +6,45 @@ use Rattle.rules.specs.declared.System.{System}
 use Rattle.rules.specs.declared.Verdict.{Verdict}
 use Rattle.rules.specs.declared.Verdict.TheVariants.{Works, Fails, Refused}
 use Rattle.rules.specs.State.{number_of}
-use Rattle.rules.specs.Boards.{fansDown}
+use Rattle.rules.specs.Boards.{fans_down}
 use Rattle.rules.specs.Stretch.{stretch}
-use Rattle.rules.specs.Answer.{unless, verdictOf}
-use Rattle.rules.specs.File.{Deck, deckIn, systemIn}
-use Rattle.asked.specs.Parts.{placeRefusal}
+use Rattle.rules.specs.Answer.{unless, verdict_of}
+use Rattle.rules.specs.File.{Deck, deck_in, system_in}
+use Rattle.asked.specs.Parts.{place_refusal}
 
 -- the state with a fan failed too
-unfoldable pub fanFailed : (state fan : ℕ) → ℕ
-fanFailed state fan = bit_or state (2 ^ (fan - 1))
+unfoldable pub fan_failed : (state fan : ℕ) → ℕ
+fan_failed state fan = bit_or state (2 ^ (fan - 1))
 
 -- "A failed board fails its fans": the state with every fan on a board failed too, by the fans' board numbers
-unfoldable pub boardFailed : (boards : List ℕ) (board state : ℕ) → ℕ
-boardFailed boards board state = fansDown (λ i. eqb (number_of boards i) board) (length boards) state
+unfoldable pub board_failed : (boards : List ℕ) (board state : ℕ) → ℕ
+board_failed boards board state = fans_down (λ i. eqb (number_of boards i) board) (length boards) state
 
 -- what the stretch from a to b sees of a state: its first component is fan a, and a fan outside it does not count
-abbrev pub stateIn : (a b state : ℕ) → ℕ
-stateIn a b state = state / 2 ^ (a - 1) % 2 ^ (suc b - a)
+abbrev pub state_in : (a b state : ℕ) → ℕ
+state_in a b state = state / 2 ^ (a - 1) % 2 ^ (suc b - a)
 
 -- a place in a stretch from a on, as the fan's number on the deck; kinds 1 to 3 have no place, 0, there and here
-unfoldable pub deckPlace : (a place : ℕ) → ℕ
-deckPlace a zero = 0
-deckPlace a (suc p) = a - 1 + suc p
+unfoldable pub deck_place : (a place : ℕ) → ℕ
+deck_place a zero = 0
+deck_place a (suc p) = a - 1 + suc p
 
-abbrev pub onDeck : (a : ℕ) → Verdict → Verdict
-onDeck a Works = Works
-onDeck a (Fails place) = Fails (deckPlace a place)
-onDeck a (Refused number) = Refused number
+abbrev pub on_deck : (a : ℕ) → Verdict → Verdict
+on_deck a Works = Works
+on_deck a (Fails place) = Fails (deck_place a place)
+on_deck a (Refused number) = Refused number
 
 -- a system's verdict over n fans: refusals 1, 2 and 3 as of a rating, then those of the verdict over the stretch, 5 and 6. Survival numbers are not looked at.
-unfoldable pub partVerdict : System → (n : ℕ) (weights : List ℕ) (state : ℕ) → Verdict
-partVerdict s n weights state =
+unfoldable pub part_verdict : System → (n : ℕ) (weights : List ℕ) (state : ℕ) → Verdict
+part_verdict s n weights state =
     let a = s.a in
     let b = s.b in
-    unless (placeRefusal s.rule a b n) Refused
-    (onDeck a (verdictOf s.rule (suc b - a) (stretch a b weights) [] (stateIn a b state)))
+    unless (place_refusal s.rule a b n) Refused
+    (on_deck a (verdict_of s.rule (suc b - a) (stretch a b weights) [] (state_in a b state)))
 
-abbrev pub systemVerdict : Deck → System → (state : ℕ) → Verdict
-systemVerdict d s state = partVerdict s (length d.survival) d.weights state
+abbrev pub system_verdict : Deck → System → (state : ℕ) → Verdict
+system_verdict d s state = part_verdict s (length d.survival) d.weights state
 
 -- that of a file's system, counted from 0
-abbrev pub verdictIn : (bytes : List ℕ) (s state : ℕ) → Verdict
-verdictIn bytes s state = systemVerdict (deckIn bytes) (systemIn bytes s) state
+abbrev pub verdict_in : (bytes : List ℕ) (s state : ℕ) → Verdict
+verdict_in bytes s state = system_verdict (deck_in bytes) (system_in bytes s) state

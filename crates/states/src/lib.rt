@@ -4,7 +4,7 @@ ghost use Rattle.std.specs.Prelude.{[], cond, ◌||◌, ◌≡◌, ◌*◌, ◌^
 ghost use Rattle.rules.specs.State.{down};
 ghost use Rattle.rules.specs.Refusal.{most};
 ghost use Rattle.deck.specs.Outcome.{Placed};
-ghost use Rattle.states.specs.States.{fanFailed, boardFailed, stateIn, deckPlace, onDeck, partVerdict, verdictIn};
+ghost use Rattle.states.specs.States.{fan_failed, board_failed, state_in, deck_place, on_deck, part_verdict, verdict_in};
 ghost use Rattle.states.specs.Placed.{FewPlaces};
 
 use deck::Head;
@@ -18,7 +18,7 @@ const BITS: u64 = 64;
 // The state with a fan failed too.
 pub fn fan_failed(state: u64, fan: u64) -> u64
     requires { (1 ≤ fan) × (fan ≤ most) }
-    ensures { result ≡ fanFailed state fan }
+    ensures { result ≡ fan_failed state fan }
 {
     state | (1 << (fan - 1))
 }
@@ -48,7 +48,7 @@ fn bit_of(failed: bool, i: u64) -> u64
 // The state with every fan on a board failed too, by the fans' board numbers.
 pub fn board_failed(boards: &[u8], board: u64, state: u64) -> u64
     requires { length boards.now ≤ most }
-    ensures { result ≡ boardFailed boards.now board state }
+    ensures { result ≡ board_failed boards.now board state }
 {
     let mut after: u64 = 0;
     let mut i: usize = 0;
@@ -63,7 +63,7 @@ pub fn board_failed(boards: &[u8], board: u64, state: u64) -> u64
 // What a stretch sees of a state. A mask of all 64 ones is within: the full word is shifted down, not 1 up.
 fn state_in(a: u64, b: u64, state: u64) -> u64
     requires { (1 ≤ a) × (a ≤ b) × (b ≤ most) }
-    ensures { result ≡ stateIn a b state }
+    ensures { result ≡ state_in a b state }
 {
     let size = b + 1 - a;
     let mask = ONES >> (BITS - size);
@@ -73,7 +73,7 @@ fn state_in(a: u64, b: u64, state: u64) -> u64
 // A place in a stretch from a on, counted on the deck; 0 is no place.
 fn deck_place(a: u64, place: u64) -> u64
     requires { (1 ≤ a) × (a ≤ most) × (place ≤ 2 * most) }
-    ensures { result ≡ deckPlace a place }
+    ensures { result ≡ deck_place a place }
 {
     if place == 0 {
         return 0;
@@ -85,7 +85,7 @@ fn deck_place(a: u64, place: u64) -> u64
 fn on_deck(a: u64, verdict: Verdict) -> Verdict
     requires start { (1 ≤ a) × (a ≤ most) }
     requires few { FewPlaces verdict }
-    ensures { result ≡ onDeck a verdict }
+    ensures { result ≡ on_deck a verdict }
 {
     match verdict {
         Verdict::Works => Verdict::Works,
@@ -96,7 +96,7 @@ fn on_deck(a: u64, verdict: Verdict) -> Verdict
 
 // A system's verdict over a deck's weights: 1, 2 and 3 as of a rating, then the verdict over the stretch alone.
 fn judge_part(system: System, weights: &[u16], state: u64) -> Verdict
-    ensures { result ≡ partVerdict system (length weights.now) weights.now state }
+    ensures { result ≡ part_verdict system (length weights.now) weights.now state }
 {
     let rule = system.rule;
     let a = system.a;
@@ -121,7 +121,7 @@ fn judge_part(system: System, weights: &[u16], state: u64) -> Verdict
 // The verdict of the system at a place of a file that is not refused, counted from 0, on a state of the deck.
 pub fn state_system(file: &[u8], head: Head, s: usize, state: u64) -> Verdict
     requires { Placed file.now head s }
-    ensures { result ≡ verdictIn file.now s state }
+    ensures { result ≡ verdict_in file.now s state }
 {
     let n = head.fans;
     let weights = deck::weights_in(file, head);

@@ -8,10 +8,10 @@ use lib.ListN.{replicate}
 use Rattle.rules.specs.declared.Rating.{Rating}
 use Rattle.rules.specs.declared.Rating.TheVariants.{Range, Refused}
 use Rattle.rules.specs.Refusal.{cells}
-use Rattle.rules.specs.Answer.{Rates, cleared, tableAfter}
+use Rattle.rules.specs.Answer.{Rates, cleared, table_after}
 use Rattle.rules.proofs.Unless.{unless-none, unless-some}
 use Rattle.places.specs.Cells.{Kept}
-use Rattle.stretches.specs.Outcome.{Used, isRange, clearedIf, Answers}
+use Rattle.stretches.specs.Outcome.{Used, is_range, cleared_if, Answers}
 
 -- a table whose rest was kept, cleared
 pub kept-cleared : (t₀ t : List ℕ) → Kept t₀ t → cleared t ≡ cleared t₀
@@ -25,20 +25,20 @@ pub used-answered : {refusal : ℕ} {t₀ t : List ℕ} → refusal ≡ 0 → Ke
 used-answered none kept = record { untouched = λ some. absurd (some none); kept = kept }
 
 -- and that cleared after an answer
-pub used-cleared : (answered : Bool) {refusal : ℕ} {t₀ t t' : List ℕ} → Answers answered refusal → Used refusal t₀ t → t' ≡ clearedIf answered t
-    → t' ≡ tableAfter refusal t₀
+pub used-cleared : (answered : Bool) {refusal : ℕ} {t₀ t t' : List ℕ} → Answers answered refusal → Used refusal t₀ t → t' ≡ cleared_if answered t
+    → t' ≡ table_after refusal t₀
 used-cleared true {t₀ = t₀} {t = t} none used e = e ∙ kept-cleared t₀ t used.kept ∙ sym (unless-none _ _ _ none)
 used-cleared false some used e = e ∙ used.untouched some ∙ sym (unless-some _ _ _ some)
 
 -- ---- the same of a rating by its cases
 
-ranged : (r : Rating) (refusal low high : ℕ) → Rates r refusal low high → Answers (isRange r) refusal
+ranged : (r : Rating) (refusal low high : ℕ) → Rates r refusal low high → Answers (is_range r) refusal
 ranged (Range l h) refusal low high given = given.0
 ranged (Refused number) refusal low high given = λ none. omega (arith, given.1)
 
-module _ (r : Rating) (refusal low high : ℕ) (given : Rates r refusal low high) {b : Bool} (is : b ≡ isRange r) where
+module _ (r : Rating) (refusal low high : ℕ) (given : Rates r refusal low high) {b : Bool} (is : b ≡ is_range r) where
   pub range-accepted : b ≡ true → refusal ≡ 0
   range-accepted e = rw (sym is ∙ e) at (ranged r refusal low high given)
 
-  pub range-cleared : {t₀ t t' : List ℕ} → Used refusal t₀ t → t' ≡ clearedIf b t → t' ≡ tableAfter refusal t₀
+  pub range-cleared : {t₀ t t' : List ℕ} → Used refusal t₀ t → t' ≡ cleared_if b t → t' ≡ table_after refusal t₀
   range-cleared used e = used-cleared b (rw is (ranged r refusal low high given)) used e

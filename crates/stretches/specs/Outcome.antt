@@ -19,14 +19,14 @@ pub record Used (refusal : ℕ) (t₀ t : List ℕ) : Type 0 where
   pub kept : Kept t₀ t
 
 -- is a rating an answer, and no refusal?
-abbrev pub isRange : Rating → Bool
-isRange (Range low high) = true
-isRange (Refused number) = false
+abbrev pub is_range : Rating → Bool
+is_range (Range low high) = true
+is_range (Refused number) = false
 
 -- a table cleared after an answer, and after a refusal as it was
-abbrev pub clearedIf : (answered : Bool) → List ℕ → List ℕ
-clearedIf true table = cleared table
-clearedIf false table = table
+abbrev pub cleared_if : (answered : Bool) → List ℕ → List ℕ
+cleared_if true table = cleared table
+cleared_if false table = table
 
 -- whether there was an answer, by the call's refusal
 abbrev pub Answers : (answered : Bool) (refusal : ℕ) → Type 0

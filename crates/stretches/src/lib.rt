@@ -1,8 +1,8 @@
 // A stretch that is not refused: its low and high, worked where it stands; and a lent table cleared after an answer.
 ghost use Rattle.std.specs.Prelude.{◌≡◌, true, ◌≤◌, length};
 ghost use Rattle.rules.specs.Asked.{asked_of};
-ghost use Rattle.rules.specs.Refusal.{cells, figuresRefusal};
-ghost use Rattle.stretches.specs.Outcome.{Worked, isRange, clearedIf};
+ghost use Rattle.rules.specs.Refusal.{cells, figures_refusal};
+ghost use Rattle.stretches.specs.Outcome.{Worked, is_range, cleared_if};
 
 use places::Ends;
 use rules::limit::CELLS;
@@ -20,7 +20,7 @@ pub fn work(
     table: &mut [u64],
 ) -> Ends
     requires { let q = asked_of question survival.now weights.now more.now boards.now switchboards.now in
-        figuresRefusal q table.old ≡ 0 }
+        figures_refusal q table.old ≡ 0 }
     ensures { let q = asked_of question survival.now weights.now more.now
         boards.now switchboards.now in
         Worked q table.old table.new result }
@@ -48,7 +48,7 @@ pub fn work(
 
 // Is it a range, and no refusal?
 pub fn is_range(rating: Rating) -> bool
-    ensures { result ≡ isRange rating }
+    ensures { result ≡ is_range rating }
 {
     match rating {
         Rating::Range { low: _, high: _ } => true,
@@ -60,7 +60,7 @@ pub fn is_range(rating: Rating) -> bool
 // they were.
 pub fn clear(answered: bool, table: &mut [u64])
     requires { answered ≡ true → cells ≤ length table.old }
-    ensures { table.new ≡ clearedIf answered table.old }
+    ensures { table.new ≡ cleared_if answered table.old }
 {
     if answered {
         places::zero(table, CELLS);

@@ -4,18 +4,18 @@ use Rattle.rules.specs.declared.Worth.{Worth}
 use Rattle.rules.specs.declared.Worth.TheVariants.{Ends, Refused}
 use Rattle.rules.specs.Below.{within}
 use Rattle.rules.specs.Refusal.{after}
-use Rattle.rules.specs.Answer.{tableAfter}
+use Rattle.rules.specs.Answer.{table_after}
 use Rattle.rules.specs.Worth.{Weighs}
 use Rattle.stretches.specs.Outcome.{Used}
 
 -- a rating's own refusal and the stretch: 17 comes after it
-abbrev pub fanRefusal : (own a fan b : ℕ) → ℕ
-fanRefusal own a fan b = after own (cond (not (within a fan b)) 17 0)
+abbrev pub fan_refusal : (own a fan b : ℕ) → ℕ
+fan_refusal own a fan b = after own (cond (not (within a fan b)) 17 0)
 
 -- is it an answer, and no refusal?
-abbrev pub isEnds : Worth → Bool
-isEnds (Ends lower upper) = true
-isEnds (Refused number) = false
+abbrev pub is_ends : Worth → Bool
+is_ends (Ends lower upper) = true
+is_ends (Refused number) = false
 
 -- by the call's refusal and the two ends: the table after a refusal as it was, after an answer as it was worked
 pub record Compared (refusal : ℕ) (lower upper : ℤ) (t₀ t : List ℕ) (r : Worth) : Type 0 where
@@ -25,4 +25,4 @@ pub record Compared (refusal : ℕ) (lower upper : ℤ) (t₀ t : List ℕ) (r :
 -- the same with the table handed back clear
 pub record Returned (refusal : ℕ) (lower upper : ℤ) (t₀ t : List ℕ) (r : Worth) : Type 0 where
   pub answer : Weighs r refusal lower upper
-  pub table : t ≡ tableAfter refusal t₀
+  pub table : t ≡ table_after refusal t₀

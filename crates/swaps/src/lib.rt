@@ -8,8 +8,8 @@ ghost use Rattle.rules.specs.Asked.{asked_of};
 ghost use Rattle.rules.specs.Refusal.{most};
 ghost use Rattle.stretches.specs.Outcome.{Worked};
 ghost use Rattle.swaps.specs.Copied.{Copied};
-ghost use Rattle.swaps.specs.Swapping.{swapIn, Swappable};
-ghost use Rattle.swaps.specs.Compared.{fanRefusal, isEnds};
+ghost use Rattle.swaps.specs.Swapping.{swap_in, Swappable};
+ghost use Rattle.swaps.specs.Compared.{fan_refusal, is_ends};
 
 use places::Ends;
 use rules::limit::FANS;
@@ -25,7 +25,7 @@ pub struct Swap {
 
 // A rating's own refusal, then 17: the fan is outside the stretch.
 pub fn fan_refusal(own: u64, a: u64, fan: u64, b: u64) -> u64
-    ensures { result ≡ fanRefusal own a fan b }
+    ensures { result ≡ fan_refusal own a fan b }
 {
     let refused = own != 0;
     let outside = refusals::outside(a, fan, b);
@@ -69,7 +69,7 @@ pub fn rate(
         Swappable q swap table.old }
     ensures { let q = asked_of question survival.now weights.now more.now
         boards.now switchboards.now in
-        Worked (swapIn swap q) table.old table.new result }
+        Worked (swap_in swap q) table.old table.new result }
 {
     let n = survival.len();
     let a = question.a;
@@ -112,7 +112,7 @@ pub fn difference(after: Ends, before: Ends) -> Worth
 
 // Is it an answer, and no refusal?
 pub fn is_ends(worth: Worth) -> bool
-    ensures { result ≡ isEnds worth }
+    ensures { result ≡ is_ends worth }
 {
     match worth {
         Worth::Ends { lower: _, upper: _ } => true,

@@ -9,13 +9,13 @@ use borrow.Author.Tests.{not-false}
 use Rattle.rules.specs.Below.{within}
 use Rattle.rules.specs.Refusal.{after}
 use Rattle.rules.specs.Answer.{unless}
-use Rattle.rules.specs.File.{fileRefusal, badNumber}
+use Rattle.rules.specs.File.{file_refusal, bad_number}
 use Rattle.deck.specs.declared.Opened.{Opened}
 use Rattle.deck.specs.Outcome.{Opens, Placed}
 use Rattle.deck.proofs.Outcome.{opened-headed}
 use Rattle.rules.proofs.EachKind.{within-true}
 use Rattle.rules.proofs.Unless.{after-some}
-use Rattle.systems.specs.Opened.{openRefusal}
+use Rattle.systems.specs.Opened.{open_refusal}
 
 both-refusals : {A : Type 0} (refused : ℕ → A) (answer : A) (r : ℕ) (b : Bool)
     → unless r refused (cond b (refused 14) answer) ≡ unless (after r (cond b 14 0)) refused answer
@@ -32,8 +32,8 @@ neither (suc r) b e = absurd (omega arith)
 
 module _ {bytes : List ℕ} {opened : Opened} (opens : Opens bytes opened) (s : ℕ) where
   -- beside a refusal no number is looked at, and without one the head's count is the file's
-  opened-refusal : (r : ℕ) → opened.refusal ≡ r → after (fileRefusal bytes) (cond (badNumber bytes s) 14 0) ≡ openRefusal opened s
-  unfolding openRefusal
+  opened-refusal : (r : ℕ) → opened.refusal ≡ r → after (file_refusal bytes) (cond (bad_number bytes s) 14 0) ≡ open_refusal opened s
+  unfolding open_refusal
   opened-refusal zero none =
       let systems = (opened-headed opens none).says.systems in
       sym (λ x. after (opens.refusal x) (cond (not (within 1 s (systems x))) 14 0))
@@ -42,13 +42,13 @@ module _ {bytes : List ℕ} {opened : Opened} (opens : Opens bytes opened) (s : 
       after-some _ _ (λ none. given (opens.refusal ∙ none)) ∙ sym opens.refusal ∙ sym (after-some _ _ given)
 
   pub opened-answer : {A : Type 0} (refused : ℕ → A) (answer : A)
-      → unless (fileRefusal bytes) refused (cond (badNumber bytes s) (refused 14) answer) ≡ unless (openRefusal opened s) refused answer
+      → unless (file_refusal bytes) refused (cond (bad_number bytes s) (refused 14) answer) ≡ unless (open_refusal opened s) refused answer
   opened-answer refused answer =
-      both-refusals refused answer (fileRefusal bytes) (badNumber bytes s) ∙ ap (λ r. unless r refused answer) (opened-refusal opened.refusal refl)
+      both-refusals refused answer (file_refusal bytes) (bad_number bytes s) ∙ ap (λ r. unless r refused answer) (opened-refusal opened.refusal refl)
 
   -- past both the number is that of one of the file's systems
-  pub numbered : openRefusal opened s ≡ 0 → (1 ≤ s) × Placed bytes opened.head (s - 1)
-  unfolding openRefusal
+  pub numbered : open_refusal opened s ≡ 0 → (1 ≤ s) × Placed bytes opened.head (s - 1)
+  unfolding open_refusal
   numbered none =
       let past = neither opened.refusal _ none in
       let l = within-true 1 s opened.head.systems (not-false _ past.1) in

@@ -5,5 +5,5 @@ use Rattle.rules.specs.Refusal.{after}
 use Rattle.deck.specs.declared.Opened.{Opened}
 
 -- a file's own refusal, then 14
-unfoldable pub openRefusal : Opened → ℕ → ℕ
-openRefusal opened s = after opened.refusal (cond (not (within 1 s opened.head.systems)) 14 0)
+unfoldable pub open_refusal : Opened → ℕ → ℕ
+open_refusal opened s = after opened.refusal (cond (not (within 1 s opened.head.systems)) 14 0)

@@ -1,11 +1,11 @@
 // The figures of a system of a deck.
 ghost use Rattle.std.specs.Prelude.{[], ◌≡◌, replicate};
-ghost use Rattle.rules.specs.Asked.{questionOf, asked_of};
+ghost use Rattle.rules.specs.Asked.{question_of, asked_of};
 ghost use Rattle.rules.specs.Refusal.{cells};
-ghost use Rattle.rules.specs.Answer.{figuresOf};
-ghost use Rattle.rules.specs.File.{answer_in, loadingOf};
+ghost use Rattle.rules.specs.Answer.{figures_of};
+ghost use Rattle.rules.specs.File.{answer_in, loading_of};
 ghost use Rattle.deck.specs.Outcome.{Opens, Placed};
-ghost use Rattle.systems.specs.Opened.{openRefusal};
+ghost use Rattle.systems.specs.Opened.{open_refusal};
 
 use deck::{Head, Opened};
 use rules::limit::CELLS;
@@ -20,10 +20,10 @@ fn rate_lists(
     boards: &[u8],
     switchboards: &[u32],
 ) -> Rating
-    ensures { let question = questionOf version system.rule system.a system.b in
+    ensures { let question = question_of version system.rule system.a system.b in
         let q = asked_of question survival.now weights.now []
         boards.now switchboards.now in
-        result ≡ figuresOf q (replicate cells 0) }
+        result ≡ figures_of q (replicate cells 0) }
 {
     let rule = system.rule;
     let question = Question {
@@ -69,7 +69,7 @@ pub fn rate(file: &[u8], head: Head, s: usize) -> Rating
 
 // The refusal of a file that was opened, then 14 for a system that it does not have; 0 for none.
 pub fn refusal(opened: Opened, system: u64) -> u64
-    ensures { result ≡ openRefusal opened system }
+    ensures { result ≡ open_refusal opened system }
 {
     let own = opened.refusal;
     if own != 0 {
@@ -86,7 +86,7 @@ pub fn refusal(opened: Opened, system: u64) -> u64
 // own.
 pub fn rate_opened(file: &[u8], opened: Opened, system: u64) -> Rating
     requires { Opens file.now opened }
-    ensures { result ≡ loadingOf file.now system }
+    ensures { result ≡ loading_of file.now system }
 {
     let refused = refusal(opened, system);
     if refused != 0 {
@@ -98,7 +98,7 @@ pub fn rate_opened(file: &[u8], opened: Opened, system: u64) -> Rating
 
 // The same of a file that was not.
 pub fn rate_file(file: &[u8], system: u64) -> Rating
-    ensures { result ≡ loadingOf file.now system }
+    ensures { result ≡ loading_of file.now system }
 {
     rate_opened(file, deck::open(file), system)
 }

@@ -1,7 +1,7 @@
 // The fans that are worth most, named.
 ghost use Rattle.std.specs.Prelude.{◌≤◌, ◌<◌, length};
 ghost use Rattle.forms.specs.Within.{Within};
-ghost use Rattle.drawn.specs.Drawn.{mostDrawn};
+ghost use Rattle.drawn.specs.Drawn.{most_drawn};
 
 use crate::fitted;
 use drawn::{Shape, Worths};
@@ -37,7 +37,7 @@ fn above(lower: i64, upper: i64, other_lower: i64, other_upper: i64) -> bool {
 
 // Is the fan at a place to be named before the best so far?
 fn before(worths: Worths, i: usize, best: usize) -> bool
-    requires { (i < mostDrawn) × (best ≤ mostDrawn) }
+    requires { (i < most_drawn) × (best ≤ most_drawn) }
 {
     if best == FANS {
         return true;
@@ -49,8 +49,8 @@ fn before(worths: Worths, i: usize, best: usize) -> bool
 
 // The better of the best so far and the fan at a place, where that is not passed over.
 fn better_of(worths: Worths, passed: bool, i: usize, best: usize) -> usize
-    requires { (i < mostDrawn) × (best ≤ mostDrawn) }
-    ensures { result ≤ mostDrawn }
+    requires { (i < most_drawn) × (best ≤ most_drawn) }
+    ensures { result ≤ most_drawn }
 {
     if passed {
         return best;
@@ -63,7 +63,7 @@ fn better_of(worths: Worths, passed: bool, i: usize, best: usize) -> usize
 
 // The first of those worth most that are not passed over; FANS where none is left.
 fn next_best(worths: Worths, passed: [bool; FANS]) -> usize
-    ensures { result ≤ mostDrawn }
+    ensures { result ≤ most_drawn }
 {
     let mut best = FANS;
     let mut i: usize = 0;
@@ -76,7 +76,7 @@ fn next_best(worths: Worths, passed: [bool; FANS]) -> usize
 
 // The fan at a place and the ends of its worth, as deckworth has them.
 fn put_fan(worths: Worths, i: usize, out: &mut [u8], at: usize) -> usize
-    requires within { i < mostDrawn }
+    requires within { i < most_drawn }
     requires room { at ≤ length out.old }
     ensures { Within result out.new }
 {

@@ -9,7 +9,7 @@ use lib.Seq.{paste, length-paste, take-paste, take_all}
 use borrow.Author.Tests.{le-leb}
 use Rattle.io.specs.Counts.{IsPrefixLen}
 use Rattle.text.specs.Decimal.{decimal, signed}
-use Rattle.text.specs.Lines.{named, namedRoom, pairText, pairRoom, signedNamed, signedPair, signedRoom, signedPairRoom}
+use Rattle.text.specs.Lines.{named, named_room, pair_text, pair_room, signed_named, signed_pair, signed_room, signed_pair_room}
 use Rattle.text.specs.Put.{Put, PutNamed}
 use Rattle.text.specs.Added.{Added}
 use Rattle.text.proofs.Digits.{decimal-short, signed-short}
@@ -35,10 +35,10 @@ module _ {out after : List ℕ} {at end : ℕ} where
       ap length (rw fit at put.stands) ∙ length-paste out at text (length text) room (omega arith)
 
   -- how far a named number reaches, and two of them
-  pub named-reach : (name : List ℕ) (n : ℕ) → Added (named name n) out at after end → end ≤ at + namedRoom name
+  pub named-reach : (name : List ℕ) (n : ℕ) → Added (named name n) out at after end → end ≤ at + named_room name
   named-reach name n added = omega (arith, added.ends, length-append name (decimal n), decimal-short n)
 
-  pub pair-reach : (first : List ℕ) (a : ℕ) (second : List ℕ) (b : ℕ) → Added (pairText first a second b) out at after end → end ≤ at + pairRoom first second
+  pub pair-reach : (first : List ℕ) (a : ℕ) (second : List ℕ) (b : ℕ) → Added (pair_text first a second b) out at after end → end ≤ at + pair_room first second
   pair-reach first a second b added =
       let lengths = length-append (named first a) (named second b) in
       let one = length-append first (decimal a) in
@@ -46,13 +46,13 @@ module _ {out after : List ℕ} {at end : ℕ} where
       omega (arith, added.ends, lengths, one, two, decimal-short a, decimal-short b)
 
   -- and of signed ones
-  pub signed-reach : (name : List ℕ) (z : ℤ) → Added (signedNamed name z) out at after end → end ≤ at + signedRoom name
+  pub signed-reach : (name : List ℕ) (z : ℤ) → Added (signed_named name z) out at after end → end ≤ at + signed_room name
   signed-reach name z added = omega (arith, added.ends, length-append name (signed z), signed-short z)
 
-  pub signed-pair-reach : (first : List ℕ) (a : ℤ) (second : List ℕ) (b : ℤ) → Added (signedPair first a second b) out at after end
-      → end ≤ at + signedPairRoom first second
+  pub signed-pair-reach : (first : List ℕ) (a : ℤ) (second : List ℕ) (b : ℤ) → Added (signed_pair first a second b) out at after end
+      → end ≤ at + signed_pair_room first second
   signed-pair-reach first a second b added =
-      let lengths = length-append (signedNamed first a) (signedNamed second b) in
+      let lengths = length-append (signed_named first a) (signed_named second b) in
       let one = length-append first (signed a) in
       let two = length-append second (signed b) in
       omega (arith, added.ends, lengths, one, two, signed-short a, signed-short b)
@@ -64,11 +64,11 @@ module _ {out after : List ℕ} {at end : ℕ} where
         stands = two.stands ∙ ap (λ t. t ++ more) one.stands ∙ append_assoc (take at out) text more;
       }
 
-pub named-added : {out after : List ℕ} {at end : ℕ} {name : List ℕ} {n : ℕ} → at + namedRoom name ≤ length out → PutNamed out at name n after end
+pub named-added : {out after : List ℕ} {at end : ℕ} {name : List ℕ} {n : ℕ} → at + named_room name ≤ length out → PutNamed out at name n after end
     → Added (named name n) out at after end
 named-added {n} room put =
-    let one = put-added (omega arith) put.name-put in
-    let same = put-length (omega arith) put.name-put in
+    let one = put-added (omega arith) put.name_put in
+    let same = put-length (omega arith) put.name_put in
     added_more one (put-added (omega (arith, one.ends, same, decimal-short n)) put.number_put)
 
 pub none-added : (out : List ℕ) (at : ℕ) → Added [] out at out at

@@ -9,21 +9,21 @@ text []ˢ = []
 text (c ∷ˢ s) = code c ∷ text s
 
 -- a number's decimal digits, the first one first, at most so many
-unfoldable pub digitsIn : (most n : ℕ) → List ℕ
-digitsIn zero n = []
-digitsIn (suc most) n = cond (ltb n 10) ((48 + n) ∷ []) (digitsIn most (n / 10) ++ ((48 + n % 10) ∷ []))
+unfoldable pub digits_in : (most n : ℕ) → List ℕ
+digits_in zero n = []
+digits_in (suc most) n = cond (ltb n 10) ((48 + n) ∷ []) (digits_in most (n / 10) ++ ((48 + n % 10) ∷ []))
 
 -- those of a number of 64 bits, which are 20 at most
-abbrev pub mostDigits : ℕ
-mostDigits = 20
+abbrev pub most_digits : ℕ
+most_digits = 20
 
 abbrev pub decimal : ℕ → List ℕ
-decimal n = digitsIn mostDigits n
+decimal n = digits_in most_digits n
 
 -- a signed number's: those of its absolute value, after a minus where it is negative; and how many bytes these are at most
 abbrev pub signed : ℤ → List ℕ
 signed (pos n) = decimal n
 signed (negsuc n) = text "-" ++ decimal (suc n)
 
-abbrev pub signedDigits : ℕ
-signedDigits = 1 + mostDigits
+abbrev pub signed_digits : ℕ
+signed_digits = 1 + most_digits

@@ -15,5 +15,5 @@ pub record Put (out : List ℕ) (at : ℕ) (text after : List ℕ) (end : ℕ) :
 pub record PutNamed (out : List ℕ) (at : ℕ) (name : List ℕ) (n : ℕ) (after : List ℕ) (end : ℕ) : Type 0 where
   pub between : List ℕ
   pub place : ℕ
-  pub name-put : Put out at name between place
+  pub name_put : Put out at name between place
   pub number_put : Put between place (decimal n) after end

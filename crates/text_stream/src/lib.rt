@@ -1,8 +1,8 @@
 // A typed text, fed in pieces of any size: each line is read when it is whole, and what is listed is what all bytes
 // that were fed list.
 ghost use Rattle.std.specs.Prelude.{◌≡◌, ◌++◌, ◌+◌, ◌≤◌, ◌<◌, length, take};
-ghost use Rattle.listing.specs.Holds.{mostLines};
-ghost use Rattle.text_stream.specs.Feeding.{lineRoom, Starts, Sane, Fed, Ends};
+ghost use Rattle.listing.specs.Holds.{most_lines};
+ghost use Rattle.text_stream.specs.Feeding.{line_room, Starts, Sane, Fed, Ends};
 
 use listing::Listing;
 
@@ -27,9 +27,9 @@ pub fn start() -> Feeding
 
 // Keeps more bytes of a line behind those that are kept, and answers how many there are then; what has no room is cut.
 fn keep(line: &mut [u8], kept: usize, more: &[u8]) -> usize
-    requires { (lineRoom ≤ length line.old) × (kept ≤ lineRoom) }
-    ensures { (result ≤ lineRoom) ×
-        (take result line.new ≡ take lineRoom (take kept line.old ++ more.now)) }
+    requires { (line_room ≤ length line.old) × (kept ≤ line_room) }
+    ensures { (result ≤ line_room) ×
+        (take result line.new ≡ take line_room (take kept line.old ++ more.now)) }
 {
     let left = LINE - kept;
     if more.len() <= left {
@@ -40,8 +40,8 @@ fn keep(line: &mut [u8], kept: usize, more: &[u8]) -> usize
 
 // One piece more, wherever it ends: its first line goes on with what is kept, and its last is kept.
 pub fn feed(before: Feeding, piece: &[u8], line: &mut [u8], out: &mut [u8]) -> Feeding
-    requires sane { Sane before out.old × (lineRoom ≤ length line.old) }
-    requires piece_bound { before.listing.lines + length piece.now ≤ mostLines }
+    requires sane { Sane before out.old × (line_room ≤ length line.old) }
+    requires piece_bound { before.listing.lines + length piece.now ≤ most_lines }
     ensures { Fed before line.old out.old piece.now result line.new
         out.new }
 {
@@ -65,8 +65,8 @@ pub fn feed(before: Feeding, piece: &[u8], line: &mut [u8], out: &mut [u8]) -> F
 
 // The text's end: what is kept is its last line, unless that is empty.
 pub fn finish(before: Feeding, line: &[u8], out: &mut [u8]) -> Listing
-    requires sane { Sane before out.old × (lineRoom ≤ length line.now) }
-    requires lines_bound { before.listing.lines + 1 < mostLines }
+    requires sane { Sane before out.old × (line_room ≤ length line.now) }
+    requires lines_bound { before.listing.lines + 1 < most_lines }
     ensures { Ends before line.now out.old result out.new }
 {
     let old = before.listing;

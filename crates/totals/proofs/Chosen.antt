@@ -7,7 +7,7 @@ use native.Mathlib.Omega.{arith}
 use lib.ListN.{length, length-append}
 use Rattle.rules.specs.Below.{total}
 use Rattle.totals.specs.Season.{chosen}
-use Rattle.totals.specs.Plus.{oneIf}
+use Rattle.totals.specs.Plus.{one_if}
 
 module _ {A : Type 0} (test : A → Bool) where
   pub chosen-append : (xs ys : List A) → chosen test (xs ++ ys) ≡ chosen test xs ++ chosen test ys
@@ -32,7 +32,7 @@ module _ {A : Type 0} (test : A → Bool) where
   chosen-out xs x e = chosen-append xs (x ∷ []) ∙ ap (λ zs. chosen test xs ++ zs) (one-chosen x false e) ∙ append-nil (chosen test xs)
 
   -- how many
-  pub count-plus : (xs : List A) (x : A) (b : Bool) → test x ≡ b → length (chosen test xs) + oneIf b ≡ length (chosen test (xs ++ x ∷ []))
+  pub count-plus : (xs : List A) (x : A) (b : Bool) → test x ≡ b → length (chosen test xs) + one_if b ≡ length (chosen test (xs ++ x ∷ []))
   count-plus xs x true e = rw (chosen-in xs x e, length-append (chosen test xs) (x ∷ []))
   count-plus xs x false e = rw (chosen-out xs x e) (omega arith)
 

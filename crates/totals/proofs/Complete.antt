@@ -10,39 +10,39 @@ use lib.Dec.{eqb}
 use lib.ListN.{length}
 use borrow.Author.Tests.{eq-eqb, ne_eqb, le-leb, eqb-true}
 use Rattle.rules.specs.declared.Rating.{Rating}
-use Rattle.rules.specs.Below.{within, sumBelow, listBelow}
-use Rattle.rules.specs.File.{countIn, fileRefusal}
+use Rattle.rules.specs.Below.{within, sum_below, list_below}
+use Rattle.rules.specs.File.{count_in, file_refusal}
 use Rattle.rules.proofs.EachKind.{within-true}
 use Rattle.totals.specs.declared.tally.Tally.{Tally}
-use Rattle.rules.specs.Refusal.{lastKind}
-use Rattle.totals.specs.Season.{Single, chosen, singleIn, singlesIn, singlesFrom, decksOf, singlesOf, isRange, refusedBy, tally_of, other_of}
-use Rattle.totals.specs.Plus.{oneIf}
+use Rattle.rules.specs.Refusal.{last_kind}
+use Rattle.totals.specs.Season.{Single, chosen, single_in, singles_in, singles_from, decks_of, singles_of, is_range, refused_by, tally_of, other_of}
+use Rattle.totals.specs.Plus.{one_if}
 use Rattle.totals.proofs.Sorted.{Sorted, is-answered, by_three, by-four, by-five, by-six}
 use Rattle.totals.proofs.Growing.{Fits, not-one, fits_in}
 
 -- what a kind's totals have counted
-abbrev pub countedBy : Tally → ℕ
-countedBy t = t.answered + (t.refused.three + t.refused.four + t.refused.five + t.refused.six)
+abbrev pub counted_by : Tally → ℕ
+counted_by t = t.answered + (t.refused.three + t.refused.four + t.refused.five + t.refused.six)
 
 -- one more at a list's front
-count-first : {A : Type 0} (test : A → Bool) (x : A) (xs : List A) → length (chosen test (x ∷ xs)) ≡ oneIf (test x) + length (chosen test xs)
+count-first : {A : Type 0} (test : A → Bool) (x : A) (xs : List A) → length (chosen test (x ∷ xs)) ≡ one_if (test x) + length (chosen test xs)
 unfolding chosen
 count-first test x xs = go (test x)
   where
-    go : (b : Bool) → length (cond b (x ∷ chosen test xs) (chosen test xs)) ≡ oneIf b + length (chosen test xs)
+    go : (b : Bool) → length (cond b (x ∷ chosen test xs) (chosen test xs)) ≡ one_if b + length (chosen test xs)
     go true = omega arith
     go false = omega arith
 
 -- what an answer adds to a kind's
 abbrev shares : (own : Bool) → Rating → ℕ
 shares own a =
-    oneIf (own && isRange a) + (oneIf (own && refusedBy 3 a) + oneIf (own && refusedBy 4 a) + oneIf (own && refusedBy 5 a) + oneIf (own && refusedBy 6 a))
+    one_if (own && is_range a) + (one_if (own && refused_by 3 a) + one_if (own && refused_by 4 a) + one_if (own && refused_by 5 a) + one_if (own && refused_by 6 a))
 
-share-first : (kind : ℕ) (x : Single) (xs : List Single) → countedBy (tally_of kind (x ∷ xs)) ≡ shares (eqb x.kind kind) x.answer + countedBy (tally_of kind xs)
+share-first : (kind : ℕ) (x : Single) (xs : List Single) → counted_by (tally_of kind (x ∷ xs)) ≡ shares (eqb x.kind kind) x.answer + counted_by (tally_of kind xs)
 share-first kind x xs =
-    let by : (number : ℕ) → length (chosen (λ y. eqb y.kind kind && refusedBy number y.answer) (x ∷ xs)) ≡ oneIf (eqb x.kind kind && refusedBy number x.answer) + length (chosen (λ y. eqb y.kind kind && refusedBy number y.answer) xs) =
-    λ number. count-first (λ y. eqb y.kind kind && refusedBy number y.answer) x xs in
-    omega (arith, count-first (λ y. eqb y.kind kind && isRange y.answer) x xs, by 3, by 4, by 5, by 6)
+    let by : (number : ℕ) → length (chosen (λ y. eqb y.kind kind && refused_by number y.answer) (x ∷ xs)) ≡ one_if (eqb x.kind kind && refused_by number x.answer) + length (chosen (λ y. eqb y.kind kind && refused_by number y.answer) xs) =
+    λ number. count-first (λ y. eqb y.kind kind && refused_by number y.answer) x xs in
+    omega (arith, count-first (λ y. eqb y.kind kind && is_range y.answer) x xs, by 3, by 4, by 5, by 6)
 
 -- its own kind, by what it was answered
 own-share : (a : Rating) → Sorted a → shares true a ≡ 1
@@ -53,18 +53,18 @@ own-share a by-five = refl
 own-share a by-six = refl
 
 -- over all kinds
-sum-plus : (n : ℕ) (f g h : ℕ → ℕ) → ((k : ℕ) → h k ≡ f k + g k) → sumBelow n h ≡ sumBelow n f + sumBelow n g
-unfolding sumBelow
+sum-plus : (n : ℕ) (f g h : ℕ → ℕ) → ((k : ℕ) → h k ≡ f k + g k) → sum_below n h ≡ sum_below n f + sum_below n g
+unfolding sum_below
 sum-plus zero f g h e = omega arith
 sum-plus (suc n) f g h e = omega (arith, sum-plus n f g h e, e n)
 
-sum-none : (n : ℕ) (f : ℕ → ℕ) → ((k : ℕ) → k < n → f k ≡ 0) → sumBelow n f ≡ 0
-unfolding sumBelow
+sum-none : (n : ℕ) (f : ℕ → ℕ) → ((k : ℕ) → k < n → f k ≡ 0) → sum_below n f ≡ 0
+unfolding sum_below
 sum-none zero f e = refl
 sum-none (suc n) f e = omega (arith, sum-none n f (λ k l. e k (omega arith)), e n (omega arith))
 
-sum_one : (n at : ℕ) (f : ℕ → ℕ) → at < n → f at ≡ 1 → ((k : ℕ) → k < n → (k ≡ at → ⊥) → f k ≡ 0) → sumBelow n f ≡ 1
-unfolding sumBelow
+sum_one : (n at : ℕ) (f : ℕ → ℕ) → at < n → f at ≡ 1 → ((k : ℕ) → k < n → (k ≡ at → ⊥) → f k ≡ 0) → sum_below n f ≡ 1
+unfolding sum_below
 sum_one zero at f l one other = absurd (omega arith)
 sum_one (suc n) at f l one other =
     elim (dec_lt at n) [
@@ -82,23 +82,23 @@ module _ (x : Single) (fits : Fits x) where
   not_own : (k : ℕ) → (x.kind ≡ suc k → ⊥) → share k ≡ 0
   not_own k other = rw (ne_eqb x.kind (suc k) other)
 
-  adds_one : oneIf (refusedBy 1 x.answer) + sumBelow lastKind share ≡ 1
-  adds_one = go (within 1 x.kind lastKind) refl
+  adds_one : one_if (refused_by 1 x.answer) + sum_below last_kind share ≡ 1
+  adds_one = go (within 1 x.kind last_kind) refl
     where
-      out : (k : ℕ) → k < lastKind → within 1 (suc k) lastKind ≡ false → ⊥
-      out k l e = false≢true (sym e ∙ rw (le-leb 1 (suc k) (omega arith), le-leb (suc k) lastKind (omega arith)))
+      out : (k : ℕ) → k < last_kind → within 1 (suc k) last_kind ≡ false → ⊥
+      out k l e = false≢true (sym e ∙ rw (le-leb 1 (suc k) (omega arith), le-leb (suc k) last_kind (omega arith)))
 
-      go : (b : Bool) → within 1 x.kind lastKind ≡ b → oneIf (refusedBy 1 x.answer) + sumBelow lastKind share ≡ 1
+      go : (b : Bool) → within 1 x.kind last_kind ≡ b → one_if (refused_by 1 x.answer) + sum_below last_kind share ≡ 1
       go true e =
-          let i = within-true 1 x.kind lastKind e in
+          let i = within-true 1 x.kind last_kind e in
           let at = x.kind - 1 in
           let own : x.kind ≡ suc at = omega (arith, i) in
           let own-one : share at ≡ 1 = rw (eq-eqb x.kind (suc at) own) (own-share x.answer (fits.inside e)) in
-          let all = sum_one lastKind at share (omega (arith, i)) own-one (λ k l apart. not_own k (λ z. apart (omega (arith, i, z)))) in
+          let all = sum_one last_kind at share (omega (arith, i)) own-one (λ k l apart. not_own k (λ z. apart (omega (arith, i, z)))) in
           rw (not-one x.answer (fits.inside e)) (omega (arith, all))
       go false e =
-          let none = sum-none lastKind share (λ k l. not_own k (λ z. out k l (rw z at e))) in
-          let one = ap (λ a. oneIf (refusedBy 1 a)) (fits.outside e) in
+          let none = sum-none last_kind share (λ k l. not_own k (λ z. out k l (rw z at e))) in
+          let one = ap (λ a. one_if (refused_by 1 a)) (fits.outside e) in
           omega (arith, none, one)
 
 -- every one of a list fits
@@ -111,34 +111,34 @@ unfolding AllFit
 fit_append [] ys f g = g
 fit_append (x ∷ xs) ys f g = (f.0, fit_append xs ys f.1 g)
 
-fit-below : (n : ℕ) (f : ℕ → Single) → ((k : ℕ) → Fits (f k)) → AllFit (listBelow n f)
-unfolding listBelow AllFit
+fit-below : (n : ℕ) (f : ℕ → Single) → ((k : ℕ) → Fits (f k)) → AllFit (list_below n f)
+unfolding list_below AllFit
 fit-below zero f h = tt
-fit-below (suc n) f h = fit_append (listBelow n f) (f n ∷ []) (fit-below n f h) (h n, tt)
+fit-below (suc n) f h = fit_append (list_below n f) (f n ∷ []) (fit-below n f h) (h n, tt)
 
-fit-from : (deck : ℕ) (files : List (List ℕ)) → AllFit (singlesFrom deck (decksOf files))
-unfolding singlesFrom chosen AllFit
+fit-from : (deck : ℕ) (files : List (List ℕ)) → AllFit (singles_from deck (decks_of files))
+unfolding singles_from chosen AllFit
 fit-from deck [] = tt
-fit-from deck (file ∷ files) = go (eqb (fileRefusal file) 0) refl (λ d. fit-from d files)
+fit-from deck (file ∷ files) = go (eqb (file_refusal file) 0) refl (λ d. fit-from d files)
   where
-    go : (b : Bool) → eqb (fileRefusal file) 0 ≡ b → ((d : ℕ) → AllFit (singlesFrom d (decksOf files)))
-        → AllFit (singlesFrom deck (cond (not (not b)) (file ∷ decksOf files) (decksOf files)))
+    go : (b : Bool) → eqb (file_refusal file) 0 ≡ b → ((d : ℕ) → AllFit (singles_from d (decks_of files)))
+        → AllFit (singles_from deck (cond (not (not b)) (file ∷ decks_of files) (decks_of files)))
     go true e later =
-        fit_append (singlesIn deck file) (singlesFrom (suc deck) (decksOf files)) (fit-below (countIn file) (singleIn deck file) (fits_in deck file (eqb-true (fileRefusal file) 0 e))) (later (suc deck))
+        fit_append (singles_in deck file) (singles_from (suc deck) (decks_of files)) (fit-below (count_in file) (single_in deck file) (fits_in deck file (eqb-true (file_refusal file) 0 e))) (later (suc deck))
     go false e later = later deck
 
-none-counted : other_of [] + sumBelow lastKind (λ k. countedBy (tally_of (suc k) [])) ≡ 0
-unfolding chosen sumBelow
+none-counted : other_of [] + sum_below last_kind (λ k. counted_by (tally_of (suc k) [])) ≡ 0
+unfolding chosen sum_below
 none-counted = refl
 
-all-counted : (xs : List Single) → AllFit xs → other_of xs + sumBelow lastKind (λ k. countedBy (tally_of (suc k) xs)) ≡ length xs
+all-counted : (xs : List Single) → AllFit xs → other_of xs + sum_below last_kind (λ k. counted_by (tally_of (suc k) xs)) ≡ length xs
 unfolding AllFit
 all-counted [] fit = none-counted
 all-counted (x ∷ xs) fit =
-    let sums = sum-plus lastKind (share x fit.0) (λ k. countedBy (tally_of (suc k) xs)) (λ k. countedBy (tally_of (suc k) (x ∷ xs))) (λ k. share-first (suc k) x xs) in
-    omega (arith, sums, count-first (λ y. refusedBy 1 y.answer) x xs, adds_one x fit.0, all-counted xs fit.1)
+    let sums = sum-plus last_kind (share x fit.0) (λ k. counted_by (tally_of (suc k) xs)) (λ k. counted_by (tally_of (suc k) (x ∷ xs))) (λ k. share-first (suc k) x xs) in
+    omega (arith, sums, count-first (λ y. refused_by 1 y.answer) x xs, adds_one x fit.0, all-counted xs fit.1)
 
 -- as many as there are systems in the decks read
 pub none-lost : (files : List (List ℕ))
-    → other_of (singlesOf files) + sumBelow lastKind (λ k. countedBy (tally_of (suc k) (singlesOf files))) ≡ length (singlesOf files)
-none-lost files = all-counted (singlesOf files) (fit-from 1 files)
+    → other_of (singles_of files) + sum_below last_kind (λ k. counted_by (tally_of (suc k) (singles_of files))) ≡ length (singles_of files)
+none-lost files = all-counted (singles_of files) (fit-from 1 files)

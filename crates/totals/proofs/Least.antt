@@ -11,13 +11,13 @@ use borrow.Author.Tests.{lt-ltb, le-ltb, ltb-true, ltb-false, ne_eqb}
 use Rattle.rules.specs.State.{S, decimal, unit_of}
 use Rattle.rules.proofs.Units.{unit-some}
 use Rattle.totals.specs.declared.tally.Lowest.{Lowest}
-use Rattle.totals.specs.Season.{Single, chosen, someOf, ofFirst, lowIn, unitIn, lower, smallest, lowestOf}
-use Rattle.totals.specs.Plus.{lowestPlus}
+use Rattle.totals.specs.Season.{Single, chosen, some_of, of_first, low_in, unit_in, lower, smallest, lowest_of}
+use Rattle.totals.specs.Plus.{lowest_plus}
 use Rattle.totals.proofs.Chosen.{chosen-append}
 
 -- a low in parts of 2^30 * 10^9
 abbrev key : Single → ℕ
-key x = lowIn x.answer * cond (eqb x.version 1) decimal S
+key x = low_in x.answer * cond (eqb x.version 1) decimal S
 
 same_test : (a b c d : ℕ) → (a < b → c < d) → (c < d → a < b) → ltb a b ≡ ltb c d
 same_test a b c d to from = go (ltb a b) refl
@@ -32,7 +32,7 @@ same_test a b c d to from = go (ltb a b) refl
 
 lower-key : (x y : Single) → lower x y ≡ ltb (key x) (key y)
 unfolding unit_of
-lower-key x y = go (lowIn x.answer) (lowIn y.answer) (eqb x.version 1) (eqb y.version 1)
+lower-key x y = go (low_in x.answer) (low_in y.answer) (eqb x.version 1) (eqb y.version 1)
   where
     go : (l m : ℕ) (a b : Bool) → ltb (l * cond b S decimal) (m * cond a S decimal) ≡ ltb (l * cond a decimal S) (m * cond b decimal S)
     go l m true true = same_test (l * S) (m * S) (l * decimal) (m * decimal) (λ h. omega arith) (λ h. omega arith)
@@ -112,8 +112,8 @@ found x (y ∷ ys) =
     ]
 
 -- tests over a list
-some_in : (test : Single → Bool) (xs : List Single) (b : Single) (ys : List Single) → test b ≡ true → someOf test (xs ++ b ∷ ys) ≡ true
-unfolding someOf
+some_in : (test : Single → Bool) (xs : List Single) (b : Single) (ys : List Single) → test b ≡ true → some_of test (xs ++ b ∷ ys) ≡ true
+unfolding some_of
 some_in test [] b ys e = rw e
 some_in test (x ∷ xs) b ys e = rw (some_in test xs b ys e) (either (test x))
   where
@@ -121,8 +121,8 @@ some_in test (x ∷ xs) b ys e = rw (some_in test xs b ys e) (either (test x))
     either true = refl
     either false = refl
 
-none-lower : (k : ℕ) (b : Single) (xs : List Single) → key b ≡ k → AtLeast k xs → someOf (λ y. lower y b) xs ≡ false
-unfolding AtLeast someOf
+none-lower : (k : ℕ) (b : Single) (xs : List Single) → key b ≡ k → AtLeast k xs → some_of (λ y. lower y b) xs ≡ false
+unfolding AtLeast some_of
 none-lower k b [] e l = refl
 none-lower k b (x ∷ xs) e l = rw (lower-key x b ∙ le-ltb (key x) (key b) (omega (arith, l.0)), none-lower k b xs e l.1)
 
@@ -132,31 +132,31 @@ none-chosen test k [] h l = refl
 none-chosen test k (x ∷ xs) h l = rw (h x l.0, none-chosen test k xs h l.1)
 
 -- an answer as the totals show it
-abbrev pub lowestFrom : Single → Lowest
-lowestFrom x = record { low = lowIn x.answer; unit = unitIn x; deck = x.deck; system = x.system }
+abbrev pub lowest_from : Single → Lowest
+lowest_from x = record { low = low_in x.answer; unit = unit_in x; deck = x.deck; system = x.system }
 
 -- it is the first of the smallest
-least_first : {xs : List Single} {b : Single} → Least xs b → lowestOf xs ≡ lowestFrom b
+least_first : {xs : List Single} {b : Single} → Least xs b → lowest_of xs ≡ lowest_from b
 unfolding chosen
 least_first {xs} {b} is =
     let first = shown in
     λ i. record {
-      low = ofFirst (λ x. lowIn x.answer) (first i);
-      unit = ofFirst unitIn (first i);
-      deck = ofFirst (λ x. x.deck) (first i);
-      system = ofFirst (λ x. x.system) (first i);
+      low = of_first (λ x. low_in x.answer) (first i);
+      unit = of_first unit_in (first i);
+      deck = of_first (λ x. x.deck) (first i);
+      system = of_first (λ x. x.system) (first i);
     }
   where
     test : Single → Bool
-    test x = not (someOf (λ y. lower y x) xs)
+    test x = not (some_of (λ y. lower y x) xs)
 
     passes : test b ≡ true
     passes = ap not (none-lower (key b) b xs refl (all-least is))
 
     fail : (x : Single) → suc (key b) ≤ key x → test x ≡ false
     fail x h =
-        let there : someOf (λ y. lower y x) (is.before ++ b ∷ is.behind) ≡ true = some_in (λ y. lower y x) is.before b is.behind (lower-key b x ∙ lt-ltb (key b) (key x) h) in
-        ap (λ ys. not (someOf (λ y. lower y x) ys)) is.split ∙ ap not there
+        let there : some_of (λ y. lower y x) (is.before ++ b ∷ is.behind) ≡ true = some_in (λ y. lower y x) is.before b is.behind (lower-key b x ∙ lt-ltb (key b) (key x) h) in
+        ap (λ ys. not (some_of (λ y. lower y x) ys)) is.split ∙ ap not there
 
     taken : chosen test (b ∷ is.behind) ≡ b ∷ chosen test is.behind
     taken = rw passes
@@ -169,16 +169,16 @@ least_first {xs} {b} is =
         ∙ taken
 
 -- one answer more
-pub lowest-plus : (xs : List Single) (x : Single) → lowestPlus (lowestOf xs) (lowestFrom x) ≡ lowestOf (xs ++ x ∷ [])
+pub lowest-plus : (xs : List Single) (x : Single) → lowest_plus (lowest_of xs) (lowest_from x) ≡ lowest_of (xs ++ x ∷ [])
 unfolding chosen found
 lowest-plus [] x = sym (least_first (found x []).is)
 lowest-plus (y ∷ ys) x =
     let f = found y ys in
     let b = f.b in
-    ap (λ t. lowestPlus t (lowestFrom x)) (least_first f.is)
-    ∙ ap (λ t. cond (t || lower x b) (lowestFrom x) (lowestFrom b)) (ne_eqb (unitIn b) 0 (λ e. omega (arith, unit-some b.version, e)))
+    ap (λ t. lowest_plus t (lowest_from x)) (least_first f.is)
+    ∙ ap (λ t. cond (t || lower x b) (lowest_from x) (lowest_from b)) (ne_eqb (unit_in b) 0 (λ e. omega (arith, unit-some b.version, e)))
     ∙ go f (lower x b) refl
   where
-    go : (f : Found (y ∷ ys)) (t : Bool) → lower x f.b ≡ t → cond t (lowestFrom x) (lowestFrom f.b) ≡ lowestOf ((y ∷ ys) ++ x ∷ [])
+    go : (f : Found (y ∷ ys)) (t : Bool) → lower x f.b ≡ t → cond t (lowest_from x) (lowest_from f.b) ≡ lowest_of ((y ∷ ys) ++ x ∷ [])
     go f true e = sym (least_first (more-lower f.is x (ltb-true (key x) (key f.b) (sym (lower-key x f.b) ∙ e))))
     go f false e = sym (least_first (more_same f.is x (ltb-false (key x) (key f.b) (sym (lower-key x f.b) ∙ e))))

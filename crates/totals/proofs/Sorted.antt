@@ -11,12 +11,12 @@ use borrow.Author.Tests.{le-leb, le-ltb}
 use Rattle.rules.specs.declared.Rating.{Rating}
 use Rattle.rules.specs.declared.Rating.TheVariants.{Range, Refused}
 use Rattle.rules.specs.Below.{within}
-use Rattle.rules.specs.Boards.{hasBoards, boardsRead}
+use Rattle.rules.specs.Boards.{has_boards, boards_read}
 use Rattle.rules.specs.Stretch.{stretch}
-use Rattle.rules.specs.Asked.{Asked, length_of, boardsOf, boardCount, low_of, high_of}
-use Rattle.rules.specs.Refusal.{lastKind, cells, someAbove, badVersion, badSize, badBoards, misplaced, shortTable, first_of, figuresRefusal}
-use Rattle.rules.specs.Answer.{unless, figuresOf}
-use Rattle.rules.specs.File.{number_at, boardCountField, versionIn, fansIn, boardCountIn, systemIn, deckIn, askedBy, fileRefusal, systemOf, answer_in}
+use Rattle.rules.specs.Asked.{Asked, length_of, boards_of, board_count, low_of, high_of}
+use Rattle.rules.specs.Refusal.{last_kind, cells, some_above, bad_version, bad_size, bad_boards, misplaced, short_table, first_of, figures_refusal}
+use Rattle.rules.specs.Answer.{unless, figures_of}
+use Rattle.rules.specs.File.{number_at, board_count_field, version_in, fans_in, board_count_in, system_in, deck_in, asked_by, file_refusal, system_of, answer_in}
 use Rattle.rules.proofs.Lists.{below_length}
 use Rattle.rules.proofs.Accepted.{first-of, first-after, stretch-get}
 use Rattle.rules.proofs.Tests.{neither, by-test}
@@ -46,63 +46,63 @@ listed low high false false false false = is-answered low high
 
 -- board numbers within their range are so in a stretch
 stretch-placed : (version n g a b : ℕ) (boards : List ℕ) → misplaced version n g boards boards ≡ false
-    → misplaced version n g boards (boardsRead version (stretch a b boards)) ≡ false
-stretch-placed version n g a b boards = go (hasBoards version)
+    → misplaced version n g boards (boards_read version (stretch a b boards)) ≡ false
+stretch-placed version n g a b boards = go (has_boards version)
   where
-    within-stretch : someAbove g boards ≡ false → someAbove g (stretch a b boards) ≡ false
+    within-stretch : some_above g boards ≡ false → some_above g (stretch a b boards) ≡ false
     within-stretch e =
         above-none g (stretch a b boards)
         (λ i. rw (stretch-get a b boards i) (by-test (λ x. x ≤ g) (ltb i (suc b - a)) _ _ (λ t. none_above g boards e (a - 1 + i)) (λ t. omega arith)))
 
-    go : (t : Bool) → t && (not (eqb (length boards) n) || someAbove g boards) ≡ false
-        → t && (not (eqb (length boards) n) || someAbove g (cond t (stretch a b boards) [])) ≡ false
-    go true e = let h = neither (not (eqb (length boards) n)) (someAbove g boards) e in rw (h.0, within-stretch h.1)
+    go : (t : Bool) → t && (not (eqb (length boards) n) || some_above g boards) ≡ false
+        → t && (not (eqb (length boards) n) || some_above g (cond t (stretch a b boards) [])) ≡ false
+    go true e = let h = neither (not (eqb (length boards) n)) (some_above g boards) e in rw (h.0, within-stretch h.1)
     go false e = refl
 
-module _ (bytes : List ℕ) (accepted : fileRefusal bytes ≡ 0) (s : ℕ) where
+module _ (bytes : List ℕ) (accepted : file_refusal bytes ≡ 0) (s : ℕ) where
   abbrev q : Asked
-  q = askedBy (deckIn bytes) (systemIn bytes s)
+  q = asked_by (deck_in bytes) (system_in bytes s)
 
   abbrev table : List ℕ
   table = replicate cells 0
 
   -- what was looked at when the file was read
-  versioned : badVersion q.version ≡ false
-  unfolding deckIn
+  versioned : bad_version q.version ≡ false
+  unfolding deck_in
   versioned = (sound bytes accepted).versioned
 
-  as_many : length_of q ≡ fansIn bytes
-  unfolding deckIn
-  as_many = below_length (fansIn bytes) _
+  as_many : length_of q ≡ fans_in bytes
+  unfolding deck_in
+  as_many = below_length (fans_in bytes) _
 
-  sized : badSize (length_of q) ≡ false
-  sized = let b = sound bytes accepted in rw (as_many, le-leb 1 (fansIn bytes) b.some-fan, le-leb (fansIn bytes) 64 b.most-fans)
+  sized : bad_size (length_of q) ≡ false
+  sized = let b = sound bytes accepted in rw (as_many, le-leb 1 (fans_in bytes) b.some_fan, le-leb (fans_in bytes) 64 b.most_fans)
 
-  as-boards : boardCount q ≡ boardCountIn bytes
-  unfolding deckIn
-  as-boards = ap length (read-own (versionIn bytes) (number_at 4 bytes boardCountField) _) ∙ below_length (boardCountIn bytes) _
+  as-boards : board_count q ≡ board_count_in bytes
+  unfolding deck_in
+  as-boards = ap length (read-own (version_in bytes) (number_at 4 bytes board_count_field) _) ∙ below_length (board_count_in bytes) _
 
-  counted : badBoards q.version (boardCount q) ≡ false
-  unfolding deckIn
-  counted = ap (badBoards (versionIn bytes)) as-boards ∙ (sound bytes accepted).counted
+  counted : bad_boards q.version (board_count q) ≡ false
+  unfolding deck_in
+  counted = ap (bad_boards (version_in bytes)) as-boards ∙ (sound bytes accepted).counted
 
-  placed : misplaced q.version (length_of q) (boardCount q) q.boards (boardsOf q) ≡ false
-  unfolding deckIn
+  placed : misplaced q.version (length_of q) (board_count q) q.boards (boards_of q) ≡ false
+  unfolding deck_in
   placed =
-      ap₂ (λ n g. misplaced (versionIn bytes) n g q.boards (boardsOf q)) as_many as-boards
-      ∙ stretch-placed (versionIn bytes) (fansIn bytes) (boardCountIn bytes) q.a q.b q.boards (sound bytes accepted).placed
+      ap₂ (λ n g. misplaced (version_in bytes) n g q.boards (boards_of q)) as_many as-boards
+      ∙ stretch-placed (version_in bytes) (fans_in bytes) (board_count_in bytes) q.a q.b q.boards (sound bytes accepted).placed
 
-  roomy : shortTable table ≡ false
+  roomy : short_table table ≡ false
   roomy = le-ltb (length table) cells (omega (arith, length-replicate {A = ℕ} cells 0))
 
   -- a kind that there is not
-  pub other-refused : within 1 q.rule.kind lastKind ≡ false → answer_in bytes s ≡ Refused 1
-  unfolding systemOf figuresOf figuresRefusal
+  pub other-refused : within 1 q.rule.kind last_kind ≡ false → answer_in bytes s ≡ Refused 1
+  unfolding system_of figures_of figures_refusal
   other-refused e =
-      let is : figuresRefusal q table ≡ 1 = first-after 11 _ _ versioned ∙ first-of 1 _ _ (ap not e) in
+      let is : figures_refusal q table ≡ 1 = first-after 11 _ _ versioned ∙ first-of 1 _ _ (ap not e) in
       ap (λ r. unless r Refused (Range (low_of q) (high_of q))) is ∙ unless-some 1 Refused _ (λ z. omega arith)
 
   -- a kind that there is
-  pub sorted : within 1 q.rule.kind lastKind ≡ true → Sorted (answer_in bytes s)
-  unfolding systemOf figuresOf figuresRefusal
+  pub sorted : within 1 q.rule.kind last_kind ≡ true → Sorted (answer_in bytes s)
+  unfolding system_of figures_of figures_refusal
   sorted e = rw (versioned, e, sized, counted, placed, roomy) (listed (low_of q) (high_of q) _ _ _ _)

@@ -3,25 +3,25 @@ use Rattle.std.specs.Prelude.{◌≡◌, ℕ, ◌*◌, ◌-◌, ◌≤◌, ◌<�
 use Rattle.rules.specs.declared.Rating.{Rating}
 use Rattle.rules.specs.declared.Rating.TheVariants.{Range, Refused}
 use Rattle.rules.specs.State.{S}
-use Rattle.rules.specs.File.{mostSystems}
+use Rattle.rules.specs.File.{most_systems}
 use Rattle.totals.specs.declared.tally.Refusals.{Refusals}
 use Rattle.totals.specs.declared.tally.Lowest.{Lowest}
 use Rattle.totals.specs.declared.tally.Widths.{Widths}
 use Rattle.totals.specs.declared.tally.Tally.{Tally}
 use Rattle.totals.specs.declared.Totals.{Totals}
-use Rattle.rules.specs.Refusal.{lastKind}
-use Rattle.totals.specs.Plus.{noTally}
+use Rattle.rules.specs.Refusal.{last_kind}
+use Rattle.totals.specs.Plus.{no_tally}
 
 -- "at most 10,000 files are read", and the answers that so many can have
-abbrev pub mostFiles : ℕ
-mostFiles = 10000
+abbrev pub most_files : ℕ
+most_files = 10000
 
-abbrev pub mostAnswers : ℕ
-mostAnswers = mostSystems * mostFiles
+abbrev pub most_answers : ℕ
+most_answers = most_systems * most_files
 
 -- those that they can have had before the last file
-abbrev pub answersBefore : ℕ
-answersBefore = mostSystems * (mostFiles - 1)
+abbrev pub answers_before : ℕ
+answers_before = most_systems * (most_files - 1)
 
 -- after n answers
 pub record RoomRefusals (n : ℕ) (t : Refusals) : Type 0 where
@@ -46,14 +46,14 @@ pub record RoomTally (n : ℕ) (t : Tally) : Type 0 where
 
 pub record Room (n : ℕ) (t : Totals) : Type 0 where
   pub other : t.other ≤ n
-  pub eight : length t.kinds ≡ lastKind
-  pub kinds : (k : ℕ) → RoomTally n (get_or t.kinds k noTally)
+  pub eight : length t.kinds ≡ last_kind
+  pub kinds : (k : ℕ) → RoomTally n (get_or t.kinds k no_tally)
 
 -- totals that another file can be added to: none was refused, which would have ended the reading
 pub record Open (t : Totals) : Type 0 where
   pub none : t.refused ≡ 0
-  pub few : t.decks < mostFiles
-  pub room : Room (mostSystems * t.decks) t
+  pub few : t.decks < most_files
+  pub room : Room (most_systems * t.decks) t
 
 -- an answer whose ends stand in their order within the larger unit
 abbrev pub Fair : Rating → Type 0

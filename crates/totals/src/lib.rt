@@ -3,9 +3,9 @@ pub mod tally; // tally.rt: the totals of one kind
 
 ghost use Rattle.std.specs.Prelude.{◌≡◌, [], ◌≤◌};
 ghost use Rattle.rules.specs.State.{S};
-ghost use Rattle.totals.specs.Season.{totalsOf};
-ghost use Rattle.totals.specs.Plus.{systemPlus};
-ghost use Rattle.totals.specs.Room.{mostAnswers, Room, Fair};
+ghost use Rattle.totals.specs.Season.{totals_of};
+ghost use Rattle.totals.specs.Plus.{system_plus};
+ghost use Rattle.totals.specs.Room.{most_answers, Room, Fair};
 
 use rules::Rating;
 use tally::Tally;
@@ -25,7 +25,7 @@ pub struct Totals {
 
 // Those of no file.
 pub fn none() -> Totals
-    ensures { result ≡ totalsOf [] }
+    ensures { result ≡ totals_of [] }
 {
     let tally = Tally::none();
     let kinds = [tally; KINDS];
@@ -40,10 +40,10 @@ pub fn none() -> Totals
 
 // One answer more, of a system of the deck that was read last.
 pub fn plus_system(totals: Totals, system: u64, unit: u64, kind: u64, answer: Rating) -> Totals
-    requires room { Room mostAnswers totals }
+    requires room { Room most_answers totals }
     requires unit { unit ≤ S }
     requires fair { Fair answer }
-    ensures { result ≡ systemPlus totals system unit kind answer }
+    ensures { result ≡ system_plus totals system unit kind answer }
 {
     let mut kinds = totals.kinds;
     if refusals::outside(1, kind, KINDS as u64) {

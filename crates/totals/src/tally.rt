@@ -1,8 +1,8 @@
 // The totals of one kind, and how one answer more changes them.
 ghost use Rattle.std.specs.Prelude.{◌≡◌, cond, ◌≤◌, eqb};
 ghost use Rattle.rules.specs.State.{S};
-ghost use Rattle.totals.specs.Plus.{oneIf, refusalsPlus, lowestPlus, widthsPlus, tallyPlus, noTally};
-ghost use Rattle.totals.specs.Room.{mostAnswers, RoomRefusals, RoomLowest, RoomWidths, RoomTally, Fair};
+ghost use Rattle.totals.specs.Plus.{one_if, refusals_plus, lowest_plus, widths_plus, tally_plus, no_tally};
+ghost use Rattle.totals.specs.Room.{most_answers, RoomRefusals, RoomLowest, RoomWidths, RoomTally, Fair};
 
 use rules::{Rating, version};
 
@@ -41,7 +41,7 @@ pub struct Tally {
 
 // 1 where a test holds.
 fn one_if(b: bool) -> u64
-    ensures { (result ≡ oneIf b) × (result ≤ 1) }
+    ensures { (result ≡ one_if b) × (result ≤ 1) }
 {
     if b { 1 } else { 0 }
 }
@@ -55,8 +55,8 @@ fn width_in(unit: u64, meant: u64, width: u64) -> u64
 
 impl Refusals {
     fn plus(self, number: u64) -> Refusals
-        requires { RoomRefusals mostAnswers self }
-        ensures { result ≡ refusalsPlus self number }
+        requires { RoomRefusals most_answers self }
+        ensures { result ≡ refusals_plus self number }
     {
         Refusals {
             three: self.three + one_if(number == 3),
@@ -73,7 +73,7 @@ impl Lowest {
     fn plus(self, next: Lowest) -> Lowest
         requires held { RoomLowest self }
         requires more { RoomLowest next }
-        ensures { result ≡ lowestPlus self next }
+        ensures { result ≡ lowest_plus self next }
     {
         if self.unit == 0 {
             return next;
@@ -87,9 +87,9 @@ impl Lowest {
 
 impl Widths {
     fn plus(self, unit: u64, width: u64) -> Widths
-        requires room { RoomWidths mostAnswers self }
+        requires room { RoomWidths most_answers self }
         requires within { width ≤ S }
-        ensures { result ≡ widthsPlus self unit width }
+        ensures { result ≡ widths_plus self unit width }
     {
         Widths {
             binary: self.binary + width_in(unit, version::BINARY, width),
@@ -101,7 +101,7 @@ impl Widths {
 impl Tally {
     // Nothing counted yet.
     pub fn none() -> Tally
-        ensures { result ≡ noTally }
+        ensures { result ≡ no_tally }
     {
         let refused = Refusals {
             three: 0,
@@ -129,10 +129,10 @@ impl Tally {
 
     // One answer more, of a system of a deck.
     pub fn plus(self, deck: u64, system: u64, unit: u64, answer: Rating) -> Tally
-        requires room { RoomTally mostAnswers self }
+        requires room { RoomTally most_answers self }
         requires unit { unit ≤ S }
         requires fair { Fair answer }
-        ensures { result ≡ tallyPlus self deck system unit answer }
+        ensures { result ≡ tally_plus self deck system unit answer }
     {
         let refused = self.refused;
         let lowest = self.lowest;

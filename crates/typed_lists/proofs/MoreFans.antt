@@ -4,12 +4,12 @@ use mathlib.Core.List.{List, ◌++◌, append_assoc, append-nil}
 use Prim.Native.Nat.{ℕ, ◌+◌, ◌<◌}
 use native.Mathlib.Omega.{arith}
 use lib.ListN.{set, replicate, length-set, replicate-append-replicate}
-use Rattle.rules.specs.File.{mostFans}
+use Rattle.rules.specs.File.{most_fans}
 use Rattle.typed_lists.specs.declared.fans.Fans.{Fans}
 use Rattle.typed_lists.specs.Lists.{Lined, MoreFans}
 
 -- a fan stored behind the others leaves each array as long as it was
-pub one-lined : {f : Fans} → Lined f → f.count < mostFans → (parts weight board line : ℕ)
+pub one-lined : {f : Fans} → Lined f → f.count < most_fans → (parts weight board line : ℕ)
     → Lined (record { count = f.count + 1; survival = set f.survival f.count parts; weights = set f.weights f.count weight; boards = set f.boards f.count board; lines = set f.lines f.count line })
 one-lined {f} l few parts weight board line = record {
   few = omega (arith, few);

@@ -1,6 +1,6 @@
 // The fans that a text lists, with the line of each.
 ghost use Rattle.std.specs.Prelude.{◌+◌, ◌<◌, ◌≤◌, []};
-ghost use Rattle.rules.specs.File.{mostFans};
+ghost use Rattle.rules.specs.File.{most_fans};
 ghost use Rattle.typed_lists.specs.Lists.{Fanned, MoreFans};
 
 use rules::limit;
@@ -34,7 +34,7 @@ pub fn no_fans() -> Fans
 
 // One fan more.
 fn plus_one(fans: Fans, parts: u32, weight: u16, board: u8, line: u64) -> Fans
-    requires { fans.count < mostFans }
+    requires { fans.count < most_fans }
     ensures { MoreFans fans result 1 parts weight board line }
 {
     let i = fans.count;
@@ -57,7 +57,7 @@ fn plus_one(fans: Fans, parts: u32, weight: u16, board: u8, line: u64) -> Fans
 
 // So many fans more, all alike: the fans then.
 pub fn plus(fans: Fans, more: u64, parts: u32, weight: u16, board: u8, line: u64) -> Fans
-    requires { fans.count + more ≤ mostFans }
+    requires { fans.count + more ≤ most_fans }
     ensures { MoreFans fans result more parts weight board line }
 {
     let mut all = fans;

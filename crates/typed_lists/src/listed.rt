@@ -1,8 +1,8 @@
 // The systems that a text lists, as numbers.
 ghost use Rattle.std.specs.Prelude.{◌*◌, ◌<◌, ◌≤◌, ◌≡◌, []};
-ghost use Rattle.rules.specs.File.{mostSystems, perSystem};
+ghost use Rattle.rules.specs.File.{most_systems, per_system};
 ghost use Rattle.grammar.specs.Reads.{Within};
-ghost use Rattle.typed_lists.specs.Lists.{Ruled, MoreSystems, typedAt, TypedNumbers};
+ghost use Rattle.typed_lists.specs.Lists.{Ruled, MoreSystems, typed_at, TypedNumbers};
 
 use grammar::line::SETS;
 use rules::limit;
@@ -39,7 +39,7 @@ pub fn no_systems() -> Systems
 
 // One system more, by what its line has set: the systems then.
 pub fn plus(systems: Systems, set: [u64; SETS]) -> Systems
-    requires { (systems.count < mostSystems) × Within set }
+    requires { (systems.count < most_systems) × Within set }
     ensures { MoreSystems systems result set }
 {
     let at = systems.count * PER_LISTED;
@@ -57,8 +57,8 @@ pub fn plus(systems: Systems, set: [u64; SETS]) -> Systems
 
 // The number at place j of those that are typed; where no stretch was given it is the whole deck's.
 fn number_at(listed: &[u16; LISTED], j: usize, fans: u16) -> u16
-    requires { j < mostSystems * perSystem }
-    ensures { result ≡ typedAt fans listed.now j }
+    requires { j < most_systems * per_system }
+    ensures { result ≡ typed_at fans listed.now j }
 {
     let from = j / PER_SYSTEM * PER_LISTED;
     let k = j % PER_SYSTEM;
@@ -76,7 +76,7 @@ fn number_at(listed: &[u16; LISTED], j: usize, fans: u16) -> u16
 
 // The numbers of all systems of a deck of so many fans, for the writer.
 pub fn numbers(systems: Systems, fans: u16) -> [u16; NUMBERS]
-    requires { systems.count ≤ mostSystems }
+    requires { systems.count ≤ most_systems }
     ensures { TypedNumbers fans systems result }
 {
     let listed = systems.numbers;

@@ -1,6 +1,6 @@
 // Faults told into a lent buffer, the first twenty of them.
 ghost use Rattle.std.specs.Prelude.{[], ◌∷◌};
-ghost use Rattle.grammar.specs.Text.{faultAt};
+ghost use Rattle.grammar.specs.Text.{fault_at};
 ghost use Rattle.typed_lists.specs.Told.{Roomy, MoreTold};
 
 const MOST_TOLD: usize = 20;
@@ -16,7 +16,7 @@ pub struct Told {
 pub fn plus(told: Told, line: u64, word: &[u8], wanted: u64, named: u64, out: &mut [u8]) -> Told
     requires { Roomy told out.old }
     ensures { MoreTold told out.old result out.new
-        (faultAt line word.now wanted named ∷ []) }
+        (fault_at line word.now wanted named ∷ []) }
 {
     if told.count >= MOST_TOLD {
         return told;

@@ -6,7 +6,7 @@ use native.Mathlib.Omega.{arith}
 use native.Mathlib.Nat.{le_of_mul-le-mul_right, div-mul-le_self, lt-div-mul-add}
 use Rattle.rules.specs.Figure.{rounded, mixed}
 use Rattle.units.specs.Step.{AnyUnit}
-use Rattle.units.specs.Share.{Share, shareParts}
+use Rattle.units.specs.Share.{Share, share_parts}
 use Rattle.units.proofs.Shares.{between, share-down}
 
 -- where y and z make up x units, and t is y over the unit
@@ -21,7 +21,7 @@ module _ (x y z t u : ℕ) (some : 1 ≤ u) (both : z + y ≡ x * u) (low : t * 
       between (z + (u - 1)) u (x - t) (omega (arith, m, both, high, some)) (omega (arith, m, both, low, some))
 
 module _ {u p x : ℕ} (unit : AnyUnit u) (within : x ≤ u) where
-  pub must-down : {a : ℕ} → Share u p a → a * x / shareParts ≡ rounded false u (mixed u p x 0)
+  pub must-down : {a : ℕ} → Share u p a → a * x / share_parts ≡ rounded false u (mixed u p x 0)
   unfolding rounded
   must-down h =
       let e : p * x ≡ p * x + (u - p) * 0 = omega arith in
@@ -31,13 +31,13 @@ module _ {u p x : ℕ} (unit : AnyUnit u) (within : x ≤ u) where
     both : p * x + (u - p) * x ≡ x * u
     both = let q : p + (u - p) ≡ u = omega (arith, survival) in omega (arith, ap (λ y. y * x) q)
 
-    times : b * x / shareParts ≡ (u - p) * x / u
+    times : b * x / share_parts ≡ (u - p) * x / u
     times = share-down unit h x (omega (arith, within))
 
-    pub must-least : b * x / shareParts ≤ x
+    pub must-least : b * x / share_parts ≤ x
     must-least = rw times (least x ((u - p) * x) (p * x) ((u - p) * x / u) u unit.some both (div-mul-le_self ((u - p) * x) u))
 
-    pub must-up : x - b * x / shareParts ≡ rounded true u (mixed u p x 0)
+    pub must-up : x - b * x / share_parts ≡ rounded true u (mixed u p x 0)
     unfolding rounded
     must-up =
         let e : p * x ≡ p * x + (u - p) * 0 = omega arith in

@@ -4,7 +4,7 @@ use Prim.Native.Nat.{ℕ, ◌+◌, ◌*◌, ◌/◌, ◌%◌, ◌≤◌, ◌<◌
 use mathlib.Core.Path.{◌≡◌, sym, ap, ◌∙◌}
 use native.Mathlib.Omega.{arith}
 use native.Mathlib.Nat.{mul-le-mul_left, div-add-mod'}
-use Rattle.units.specs.Share.{digit, wordParts}
+use Rattle.units.specs.Share.{digit, word_parts}
 use Rattle.units.proofs.Shares.{between}
 
 -- the largest digit
@@ -21,7 +21,7 @@ pub record Products (x y : ℕ) : Type 0 where
   pub right : x % digit * (y / digit) ≤ 18446744065119617025
   pub none : x % digit * (y % digit) ≤ 18446744065119617025
 
-module _ (x y : ℕ) (x_Fits : x < wordParts) (y-fits : y < wordParts) where
+module _ (x y : ℕ) (x_Fits : x < word_parts) (y-fits : y < word_parts) where
   pub products : Products x y
   products = record {
     both = product (x / digit) (y / digit) (omega arith) (omega arith);
@@ -37,7 +37,7 @@ lower x y = x / digit * (y % digit) + x % digit * (y % digit) / digit
 abbrev pub middle : (x y : ℕ) → ℕ
 middle x y = x % digit * (y / digit) + lower x y % digit
 
-pub halves : (x y : ℕ) → x / digit * (y / digit) + lower x y / digit + middle x y / digit ≡ x * y / wordParts
+pub halves : (x y : ℕ) → x / digit * (y / digit) + lower x y / digit + middle x y / digit ≡ x * y / word_parts
 halves x y =
     let is : x * y ≡ (x / digit * digit + x % digit) * (y / digit * digit + y % digit) = rw (div-add-mod' x digit, div-add-mod' y digit) in
-    sym (between (x * y) wordParts (x / digit * (y / digit) + lower x y / digit + middle x y / digit) (omega (arith, is)) (omega (arith, is)))
+    sym (between (x * y) word_parts (x / digit * (y / digit) + lower x y / digit + middle x y / digit) (omega (arith, is)) (omega (arith, is)))

@@ -7,8 +7,8 @@ use Rattle.units.specs.Step.{AnyUnit}
 use Rattle.units.specs.Share.{Share, digit}
 
 -- the parts of the upper digits
-abbrev pub upperParts : ℕ
-upperParts = 1073741824
+abbrev pub upper_parts : ℕ
+upper_parts = 1073741824
 
 -- a quotient of so many parts of a number within the unit
 pub record Quotient (u x parts q : ℕ) : Type 0 where
@@ -26,5 +26,5 @@ quotient {u} unit {x} parts l is =
 pub rest-less : {u x upper : ℕ} → Quotient u x digit upper → x * digit - upper * u < u
 rest-less h = omega (arith, h.low, h.high)
 
-pub made : {u x upper lower : ℕ} → Quotient u x digit upper → Quotient u (x * digit - upper * u) upperParts lower → Share u x (upper * upperParts + lower + 1)
+pub made : {u x upper lower : ℕ} → Quotient u x digit upper → Quotient u (x * digit - upper * u) upper_parts lower → Share u x (upper * upper_parts + lower + 1)
 made h k = record { above = omega (arith, h.low, k.high); near = omega (arith, h.low, k.low) }

@@ -8,24 +8,24 @@ use native.Mathlib.Nat.{add-zero, mul-le-mul, add-mul-div_right, div-div-eq-div-
 use Rattle.units.specs.declared.odds.Odds.{Odds}
 use Rattle.rules.specs.Figure.{rounded, mixed}
 use Rattle.units.specs.Step.{AnyUnit}
-use Rattle.units.specs.Share.{byShares, digit, shareParts}
-use Rattle.units.specs.Odds.{Mixable, Prepared, Values, apart, mixedShares, round_up}
+use Rattle.units.specs.Share.{by_shares, digit, share_parts}
+use Rattle.units.specs.Odds.{Mixable, Prepared, Values, apart, mixed_shares, round_up}
 use Rattle.units.proofs.Shares.{share-down, share_up, share-most}
-use Rattle.units.proofs.Making.{upperParts}
+use Rattle.units.proofs.Making.{upper_parts}
 
 -- both digits' quotients are the whole's
-digits : (upper lower : ℕ) → (upper + lower / digit) / upperParts ≡ (upper * digit + lower) / shareParts
+digits : (upper lower : ℕ) → (upper + lower / digit) / upper_parts ≡ (upper * digit + lower) / share_parts
 digits upper lower =
     let e : upper * digit + lower ≡ lower + upper * digit = omega arith in
     let d : lower / digit + upper ≡ upper + lower / digit = omega arith in
-    ap (λ x. x / upperParts) (sym (ap (λ x. x / digit) e ∙ add-mul-div_right lower upper (omega arith) ∙ d))
-    ∙ div-div-eq-div-mul (upper * digit + lower) digit upperParts
+    ap (λ x. x / upper_parts) (sym (ap (λ x. x / digit) e ∙ add-mul-div_right lower upper (omega arith) ∙ d))
+    ∙ div-div-eq-div-mul (upper * digit + lower) digit upper_parts
 
 -- the same of a share's digits times d
-pub quotient_is : (s d round : ℕ) → (s / digit * d + (s % digit * d + round) / digit) / upperParts ≡ (s * d + round) / shareParts
+pub quotient_is : (s d round : ℕ) → (s / digit * d + (s % digit * d + round) / digit) / upper_parts ≡ (s * d + round) / share_parts
 quotient_is s d round =
     let e : s / digit * d * digit + (s % digit * d + round) ≡ s * d + round = omega (arith, ap (λ x. x * d) (div-add-mod' s digit)) in
-    digits (s / digit * d) (s % digit * d + round) ∙ ap (λ x. x / shareParts) e
+    digits (s / digit * d) (s % digit * d + round) ∙ ap (λ x. x / share_parts) e
 
 module _ {u : ℕ} (unit : AnyUnit u) (p w f : ℕ) (survival : p ≤ u) (right : f ≤ u) where
   pub apart-mix : (more : ℕ) → (p * apart u w f + more) / u + f ≡ (p * w + (u - p) * f + more) / u + p
@@ -44,13 +44,13 @@ module _ {u : ℕ} (unit : AnyUnit u) (p w f : ℕ) (survival : p ≤ u) (right 
 taken : (x y p f : ℕ) → x + f ≡ y + p → x + f - p ≡ y
 taken x y p f e = omega (arith, e)
 
-there : (x round y z p f : ℕ) → x / shareParts ≡ y → y + f ≡ z + p → p ≤ (x + round) / shareParts + f
+there : (x round y z p f : ℕ) → x / share_parts ≡ y → y + f ≡ z + p → p ≤ (x + round) / share_parts + f
 there x round y z p f is e = omega (arith, is, e)
 
 -- a lower digit is below 2^32, an upper one at most 2^30, so that both products fit 64 bits with what is added
 pub record Small (s d : ℕ) : Type 0 where
   pub lower : s % digit * d ≤ 4294967295 * 2147483648
-  pub upper : s / digit * d ≤ upperParts * 2147483648
+  pub upper : s / digit * d ≤ upper_parts * 2147483648
 
 module _ {u : ℕ} {o : Odds} {round works fails : ℕ} (h : Mixable u o round works fails) where
   two : apart u works fails ≤ 2 * u
@@ -62,32 +62,32 @@ module _ {u : ℕ} {o : Odds} {round works fails : ℕ} (h : Mixable u o round w
       let most = share-most h.unit h.share h.survival in
       record {
         lower = mul-le-mul {n₂ = 4294967295} {m₂ = 2147483648} (omega arith) few;
-        upper = mul-le-mul {n₂ = upperParts} {m₂ = 2147483648} (omega (arith, most)) few;
+        upper = mul-le-mul {n₂ = upper_parts} {m₂ = 2147483648} (omega (arith, most)) few;
       }
 
   -- what is taken off is there
-  pub enough : o.p.0 ≤ (o.share.0 * apart u works fails + round) / shareParts + fails
+  pub enough : o.p.0 ≤ (o.share.0 * apart u works fails + round) / share_parts + fails
   enough =
       there (o.share.0 * apart u works fails) round (o.p.0 * apart u works fails / u) (mixed u o.p.0 works fails / u) o.p.0 fails (share-down h.unit h.share (apart u works fails) two)
       (apart-plain h.unit o.p.0 works fails h.survival h.values.right)
 
 -- the row's step is the step of the mix
 module _ {u : ℕ} {o : Odds} {works fails : ℕ} where
-  pub row-down : Mixable u o 0 works fails → mixedShares u o 0 works fails ≡ rounded false u (mixed u o.p.0 works fails)
+  pub row-down : Mixable u o 0 works fails → mixed_shares u o 0 works fails ≡ rounded false u (mixed u o.p.0 works fails)
   unfolding rounded
   row-down h =
-      taken ((o.share.0 * apart u works fails + 0) / shareParts) (mixed u o.p.0 works fails / u) o.p.0 fails
-      (ap (λ x. x / shareParts + fails) (add-zero (o.share.0 * apart u works fails))
+      taken ((o.share.0 * apart u works fails + 0) / share_parts) (mixed u o.p.0 works fails / u) o.p.0 fails
+      (ap (λ x. x / share_parts + fails) (add-zero (o.share.0 * apart u works fails))
       ∙ ap (λ x. x + fails) (share-down h.unit h.share (apart u works fails) (two h))
       ∙ apart-plain h.unit o.p.0 works fails h.survival h.values.right)
 
-  pub row_up : Mixable u o round_up works fails → mixedShares u o round_up works fails ≡ rounded true u (mixed u o.p.0 works fails)
+  pub row_up : Mixable u o round_up works fails → mixed_shares u o round_up works fails ≡ rounded true u (mixed u o.p.0 works fails)
   unfolding rounded
   row_up h =
-      taken ((o.share.0 * apart u works fails + round_up) / shareParts) ((mixed u o.p.0 works fails + (u - 1)) / u) o.p.0 fails
+      taken ((o.share.0 * apart u works fails + round_up) / share_parts) ((mixed u o.p.0 works fails + (u - 1)) / u) o.p.0 fails
       (ap (λ x. x + fails) (share_up h.unit h.share (apart u works fails) (two h))
       ∙ apart-mix h.unit o.p.0 works fails h.survival h.values.right (u - 1))
 
 -- a row's numbers where its share is asked for
-pub mixable : {u : ℕ} {o : Odds} {round works fails : ℕ} → round ≤ round_up → Prepared u o → Values u works fails → byShares u ≡ true → Mixable u o round works fails
+pub mixable : {u : ℕ} {o : Odds} {round works fails : ℕ} → round ≤ round_up → Prepared u o → Values u works fails → by_shares u ≡ true → Mixable u o round works fails
 mixable few h v asked = record { unit = h.unit; survival = h.survival; share = h.dealt.is asked; values = v; few = few }

@@ -11,5 +11,5 @@ pub record Numbers (u p q : ℕ) : Type 0 where
   pub rest : q ≡ failure u p
 
 pub record Shared (u p : ℕ) (s : Shares) : Type 0 where
-  pub of-p : Dealt u p s.p.0
-  pub of-q : Dealt u (failure u p) s.q.0
+  pub of_p : Dealt u p s.p.0
+  pub of_q : Dealt u (failure u p) s.q.0

@@ -2,7 +2,7 @@
 use Rattle.std.specs.Prelude.{◌≡◌, ℕ, ◌+◌, ◌-◌, ◌*◌, ◌/◌, ◌^◌, ◌≤◌}
 use Rattle.rules.specs.State.{failure}
 use Rattle.units.specs.Step.{AnyUnit}
-use Rattle.units.specs.Share.{Dealt, Share, shareParts}
+use Rattle.units.specs.Share.{Dealt, Share, share_parts}
 use Rattle.units.specs.declared.odds.Odds.{Odds}
 
 -- P and Q, and P's share
@@ -22,8 +22,8 @@ abbrev pub apart : (u works fails : ℕ) → ℕ
 apart u works fails = works + u - fails
 
 -- the mix by P's share
-abbrev pub mixedShares : (u : ℕ) → Odds → (round works fails : ℕ) → ℕ
-mixedShares u o round works fails = (o.share.0 * apart u works fails + round) / shareParts + fails - o.p.0
+abbrev pub mixed_shares : (u : ℕ) → Odds → (round works fails : ℕ) → ℕ
+mixed_shares u o round works fails = (o.share.0 * apart u works fails + round) / share_parts + fails - o.p.0
 
 -- what rounds up: all parts but 2^32, which is more than rounding adds to a share of both values and no more than a part of the unit has
 abbrev pub round_up : ℕ

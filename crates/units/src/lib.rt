@@ -7,7 +7,7 @@ mod share; // share.rt: a number's share of the unit
 ghost use Rattle.std.specs.Prelude.{◌≡◌, true, false, ◌*◌, ◌/◌, ◌<◌, ◌≤◌};
 ghost use Rattle.rules.specs.State.{S, unit_of, failure};
 ghost use Rattle.rules.specs.Figure.{rounded, mixed};
-ghost use Rattle.units.specs.Share.{Dealt, byShares, digit};
+ghost use Rattle.units.specs.Share.{Dealt, by_shares, digit};
 ghost use Rattle.units.specs.Step.{AnyUnit, Parts, whole};
 
 use rules::version::{BINARY, DECIMAL, FIRST};
@@ -44,7 +44,7 @@ pub fn over(unit: u64, x: u64) -> u64
 
 // Is a step worked by shares where that is the shorter way? Over 2^30 a quotient is a shift, and the plain step is.
 pub fn by_shares(unit: u64) -> bool
-    ensures { result ≡ byShares unit }
+    ensures { result ≡ by_shares unit }
 {
     unit != BINARY
 }

@@ -4,7 +4,7 @@
 ghost use Rattle.std.specs.Prelude.{◌≡◌, true, false, ◌≤◌};
 ghost use Rattle.rules.specs.Figure.{rounded, mixed};
 ghost use Rattle.units.specs.Step.{whole};
-ghost use Rattle.units.specs.Odds.{Mixable, Prepared, Values, mixedShares};
+ghost use Rattle.units.specs.Odds.{Mixable, Prepared, Values, mixed_shares};
 
 use crate::share::{DIGIT, UPPER_PARTS};
 use crate::{Failure, Survival, SurvivalShare};
@@ -37,7 +37,7 @@ impl Odds {
     // so that P's share of how far the two values are apart does for both.
     fn shared(self, unit: u64, round: u64, works: u64, fails: u64) -> u64
         requires { Mixable unit self round works fails }
-        ensures { result ≡ mixedShares unit self round works fails }
+        ensures { result ≡ mixed_shares unit self round works fails }
     {
         let share = self.share.0;
         let apart = crate::narrow(works + unit - fails);

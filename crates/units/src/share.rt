@@ -2,7 +2,7 @@
 // product over the unit, with no division.
 ghost use Rattle.std.specs.Prelude.{◌≡◌, ◌*◌, ◌/◌, ◌≤◌};
 ghost use Rattle.rules.specs.State.{S};
-ghost use Rattle.units.specs.Share.{Dealt, Share, shareParts, wordParts};
+ghost use Rattle.units.specs.Share.{Dealt, Share, share_parts, word_parts};
 ghost use Rattle.units.specs.Step.{AnyUnit};
 
 // A share has two digits of 32 bits, the upper one in parts of 2^30.
@@ -36,7 +36,7 @@ pub fn dealt(unit: u64, x: u64) -> u64
 
 // The upper half of a product of 128 bits, by digits: the compiler sees that it is one multiplication.
 fn upper_half(x: u64, y: u64) -> u64
-    ensures { result ≡ x * y / wordParts }
+    ensures { result ≡ x * y / word_parts }
 {
     let x1 = x / DIGIT;
     let x0 = x % DIGIT;
@@ -50,7 +50,7 @@ fn upper_half(x: u64, y: u64) -> u64
 // A value times a share, rounded down.
 pub fn times(share: u64, x: u64) -> u64
     requires { x ≤ S }
-    ensures { result ≡ share * x / shareParts }
+    ensures { result ≡ share * x / share_parts }
 {
     upper_half(share, x * FOUR)
 }

@@ -11,8 +11,8 @@ use borrow.Author.Tests.{leb-true, leb-false, le-leb, lt-leb}
 use lib.Count.{ones, ones-le}
 use lib.Pow.{pow_pos, pow_mono, shr-shr, shr_lt, high, ones_split, ones_lt}
 use Rattle.rules.specs.Below.{held}
-use Rattle.rules.specs.State.{down, window, heldIn}
-use Rattle.rules.specs.Refusal.{highOne}
+use Rattle.rules.specs.State.{down, window, held_in}
+use Rattle.rules.specs.Refusal.{high_one}
 use Rattle.rules.proofs.Tests.{by-test}
 use Rattle.rules.proofs.Sums.{held_same}
 use Rattle.rules.proofs.Bits.{held-ones}
@@ -31,13 +31,13 @@ held-masked : (w a k : ℕ) → held (λ d. down (a + d) w) k ≡ ones (w / 2 ^ 
 held-masked w a k = held_same _ _ k (λ d l. rw (shr-shr w a d)) ∙ held-ones (w / 2 ^ a) k
 
 -- a window that ends by n
-pub one-count : (n a w width : ℕ) → a + width ≤ n → ones (w / 2 ^ a % 2 ^ width) ≡ heldIn n a w width
+pub one-count : (n a w width : ℕ) → a + width ≤ n → ones (w / 2 ^ a % 2 ^ width) ≡ held_in n a w width
 one-count n a w width fits =
     sym (held_same (window n a w) (λ d. down (a + d) w) width (λ d l. at (λ p. down p w) n (a + d) (a + d) refl (omega arith)) ∙ held-masked w a width)
 
 -- a window that runs past n: the part up to n, and the part from 1 on
 pub two-counts : (n a w width : ℕ) → w < 2 ^ n → a < n → width ≤ n → n < a + width
-    → ones (w / 2 ^ a % 2 ^ width) + ones (w / 2 ^ 0 % 2 ^ (a + width - n)) ≡ heldIn n a w width
+    → ones (w / 2 ^ a % 2 ^ width) + ones (w / 2 ^ 0 % 2 ^ (a + width - n)) ≡ held_in n a w width
 two-counts n a w width small l fits past =
     let i = n - a in
     let j = a + width - n in
@@ -50,9 +50,9 @@ two-counts n a w width small l fits past =
     (mod-eq_of_lt {n = w / 2 ^ a} {m = 2 ^ width} (lt_of_lt_of_le top (pow_mono {i = i} {j = width} (omega arith)))
     ∙ sym (mod-eq_of_lt {n = w / 2 ^ a} {m = 2 ^ i} top))
     ∙ ap (λ x. x + ones (w / 2 ^ 0 % 2 ^ j)) (one-count n a w i (omega arith))
-    ∙ ap (λ x. heldIn n a w i + x) (sym low)
+    ∙ ap (λ x. held_in n a w i + x) (sym low)
     ∙ sym (held-add (window n a w) i j)
-    ∙ ap (heldIn n a w) whole
+    ∙ ap (held_in n a w) whole
 
 -- a count of at most 64 bits
 pub few : (r x width : ℕ) → r ≡ ones (x % 2 ^ width) → width ≤ 64 → r ≤ 64
@@ -78,7 +78,7 @@ leb-same a b c d f g = go (leb a b) refl
     go true e = e ∙ sym (le-leb c d (f (leb-true a b e)))
     go false e = e ∙ sym (lt-leb c d (lt_of_not-le (λ h. not-le_of_lt (leb-false a b e) (g h))))
 
-pub high-shifted : (n w : ℕ) → 1 ≤ n → ltb 1 (w / 2 ^ (n - 1)) ≡ highOne n w
+pub high-shifted : (n w : ℕ) → 1 ≤ n → ltb 1 (w / 2 ^ (n - 1)) ≡ high_one n w
 high-shifted n w l =
     let twice : 2 * 2 ^ (n - 1) ≡ 2 ^ n = sym (pow-succ' 2 (n - 1)) ∙ ap (λ x. 2 ^ x) (omega arith) in
     let law : (2 ≤ w / 2 ^ (n - 1)) ↔ (2 * 2 ^ (n - 1) ≤ w) = le-div_iff_mul-le {k = 2 ^ (n - 1)} {x = 2} {y = w} (pow_pos (n - 1)) in

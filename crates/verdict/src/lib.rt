@@ -4,11 +4,11 @@ mod pairs; // pairs.rt: kind 8
 ghost use Rattle.std.specs.Prelude.{◌≡◌, ◌+◌, ◌-◌, ◌/◌, ◌%◌, ◌^◌, ◌<◌, ◌≤◌, min, leb, length};
 ghost use Rattle.std.specs.Int.Count.{ones};
 ghost use Rattle.rules.specs.Below.{first};
-ghost use Rattle.rules.specs.State.{heldIn, starts, besideOf};
-ghost use Rattle.rules.specs.Verdict.{weightDown, someWindow, firstWindow};
-ghost use Rattle.rules.specs.Refusal.{most, highOne};
+ghost use Rattle.rules.specs.State.{held_in, starts, beside_of};
+ghost use Rattle.rules.specs.Verdict.{weight_down, some_window, first_window};
+ghost use Rattle.rules.specs.Refusal.{most, high_one};
 ghost use Rattle.rules.specs.Accepted.{Accepted};
-ghost use Rattle.rules.specs.Answer.{judgment, judgedOf};
+ghost use Rattle.rules.specs.Answer.{judgment, judged_of};
 ghost use Rattle.verdict.specs.Outcome.{Judged};
 
 use rules::{Rule, Verdict, kind, limit};
@@ -41,7 +41,7 @@ fn ones_in(w: u64, a: u64, width: u64) -> u64
 // bits.
 fn held_from(n: u64, a: u64, w: u64, width: u64) -> u64
     requires { (a < n) × (1 ≤ width) × (width ≤ n) × (n ≤ most) × (w < 2 ^ n) }
-    ensures { result ≡ heldIn n a w width }
+    ensures { result ≡ held_in n a w width }
 {
     let high = ones_in(w, a, width);
     let end = a + width;
@@ -54,7 +54,7 @@ fn held_from(n: u64, a: u64, w: u64, width: u64) -> u64
 // The lowest of the starts at which a window holds `need` ones or more; the number of starts where none does.
 fn first_window(n: u64, width: u64, need: u64, w: u64, starts: u64) -> u64
     requires { (1 ≤ width) × (width ≤ n) × (n ≤ most) × (w < 2 ^ n) × (starts ≤ n) }
-    ensures { result ≡ first (λ a. leb need (heldIn n a w width)) starts }
+    ensures { result ≡ first (λ a. leb need (held_in n a w width)) starts }
 {
     let mut a: u64 = 0;
     while a < starts {
@@ -80,7 +80,7 @@ fn starts_of(ring: bool, n: u64, width: u64) -> u64
 // Kinds 4 to 7: the lowest start of a failing window is the place, counted from 1.
 fn judge_windows(ring: bool, n: u64, width: u64, need: u64, w: u64) -> Verdict
     requires { (1 ≤ width) × (width ≤ n) × (n ≤ most) × (w < 2 ^ n) }
-    ensures { result ≡ judgment (someWindow ring n width need w) (firstWindow ring n width need w) }
+    ensures { result ≡ judgment (some_window ring n width need w) (first_window ring n width need w) }
 {
     let starts = starts_of(ring, n, width);
     let a = first_window(n, width, need, w, starts);
@@ -113,7 +113,7 @@ fn fitting(r: u64, n: u64) -> u64
 // Kind 2: the weights of the failed components, each component a window of one.
 fn weighed(n: u64, weights: &[u16], w: u64) -> u64
     requires { (length weights.now ≡ n) × (n ≤ most) }
-    ensures { result ≡ weightDown n weights.now w }
+    ensures { result ≡ weight_down n weights.now w }
 {
     let mut sum: u64 = 0;
     let mut i: usize = 0;
@@ -127,15 +127,15 @@ fn weighed(n: u64, weights: &[u16], w: u64) -> u64
 // Refusal 9: above bit n - 1 nothing may stand.
 fn high_one(n: u64, w: u64) -> bool
     requires { (1 ≤ n) × (n ≤ most) }
-    ensures { result ≡ highOne n w }
+    ensures { result ≡ high_one n w }
 {
     1 < w >> (n - 1)
 }
 
 // The rows of the table, for a rule that was accepted.
 fn judge(rule: Rule, n: u64, weights: &[u16], more: &[u64], w: u64) -> Verdict
-    requires { (Accepted rule n (besideOf rule weights.now more.now)) × (w < 2 ^ n) }
-    ensures { result ≡ judgedOf rule n weights.now more.now w }
+    requires { (Accepted rule n (beside_of rule weights.now more.now)) × (w < 2 ^ n) }
+    ensures { result ≡ judged_of rule n weights.now more.now w }
 {
     let asked = rule.kind;
     let failed = ones_of(w);

@@ -1,7 +1,7 @@
 // Kind 8: for one of the pairs, some r in a row hold fewer than k working.
 ghost use Rattle.std.specs.Prelude.{[], ◌∷◌, ◌≡◌, ◌≤◌, length};
 ghost use Rattle.rules.specs.Below.{first};
-ghost use Rattle.rules.specs.Pairs.{pair_of, pairsIn, pairsOf, any_of, lackingFrom, fails8, firstLacking, mostMore};
+ghost use Rattle.rules.specs.Pairs.{pair_of, pairs_in, pairs_of, any_of, lacking_from, fails8, first_lacking, most_more};
 ghost use Rattle.rules.specs.Answer.{judgment};
 ghost use Rattle.verdict.specs.Pairs.{Judgeable, From};
 
@@ -11,7 +11,7 @@ use rules::Verdict;
 // Does a window of r components start at component a + 1, with fewer than k working?
 fn lacks(k: u64, r: u64, n: u64, a: u64, w: u64) -> bool
     requires { From n w a (pair_of k r ∷ []) }
-    ensures { result ≡ lackingFrom n w a (pair_of k r) }
+    ensures { result ≡ lacking_from n w a (pair_of k r) }
 {
     if n < a + r {
         return false;
@@ -21,9 +21,9 @@ fn lacks(k: u64, r: u64, n: u64, a: u64, w: u64) -> bool
 
 // Does one of a further pair?
 fn further_lacks(more: &[u64], n: u64, a: u64, w: u64) -> bool
-    requires few { length more.now ≤ mostMore }
-    requires start { From n w a (pairsIn more.now) }
-    ensures { result ≡ any_of (lackingFrom n w a) (pairsIn more.now) }
+    requires few { length more.now ≤ most_more }
+    requires start { From n w a (pairs_in more.now) }
+    ensures { result ≡ any_of (lacking_from n w a) (pairs_in more.now) }
 {
     let mut i: usize = 0;
     while i + 1 < more.len() {
@@ -37,9 +37,9 @@ fn further_lacks(more: &[u64], n: u64, a: u64, w: u64) -> bool
 
 // Does one of any pair?
 fn some_lacks(k: u64, r: u64, more: &[u64], n: u64, a: u64, w: u64) -> bool
-    requires few { length more.now ≤ mostMore }
-    requires start { From n w a (pairsOf k r more.now) }
-    ensures { result ≡ any_of (lackingFrom n w a) (pairsOf k r more.now) }
+    requires few { length more.now ≤ most_more }
+    requires start { From n w a (pairs_of k r more.now) }
+    ensures { result ≡ any_of (lacking_from n w a) (pairs_of k r more.now) }
 {
     if lacks(k, r, n, a, w) {
         return true;
@@ -49,9 +49,9 @@ fn some_lacks(k: u64, r: u64, more: &[u64], n: u64, a: u64, w: u64) -> bool
 
 // The lowest start of a failing window; n where there is none.
 fn first_lacking(k: u64, r: u64, more: &[u64], n: u64, w: u64) -> u64
-    requires few { length more.now ≤ mostMore }
-    requires pairs { Judgeable n w (pairsOf k r more.now) }
-    ensures* { λ a. ⌜ a ≡ first (λ a. any_of (lackingFrom n w a) (pairsOf k r more.now)) n ⌝ }
+    requires few { length more.now ≤ most_more }
+    requires pairs { Judgeable n w (pairs_of k r more.now) }
+    ensures* { λ a. ⌜ a ≡ first (λ a. any_of (lacking_from n w a) (pairs_of k r more.now)) n ⌝ }
 {
     let mut a: u64 = 0;
     while a < n {
@@ -65,10 +65,10 @@ fn first_lacking(k: u64, r: u64, more: &[u64], n: u64, w: u64) -> u64
 
 // The lowest start is the place, counted from 1.
 pub fn judge_pairs(k: u64, r: u64, more: &[u64], n: u64, w: u64) -> Verdict
-    requires few { length more.now ≤ mostMore }
-    requires pairs { Judgeable n w (pairsOf k r more.now) }
-    ensures { let all = pairsOf k r more.now in
-        result ≡ judgment (fails8 all n w) (firstLacking all n w) }
+    requires few { length more.now ≤ most_more }
+    requires pairs { Judgeable n w (pairs_of k r more.now) }
+    ensures { let all = pairs_of k r more.now in
+        result ≡ judgment (fails8 all n w) (first_lacking all n w) }
 {
     let a = first_lacking(k, r, more, n, w);
     if a < n {

@@ -1,5 +1,5 @@
 -- The words of a verdict case before its weights.
 use Rattle.std.specs.Prelude.{ℕ}
 
-abbrev pub headWords : ℕ
-headWords = 6
+abbrev pub head_words : ℕ
+head_words = 6

@@ -4,7 +4,7 @@
 ghost use Rattle.std.specs.Prelude.{◌+◌, ◌≤◌, length};
 ghost use Rattle.io.specs.Counts.{IsPrefixLen};
 ghost use Rattle.casefile.specs.Cases.{Within};
-ghost use Rattle.verdict_cases.specs.Case.{headWords};
+ghost use Rattle.verdict_cases.specs.Case.{head_words};
 
 use casefile::{cases, words};
 use libc::{STDIN_FILENO, STDOUT_FILENO};
@@ -19,7 +19,7 @@ const HEAD: usize = 6;
 
 // The verdict that the case at `at` asks for, with its lists.
 fn asked(bytes: &[u8], at: usize, weights: &[u16], more: &[u64]) -> Verdict
-    requires { at + headWords ≤ length bytes.now }
+    requires { at + head_words ≤ length bytes.now }
 {
     let rule = cases::rule_at(bytes, at);
     let n = words::word(bytes, at + FANS);
@@ -30,7 +30,7 @@ fn asked(bytes: &[u8], at: usize, weights: &[u16], more: &[u64]) -> Verdict
 // The same, with the lists read from the case: it has so many words up to its weights, then so many of the further
 // pairs' list.
 fn judged(bytes: &[u8], at: usize, size: usize, list: usize) -> Verdict
-    requires case { Within bytes.now at headWords size }
+    requires case { Within bytes.now at head_words size }
     requires further { Within bytes.now (at + size) 1 list }
 {
     let w = size - HEAD;

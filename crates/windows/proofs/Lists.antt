@@ -11,7 +11,7 @@ use native.Mathlib.Decide.{dec_lt}
 use lib.ListN.{get_or}
 use Rattle.rules.specs.Below.{held}
 use Rattle.rules.proofs.Windows.{held-le}
-use Rattle.windows.specs.Groups.{countAt, entry_at, Entry, Listed, Appended, Trimmed}
+use Rattle.windows.specs.Groups.{count_at, entry_at, Entry, Listed, Appended, Trimmed}
 
 module _ (C : ℕ → Bool) where
   held-yes : (x : ℕ) → C x ≡ true → held C (suc x) ≡ held C x + 1
@@ -44,8 +44,8 @@ module _ (C : ℕ → Bool) where
     pub listed_more : {t₀ t' : List ℕ} → C x ≡ true → ((c : ℕ) → at ≤ c → c ≤ at + x → get_or t₀ c 0 ≡ get_or t c 0) → Appended at x t₀ t' → Listed C (suc x) at t'
     listed_more {t₀} {t'} e same a =
         let few = held-le C x in
-        let old : countAt t₀ at ≡ held C x = same at (omega arith) (omega arith) ∙ l.size in
-        let now : countAt t' at ≡ held C x + 1 = rw old at a.count in
+        let old : count_at t₀ at ≡ held C x = same at (omega arith) (omega arith) ∙ l.size in
+        let now : count_at t' at ≡ held C x + 1 = rw old at a.count in
         let here : entry_at t' at (held C x) ≡ x = rw old at a.here in
         let still : (j : ℕ) → j < held C x → entry_at t' at j ≡ entry_at t at j =
         λ j h. a.other (at + 1 + j) (λ q. omega arith) (λ q. omega arith) ∙ same (at + 1 + j) (omega arith) (omega arith) in
@@ -70,7 +70,7 @@ module _ (C : ℕ → Bool) where
     -- cut to those below `reach`
     pub listed-trim : {reach : ℕ} {t' : List ℕ} → reach ≤ x → Trimmed at reach t t' → Listed C reach at t'
     listed-trim {reach} {t'} low r =
-        let size : countAt t' at ≡ held C reach = omega (arith, up (dec_lt 0 (countAt t' at)), down (dec_lt (countAt t' at) (countAt t at))) in
+        let size : count_at t' at ≡ held C reach = omega (arith, up (dec_lt 0 (count_at t' at)), down (dec_lt (count_at t' at) (count_at t at))) in
         let still : (j : ℕ) → entry_at t' at j ≡ entry_at t at j = λ j. r.other (at + 1 + j) (λ q. omega arith) in
         record {
           size = size;
@@ -80,15 +80,15 @@ module _ (C : ℕ → Bool) where
               rw (still j) (record { member = n.member; low = lower j n (omega (arith, size)) (dec_lt (entry_at t at j) reach); rank = n.rank });
         }
       where
-        up : Dec (0 < countAt t' at) → countAt t' at ≤ held C reach
+        up : Dec (0 < count_at t' at) → count_at t' at ≤ held C reach
         up (yes h) =
-            let n = l.entry (countAt t' at - 1) (omega (arith, r.cut.most)) in
-            let b : entry_at t at (countAt t' at - 1) < reach = rw (entry-last t at (countAt t' at) h) (r.cut.last h) in
+            let n = l.entry (count_at t' at - 1) (omega (arith, r.cut.most)) in
+            let b : entry_at t at (count_at t' at - 1) < reach = rw (entry-last t at (count_at t' at) h) (r.cut.last h) in
             omega (arith, n.rank, held-order C _ reach n.member b)
         up (no h) = omega arith
 
-        down : Dec (countAt t' at < countAt t at) → held C reach ≤ countAt t' at
-        down (yes h) = let n = l.entry (countAt t' at) h in omega (arith, n.rank, held_up C reach _ (r.cut.next h))
+        down : Dec (count_at t' at < count_at t at) → held C reach ≤ count_at t' at
+        down (yes h) = let n = l.entry (count_at t' at) h in omega (arith, n.rank, held_up C reach _ (r.cut.next h))
         down (no h) = omega (arith, l.size, held_up C reach x low)
 
         lower : (j : ℕ) → Entry C x j (entry_at t at j) → j < held C reach → Dec (entry_at t at j < reach) → entry_at t at j < reach
@@ -99,7 +99,7 @@ module _ (C : ℕ → Bool) where
     pub listed-still : {t' : List ℕ} → ((c : ℕ) → at ≤ c → c ≤ at + x → get_or t' c 0 ≡ get_or t c 0) → Listed C x at t'
     listed-still {t'} same =
         let few = held-le C x in
-        let size : countAt t' at ≡ held C x = same at (omega arith) (omega arith) ∙ l.size in
+        let size : count_at t' at ≡ held C x = same at (omega arith) (omega arith) ∙ l.size in
         record {
           size = size;
           is = λ y h m. same (at + 1 + held C y) (omega arith) (omega (arith, held-order C y x m h)) ∙ l.is y h m;
@@ -118,6 +118,6 @@ module _ (C : ℕ → Bool) where
       go y m (inl q) = absurd (true≢false (sym m ∙ ap C q ∙ e))
       go y m (inr h) = l.is y h m
 
-  pub listed-none : {at : ℕ} {t : List ℕ} → countAt t at ≡ 0 → Listed C 0 at t
+  pub listed-none : {at : ℕ} {t : List ℕ} → count_at t at ≡ 0 → Listed C 0 at t
   unfolding held
   listed-none e = record { size = e; is = λ y h. absurd (omega arith); entry = λ j h. absurd (omega arith) }

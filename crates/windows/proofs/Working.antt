@@ -15,7 +15,7 @@ use Rattle.places.specs.declared.Ends.{Ends}
 use Rattle.places.specs.Cells.{one, Both, Place, Put, Steady, cell_at}
 use Rattle.places.specs.Map.{half}
 use Rattle.places.proofs.Cells.{both_at, kept-none, kept_trans, room-kept, side-near, apart}
-use Rattle.windows.specs.Groups.{listAt, countAt, entry_at}
+use Rattle.windows.specs.Groups.{list_at, count_at, entry_at}
 use Rattle.windows.specs.Row.{step_of, Ready, Laid, Handed, Partly}
 
 module _ {u : ℕ} {must worse : Bool} {p oldest from x : ℕ} {t : List ℕ} (y : Ready u must worse p oldest from x t) where
@@ -88,9 +88,9 @@ partly_none = record {
 }
 
 module _ {u : ℕ} {must worse : Bool} {p oldest from j : ℕ} {t₀ t : List ℕ} (h : Handed u must worse p oldest from t₀)
-    (l : j < countAt t₀ (listAt must worse)) (w : Partly u must worse (listAt must worse) p oldest from j t₀ t) where
+    (l : j < count_at t₀ (list_at must worse)) (w : Partly u must worse (list_at must worse) p oldest from j t₀ t) where
   abbrev at : ℕ
-  at = listAt must worse
+  at = list_at must worse
 
   abbrev x : ℕ
   x = entry_at t₀ at j
@@ -124,7 +124,7 @@ module _ {u : ℕ} {must worse : Bool} {p oldest from j : ℕ} {t₀ t : List �
         fails = λ e up. rw (from-same up (2 * x + 1) (omega arith)) (r.fails e up);
       }
 
-  step_same : (b up : Bool) (i : ℕ) → i < countAt t₀ at → step_of u b p from t up (entry_at t₀ at i) ≡ step_of u b p from t₀ up (entry_at t₀ at i)
+  step_same : (b up : Bool) (i : ℕ) → i < count_at t₀ at → step_of u b p from t up (entry_at t₀ at i) ≡ step_of u b p from t₀ up (entry_at t₀ at i)
   unfolding step_of
   step_same b up i m =
       let r = h.each i m in

@@ -2,14 +2,14 @@
 use Rattle.std.specs.Prelude.{◌≡◌, Bool, true, false, cond, ◌&&◌, ◌||◌, List, ℕ, suc, ◌+◌, ◌-◌, ◌*◌, ◌%◌, ◌^◌, ◌<◌, ◌≤◌, min, length, get_or}
 use Rattle.rules.specs.declared.Pair.{Pair}
 use Rattle.rules.specs.State.{S}
-use Rattle.rules.specs.Memory.{live, machine_of, lackingIn}
+use Rattle.rules.specs.Memory.{live, machine_of, lacking_in}
 use Rattle.rules.specs.Figure.{rounded, mixed}
 use Rattle.rules.specs.Refusal.{cells}
-use Rattle.memory.specs.Pattern.{oldestOf, lives, patterned}
+use Rattle.memory.specs.Pattern.{oldest_of, lives, patterned}
 use Rattle.places.specs.Cells.{Side, cell_at, Kept, Workable, value_of}
 use Rattle.places.specs.Map.{far, half}
 use Rattle.windows.specs.declared.Level.{Level}
-use Rattle.windows.specs.Groups.{listAt, countAt, entry_at, Lists}
+use Rattle.windows.specs.Groups.{list_at, count_at, entry_at, Lists}
 
 -- so many places from the first, of a table long enough
 pub record Filling (count : ℕ) (t : List ℕ) : Type 0 where
@@ -41,10 +41,10 @@ pub record Laid (u : ℕ) (must worse : Bool) (p oldest from x : ℕ) (t₀ t : 
 
 -- a list of such patterns
 pub record Handed (u : ℕ) (must worse : Bool) (p oldest from : ℕ) (t : List ℕ) : Type 0 where
-  pub behind : 2 * far ≤ listAt must worse
-  pub low : listAt must worse + countAt t (listAt must worse) < cells
+  pub behind : 2 * far ≤ list_at must worse
+  pub low : list_at must worse + count_at t (list_at must worse) < cells
   pub room : cells ≤ length t
-  pub each : (j : ℕ) → j < countAt t (listAt must worse) → Ready u must worse p oldest from (entry_at t (listAt must worse) j) t
+  pub each : (j : ℕ) → j < count_at t (list_at must worse) → Ready u must worse p oldest from (entry_at t (list_at must worse) j) t
 
 -- the first `count` of them worked
 pub record Partly (u : ℕ) (must worse : Bool) (at p oldest from count : ℕ) (t₀ t : List ℕ) : Type 0 where
@@ -57,40 +57,40 @@ pub record Partly (u : ℕ) (must worse : Bool) (at p oldest from count : ℕ) (
   pub kept : Kept t₀ t
 
 abbrev pub Worked : (u : ℕ) (must worse : Bool) (p oldest from : ℕ) (t₀ t : List ℕ) → Type 0
-Worked u must worse p oldest from t₀ t = Partly u must worse (listAt must worse) p oldest from (countAt t₀ (listAt must worse)) t₀ t
+Worked u must worse p oldest from t₀ t = Partly u must worse (list_at must worse) p oldest from (count_at t₀ (list_at must worse)) t₀ t
 
 -- the value of a pattern with i components left
-abbrev pub patternValue : (u : ℕ) → List Pair → (survival : List ℕ) (i : ℕ) (up : Bool) (m : ℕ) → ℕ
-patternValue u ps survival i up m = value_of u (machine_of (patterned ps)) survival (live m) up i
+abbrev pub pattern_value : (u : ℕ) → List Pair → (survival : List ℕ) (i : ℕ) (up : Bool) (m : ℕ) → ℕ
+pattern_value u ps survival i up m = value_of u (machine_of (patterned ps)) survival (live m) up i
 
 -- patterns below it can have been reached with `left` of n components left
-abbrev pub reachOf : (oldest n left : ℕ) → ℕ
-reachOf oldest n left = min oldest (2 ^ (n - left))
+abbrev pub reach_of : (oldest n left : ℕ) → ℕ
+reach_of oldest n left = min oldest (2 ^ (n - left))
 
 -- the side at `from` holds the values of those that live
 pub record Held (u : ℕ) (ps : List Pair) (oldest : ℕ) (survival : List ℕ) (i reach from : ℕ) (t : List ℕ) : Type 0 where
-  pub is : (up : Bool) (m : ℕ) → m < 2 * oldest → lives ps m ≡ true → m % oldest < reach → cell_at t up (from + m) ≡ patternValue u ps survival i up m
+  pub is : (up : Bool) (m : ℕ) → m < 2 * oldest → lives ps m ≡ true → m % oldest < reach → cell_at t up (from + m) ≡ pattern_value u ps survival i up m
 
 pub record Levelled (u : ℕ) (ps : List Pair) (oldest : ℕ) (survival : List ℕ) (s : Level) (t : List ℕ) : Type 0 where
-  pub bit : oldest ≡ oldestOf ps
-  pub none : lackingIn ps 0 ≡ false
+  pub bit : oldest ≡ oldest_of ps
+  pub none : lacking_in ps 0 ≡ false
   pub most : oldest ≤ 256
   pub list : Workable u survival t
   pub side : Side s.from
-  pub lists : Lists ps (reachOf oldest (length survival) s.left) t
-  pub row : Held u ps oldest survival s.left (reachOf oldest (length survival) s.left) s.from t
+  pub lists : Lists ps (reach_of oldest (length survival) s.left) t
+  pub row : Held u ps oldest survival s.left (reach_of oldest (length survival) s.left) s.from t
 
 -- what the component after i others is worked with, between one list and the next
 pub record Midway (u : ℕ) (ps : List Pair) (oldest : ℕ) (survival : List ℕ) (i from p : ℕ) (t : List ℕ) : Type 0 where
-  pub bit : oldest ≡ oldestOf ps
-  pub none : lackingIn ps 0 ≡ false
+  pub bit : oldest ≡ oldest_of ps
+  pub none : lacking_in ps 0 ≡ false
   pub most : oldest ≤ 256
   pub list : Workable u survival t
   pub more : i < length survival
   pub side : Side from
   pub read : p ≡ get_or survival i 0
-  pub lists : Lists ps (reachOf oldest (length survival) (suc i)) t
-  pub row : Held u ps oldest survival i (reachOf oldest (length survival) i) from t
+  pub lists : Lists ps (reach_of oldest (length survival) (suc i)) t
+  pub row : Held u ps oldest survival i (reach_of oldest (length survival) i) from t
 
 -- some pairs and a list have it
 pub record Between (u oldest from p : ℕ) (t : List ℕ) : Type 0 where

@@ -2,10 +2,10 @@
 // must work, those that must work themselves, and of these the ones whose older one is dead. A list begins with how
 // many it holds.
 ghost use Rattle.std.specs.Prelude.{◌≡◌, ◌+◌, ◌<◌};
-ghost use Rattle.rules.specs.Pairs.{pairsOf};
+ghost use Rattle.rules.specs.Pairs.{pairs_of};
 ghost use Rattle.windows.specs.Asked.{Judged};
 ghost use Rattle.windows.specs.Groups.{Appended, Cut, Listable, Listables, Markable, MarkedTwo, Placed};
-ghost use Rattle.windows.specs.Groups.{Sortable, Sorted, Sorting, Trimmed, TrimmedAll, flagOf, listAt, list_of};
+ghost use Rattle.windows.specs.Groups.{Sortable, Sorted, Sorting, Trimmed, TrimmedAll, flag_of, list_at, list_of};
 
 use crate::pairs;
 use memory::pattern::Pattern;
@@ -14,7 +14,7 @@ use places::map::{ALONE, BOUND, FREE, MARKS, SPLIT};
 // The list of the patterns that must work or not, and whose older ones are worse off or not: where a pattern may fail,
 // an older one that is worse off must work; where it must work, that one is dead.
 pub fn list_at(must: bool, worse: bool) -> usize
-    ensures { result ≡ listAt must worse }
+    ensures { result ≡ list_at must worse }
 {
     if must {
         if worse {
@@ -31,7 +31,7 @@ pub fn list_at(must: bool, worse: bool) -> usize
 // The list of a pattern that must work or not, by its older one.
 fn list_of(first: u64, second: u64, more: &[u64], must: bool, old: Pattern) -> usize
     requires { Judged second more.now old }
-    ensures { result ≡ list_of (pairsOf first second more.now) must old.bits }
+    ensures { result ≡ list_of (pairs_of first second more.now) must old.bits }
 {
     if must {
         return list_at(true, pairs::lacks(first, second, more, old));
@@ -50,7 +50,7 @@ fn append(at: usize, x: usize, table: &mut [u64])
 }
 
 fn flag(test: bool) -> u64
-    ensures { result ≡ flagOf test }
+    ensures { result ≡ flag_of test }
 {
     if test { 1 } else { 0 }
 }

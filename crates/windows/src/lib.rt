@@ -9,8 +9,8 @@ mod pairs; // pairs.rt: what the pairs ask of a pattern
 mod row; // row.rt: one component more
 
 ghost use Rattle.rules.specs.Memory.{row8};
-ghost use Rattle.rules.specs.Pairs.{pairsOf};
-ghost use Rattle.rules.specs.Figure.{figureOf};
+ghost use Rattle.rules.specs.Pairs.{pairs_of};
+ghost use Rattle.rules.specs.Figure.{figure_of};
 ghost use Rattle.units.specs.Step.{whole};
 ghost use Rattle.places.specs.Cells.{Both, Kept};
 ghost use Rattle.windows.specs.Asked.{Asked};
@@ -34,8 +34,8 @@ pub fn rate(
     table: &mut [u64],
 ) -> Ends
     requires { Asked (whole decimal) first second more.now survival.now table.old }
-    ensures figure { let row = row8 (pairsOf first second more.now) in
-        Both (λ up. figureOf row up (whole decimal) survival.now) result }
+    ensures figure { let row = row8 (pairs_of first second more.now) in
+        Both (λ up. figure_of row up (whole decimal) survival.now) result }
     ensures kept { Kept table.old table.new }
 {
     let n = survival.len();

@@ -1,7 +1,7 @@
 // What the pairs ask of a pattern. The further pairs stand in a list, two numbers each.
 ghost use Rattle.std.specs.Prelude.{◌≡◌, ◌-◌, ◌^◌, ◌<◌, max};
-ghost use Rattle.rules.specs.Memory.{lackingIn, longest};
-ghost use Rattle.rules.specs.Pairs.{pairsOf};
+ghost use Rattle.rules.specs.Memory.{lacking_in, longest};
+ghost use Rattle.rules.specs.Pairs.{pairs_of};
 ghost use Rattle.memory.specs.Pattern.{dies};
 ghost use Rattle.windows.specs.Asked.{Judged, Windows, farthest};
 
@@ -43,7 +43,7 @@ pub fn oldest(second: u64, more: &[u64]) -> usize
 // Does some pair's window, of the states read last, hold too few working?
 pub fn lacks(first: u64, second: u64, more: &[u64], m: Pattern) -> bool
     requires { Windows second more.now }
-    ensures { result ≡ lackingIn (pairsOf first second more.now) m.bits }
+    ensures { result ≡ lacking_in (pairs_of first second more.now) m.bits }
 {
     if m.lacks(Pair {
         k: first,
@@ -68,7 +68,7 @@ pub fn lacks(first: u64, second: u64, more: &[u64], m: Pattern) -> bool
 // Is it dead where the next component fails?
 pub fn dies(first: u64, second: u64, more: &[u64], m: Pattern) -> bool
     requires { Judged second more.now m }
-    ensures { result ≡ dies (pairsOf first second more.now) m.bits }
+    ensures { result ≡ dies (pairs_of first second more.now) m.bits }
 {
     lacks(first, second, more, m.failed())
 }

@@ -12,20 +12,20 @@ use borrow.Author.Tests.{ne_eqb}
 use Rattle.rules.specs.Below as Below
 use Rattle.rules.specs.Below.{some}
 use Rattle.text.specs.Decimal.{text, decimal}
-use Rattle.grammar.specs.Numbers.{lettersOn, none, digitsOn, whole}
-use Rattle.grammar.specs.Grammar.{sets, as_number, mostNumber, reading, rows, grammar}
-use Rattle.grammar.specs.Line.{cell, takes, rowFor, placeAfter, setAfter, goesOn, walk, stopped}
+use Rattle.grammar.specs.Numbers.{letters_on, none, digits_on, whole}
+use Rattle.grammar.specs.Grammar.{sets, as_number, most_number, reading, rows, grammar}
+use Rattle.grammar.specs.Line.{cell, takes, row_for, place_after, set_after, goes_on, walk, stopped}
 use Rattle.grammar.proofs.Letters.{Bytes}
-use Rattle.wording.specs.Rule.{byNumbers, ruleText}
-use Rattle.wording.specs.Lines.{stretchText}
+use Rattle.wording.specs.Rule.{by_numbers, rule_text}
+use Rattle.wording.specs.Lines.{stretch_text}
 use Rattle.wording.proofs.Back.{whole_back}
 use Rattle.wording.proofs.Rows.{past, other-kind}
 use Rattle.wording.proofs.Phrases.{clean, Plain, AllPlain, spaced, plain-number}
 use Rattle.wording.proofs.Walks.{number_step, not-letters}
 
 -- a number that a file has room for, by its row
-pub amount : (version place row k : ℕ) → k ≤ mostNumber → cell row 0 ≡ place → cell row 1 ≡ as_number → cell row 2 ≡ 0 → cell row 3 ≡ mostNumber → row < rows
-    → some (takes version place (decimal k)) row ≡ false → goesOn (cell row 6) ≡ true → (before : List ℕ) (words : List (List ℕ))
+pub amount : (version place row k : ℕ) → k ≤ most_number → cell row 0 ≡ place → cell row 1 ≡ as_number → cell row 2 ≡ 0 → cell row 3 ≡ most_number → row < rows
+    → some (takes version place (decimal k)) row ≡ false → goes_on (cell row 6) ≡ true → (before : List ℕ) (words : List (List ℕ))
     → walk version place before (decimal k ∷ words) ≡ walk version (cell row 6) (set before (cell row 4) k) words
 unfolding reading
 amount version place row k h here way least most l no_other on before words =
@@ -34,18 +34,18 @@ amount version place row k h here way least most l no_other on before words =
     number_step version place row (decimal k) k read here (omega (arith, least)) (omega (arith, most)) counts l no_other on before words
 
 -- the numbers that a line has set: a rule's kind, first and second, and nothing else yet
-abbrev pub ruleSet : (kind first second : ℕ) → List ℕ
-ruleSet kind first second = kind ∷ first ∷ second ∷ 0 ∷ 0 ∷ 0 ∷ 0 ∷ 0 ∷ 0 ∷ 0 ∷ 0 ∷ []
+abbrev pub rule_set : (kind first second : ℕ) → List ℕ
+rule_set kind first second = kind ∷ first ∷ second ∷ 0 ∷ 0 ∷ 0 ∷ 0 ∷ 0 ∷ 0 ∷ 0 ∷ 0 ∷ []
 
 -- at two places letters come first
 weight-apart : (version k : ℕ) → k < none → takes version 16 (decimal k) 31 ≡ false
-unfolding reading grammar lettersOn whole digitsOn Bytes
+unfolding reading grammar letters_on whole digits_on Bytes
 weight-apart version k h =
     let bytes : Bytes (text "weight") = (omega arith, (omega arith, (omega arith, (omega arith, (omega arith, (omega arith, tt)))))) in
     not-letters k (text "weight") h bytes (omega arith) refl
 
 a-apart : (version k : ℕ) → k < none → takes version 19 (decimal k) 36 ≡ false
-unfolding reading grammar lettersOn whole digitsOn Bytes
+unfolding reading grammar letters_on whole digits_on Bytes
 a-apart version k h =
     let bytes : Bytes (text "a") = (omega arith, tt) in
     not-letters k (text "a") h bytes (omega arith) refl
@@ -53,11 +53,11 @@ a-apart version k h =
 -- a rule in words: its words, and where they lead with its numbers set, whatever follows
 pub record Ruled (version kind first second : ℕ) : Type 0 where
   pub words : List (List ℕ)
-  pub spelled : 32 ∷ ruleText kind first second ≡ spaced words
+  pub spelled : 32 ∷ rule_text kind first second ≡ spaced words
   pub plain : AllPlain words
   pub place : ℕ
   pub stretches : (place ≡ 34) ⊎ ((place ≡ 21) ⊎ (place ≡ 22))
-  pub walks : (more : List (List ℕ)) → walk version 14 (replicate sets 0) (words ++ more) ≡ walk version place (ruleSet kind first second) more
+  pub walks : (more : List (List ℕ)) → walk version 14 (replicate sets 0) (words ++ more) ≡ walk version place (rule_set kind first second) more
 
 pub plain_word : (w : List ℕ) → clean w ≡ true → 0 < length w → Plain w
 plain_word w e l = record { bytes = e; some = l }
@@ -126,10 +126,10 @@ plain_second : Plain (text "second")
 unfolding clean
 plain_second = plain_word (text "second") refl (omega arith)
 
-module _ (version first second : ℕ) (f : first ≤ mostNumber) (s : second ≤ mostNumber) where
+module _ (version first second : ℕ) (f : first ≤ most_number) (s : second ≤ most_number) where
   -- fails at K
   at-number : (before : List ℕ) (more : List (List ℕ)) → walk version 16 before (decimal first ∷ more) ≡ walk version 18 (set before 1 first) more
-  unfolding reading grammar lettersOn some
+  unfolding reading grammar letters_on some
   at-number before more =
       let h : first < none = omega arith in
       let no_other : (some (takes version 16 (decimal first)) 31 || takes version 16 (decimal first) 31) || takes version 16 (decimal first) 32 ≡ false =
@@ -138,7 +138,7 @@ module _ (version first second : ℕ) (f : first ≤ mostNumber) (s : second ≤
 
   -- in R
   in-number : (before : List ℕ) (more : List (List ℕ)) → walk version 19 before (decimal second ∷ more) ≡ walk version 22 (set before 2 second) more
-  unfolding reading grammar lettersOn some
+  unfolding reading grammar letters_on some
   in-number before more =
       let h : second < none = omega arith in
       let t : ℕ → Bool = takes version 19 (decimal second) in
@@ -147,7 +147,7 @@ module _ (version first second : ℕ) (f : first ≤ mostNumber) (s : second ≤
       amount version 19 41 second s refl refl refl refl (omega arith) no_other refl before more
 
   kind1 : Ruled version 1 first 0
-  unfolding ruleText spaced AllPlain walk placeAfter setAfter rowFor Below.first some reading grammar lettersOn
+  unfolding rule_text spaced AllPlain walk place_after set_after row_for Below.first some reading grammar letters_on
   kind1 = record {
     words = text "fails" ∷ text "at" ∷ decimal first ∷ text "dead" ∷ [];
     spelled = refl;
@@ -158,7 +158,7 @@ module _ (version first second : ℕ) (f : first ≤ mostNumber) (s : second ≤
   }
 
   kind2 : Ruled version 2 first 0
-  unfolding ruleText spaced AllPlain walk placeAfter setAfter rowFor Below.first some reading grammar lettersOn
+  unfolding rule_text spaced AllPlain walk place_after set_after row_for Below.first some reading grammar letters_on
   kind2 = record {
     words = text "fails" ∷ text "at" ∷ text "weight" ∷ decimal first ∷ [];
     spelled = refl;
@@ -169,7 +169,7 @@ module _ (version first second : ℕ) (f : first ≤ mostNumber) (s : second ≤
   }
 
   kind3 : Ruled version 3 first second
-  unfolding ruleText spaced AllPlain walk placeAfter setAfter rowFor Below.first some reading grammar lettersOn
+  unfolding rule_text spaced AllPlain walk place_after set_after row_for Below.first some reading grammar letters_on
   kind3 = record {
     words = text "fails" ∷ text "from" ∷ decimal first ∷ text "to" ∷ decimal second ∷ text "dead" ∷ [];
     spelled = ap (λ x. text " fails from " ++ x) (append_assoc (decimal first) (text " to " ++ decimal second) (text " dead"));
@@ -180,7 +180,7 @@ module _ (version first second : ℕ) (f : first ≤ mostNumber) (s : second ≤
   }
 
   kind4 : Ruled version 4 first 0
-  unfolding ruleText spaced AllPlain walk placeAfter setAfter rowFor Below.first some reading grammar lettersOn
+  unfolding rule_text spaced AllPlain walk place_after set_after row_for Below.first some reading grammar letters_on
   kind4 = record {
     words = text "fails" ∷ text "at" ∷ decimal first ∷ text "in" ∷ text "a" ∷ text "row" ∷ [];
     spelled = refl;
@@ -191,7 +191,7 @@ module _ (version first second : ℕ) (f : first ≤ mostNumber) (s : second ≤
   }
 
   kind5 : Ruled version 5 first 0
-  unfolding ruleText spaced AllPlain walk placeAfter setAfter rowFor Below.first some reading grammar lettersOn
+  unfolding rule_text spaced AllPlain walk place_after set_after row_for Below.first some reading grammar letters_on
   kind5 = record {
     words = text "fails" ∷ text "at" ∷ decimal first ∷ text "in" ∷ text "a" ∷ text "row" ∷ text "round" ∷ [];
     spelled = refl;
@@ -202,7 +202,7 @@ module _ (version first second : ℕ) (f : first ≤ mostNumber) (s : second ≤
   }
 
   kind6 : Ruled version 6 first second
-  unfolding ruleText spaced AllPlain walk placeAfter setAfter rowFor Below.first some reading grammar lettersOn
+  unfolding rule_text spaced AllPlain walk place_after set_after row_for Below.first some reading grammar letters_on
   kind6 = record {
     words = text "fails" ∷ text "at" ∷ decimal first ∷ text "in" ∷ decimal second ∷ [];
     spelled = ap (λ x. text " fails at " ++ x) (append_assoc (decimal first) (text " in " ++ decimal second) []);
@@ -213,7 +213,7 @@ module _ (version first second : ℕ) (f : first ≤ mostNumber) (s : second ≤
   }
 
   kind7 : Ruled version 7 first second
-  unfolding ruleText spaced AllPlain walk placeAfter setAfter rowFor Below.first some reading grammar lettersOn
+  unfolding rule_text spaced AllPlain walk place_after set_after row_for Below.first some reading grammar letters_on
   kind7 = record {
     words = text "fails" ∷ text "at" ∷ decimal first ∷ text "in" ∷ decimal second ∷ text "round" ∷ [];
     spelled = ap (λ x. text " fails at " ++ x) (append_assoc (decimal first) (text " in " ++ decimal second) (text " round"));
@@ -224,7 +224,7 @@ module _ (version first second : ℕ) (f : first ≤ mostNumber) (s : second ≤
   }
 
   kind8 : Ruled version 8 first second
-  unfolding ruleText spaced AllPlain walk placeAfter setAfter rowFor Below.first some reading grammar lettersOn
+  unfolding rule_text spaced AllPlain walk place_after set_after row_for Below.first some reading grammar letters_on
   kind8 = record {
     words = text "needs" ∷ decimal first ∷ text "of" ∷ text "any" ∷ decimal second ∷ [];
     spelled = ap (λ x. text " needs " ++ x) (append_assoc (decimal first) (text " of any " ++ decimal second) []);
@@ -235,8 +235,8 @@ module _ (version first second : ℕ) (f : first ≤ mostNumber) (s : second ≤
   }
 
   -- kind N first F second S
-  by-numbers : (kind : ℕ) → kind ≤ mostNumber → ruleText kind first second ≡ byNumbers kind first second → Ruled version kind first second
-  unfolding spaced AllPlain walk placeAfter setAfter rowFor Below.first some reading grammar lettersOn
+  by-numbers : (kind : ℕ) → kind ≤ most_number → rule_text kind first second ≡ by_numbers kind first second → Ruled version kind first second
+  unfolding spaced AllPlain walk place_after set_after row_for Below.first some reading grammar letters_on
   by-numbers kind k is = record {
     words = text "kind" ∷ decimal kind ∷ text "first" ∷ decimal first ∷ text "second" ∷ decimal second ∷ [];
     spelled =
@@ -252,15 +252,15 @@ module _ (version first second : ℕ) (f : first ≤ mostNumber) (s : second ≤
   }
 
   -- a kind without a second number, which a rule may carry all the same
-  carried : (kind : ℕ) → kind ≤ mostNumber → Ruled version kind first 0 → ((second ≡ 0 → ⊥) → ruleText kind first second ≡ byNumbers kind first second) → Ruled version kind first second
+  carried : (kind : ℕ) → kind ≤ most_number → Ruled version kind first 0 → ((second ≡ 0 → ⊥) → rule_text kind first second ≡ by_numbers kind first second) → Ruled version kind first second
   carried kind k none other =
       elim (ℕ_discrete second 0) [
         | yes e ↦ rw e none
         | no g ↦ by-numbers kind k (other g)
       ]
 
-  pub ruled : (kind : ℕ) → kind ≤ mostNumber → Ruled version kind first second
-  unfolding ruleText
+  pub ruled : (kind : ℕ) → kind ≤ most_number → Ruled version kind first second
+  unfolding rule_text
   ruled kind k =
       elim (ℕ_discrete kind 1) [
         | yes e ↦ rw e (carried 1 (omega arith) kind1 (λ g. rw (ne_eqb second 0 g)))
@@ -292,18 +292,18 @@ module _ (version first second : ℕ) (f : first ≤ mostNumber) (s : second ≤
 abbrev pub is_whole : (n a b : ℕ) → Bool
 is_whole n a b = eqb a 1 && eqb b n
 
-abbrev pub stretchWords : (n a b : ℕ) → List (List ℕ)
-stretchWords n a b = cond (is_whole n a b) [] (text "from" ∷ decimal a ∷ text "to" ∷ decimal b ∷ [])
+abbrev pub stretch_words : (n a b : ℕ) → List (List ℕ)
+stretch_words n a b = cond (is_whole n a b) [] (text "from" ∷ decimal a ∷ text "to" ∷ decimal b ∷ [])
 
 -- and all that the line sets
-abbrev pub setBy : (whole : Bool) (kind first second a b : ℕ) → List ℕ
-setBy whole kind first second a b =
+abbrev pub set_by : (whole : Bool) (kind first second a b : ℕ) → List ℕ
+set_by whole kind first second a b =
     cond whole (kind ∷ first ∷ second ∷ 0 ∷ 0 ∷ 0 ∷ 4 ∷ 0 ∷ 0 ∷ 0 ∷ 0 ∷ []) (kind ∷ first ∷ second ∷ a ∷ b ∷ 1 ∷ 4 ∷ 0 ∷ 0 ∷ 0 ∷ 0 ∷ [])
 
-abbrev pub systemSet : (n kind first second a b : ℕ) → List ℕ
-systemSet n kind first second a b = setBy (is_whole n a b) kind first second a b
+abbrev pub system_set : (n kind first second a b : ℕ) → List ℕ
+system_set n kind first second a b = set_by (is_whole n a b) kind first second a b
 
-pub stretch-spelled : (n a b : ℕ) → stretchText n a b ≡ spaced (stretchWords n a b)
+pub stretch-spelled : (n a b : ℕ) → stretch_text n a b ≡ spaced (stretch_words n a b)
 unfolding spaced
 stretch-spelled n a b = go (is_whole n a b)
   where
@@ -311,7 +311,7 @@ stretch-spelled n a b = go (is_whole n a b)
     go true = refl
     go false = ap (λ x. text " from " ++ (decimal a ++ (text " to " ++ x))) (sym (append-nil (decimal b)))
 
-pub stretch-plain : (n a b : ℕ) → AllPlain (stretchWords n a b)
+pub stretch-plain : (n a b : ℕ) → AllPlain (stretch_words n a b)
 unfolding AllPlain
 stretch-plain n a b = go (is_whole n a b)
   where
@@ -319,23 +319,23 @@ stretch-plain n a b = go (is_whole n a b)
     go true = tt
     go false = (plain-from, (plain-number a, (plain-to, (plain-number b, tt))))
 
-module _ (version n kind first second a b : ℕ) (l : a ≤ mostNumber) (h : b ≤ mostNumber) where
+module _ (version n kind first second a b : ℕ) (l : a ≤ most_number) (h : b ≤ most_number) where
   stretched : (whole : Bool) (place : ℕ) → (place ≡ 34) ⊎ ((place ≡ 21) ⊎ (place ≡ 22))
-      → walk version place (ruleSet kind first second) (cond whole [] (text "from" ∷ decimal a ∷ text "to" ∷ decimal b ∷ [])) ≡ stopped 0 [] (setBy whole kind first second a b)
-  unfolding walk placeAfter setAfter rowFor Below.first some reading grammar lettersOn
-  stretched true place (inl e) = ap (λ p. walk version p (ruleSet kind first second) []) e
-  stretched true place (inr (inl e)) = ap (λ p. walk version p (ruleSet kind first second) []) e
-  stretched true place (inr (inr e)) = ap (λ p. walk version p (ruleSet kind first second) []) e
+      → walk version place (rule_set kind first second) (cond whole [] (text "from" ∷ decimal a ∷ text "to" ∷ decimal b ∷ [])) ≡ stopped 0 [] (set_by whole kind first second a b)
+  unfolding walk place_after set_after row_for Below.first some reading grammar letters_on
+  stretched true place (inl e) = ap (λ p. walk version p (rule_set kind first second) []) e
+  stretched true place (inr (inl e)) = ap (λ p. walk version p (rule_set kind first second) []) e
+  stretched true place (inr (inr e)) = ap (λ p. walk version p (rule_set kind first second) []) e
   stretched false place e = here e ∙ behind
     where
       given : List ℕ
       given = kind ∷ first ∷ second ∷ 0 ∷ 0 ∷ 1 ∷ 0 ∷ 0 ∷ 0 ∷ 0 ∷ 0 ∷ []
 
       here : (place ≡ 34) ⊎ ((place ≡ 21) ⊎ (place ≡ 22))
-          → walk version place (ruleSet kind first second) (text "from" ∷ decimal a ∷ text "to" ∷ decimal b ∷ []) ≡ walk version 35 given (decimal a ∷ text "to" ∷ decimal b ∷ [])
-      here (inl z) = ap (λ p. walk version p (ruleSet kind first second) (text "from" ∷ decimal a ∷ text "to" ∷ decimal b ∷ [])) z
-      here (inr (inl z)) = ap (λ p. walk version p (ruleSet kind first second) (text "from" ∷ decimal a ∷ text "to" ∷ decimal b ∷ [])) z
-      here (inr (inr z)) = ap (λ p. walk version p (ruleSet kind first second) (text "from" ∷ decimal a ∷ text "to" ∷ decimal b ∷ [])) z
+          → walk version place (rule_set kind first second) (text "from" ∷ decimal a ∷ text "to" ∷ decimal b ∷ []) ≡ walk version 35 given (decimal a ∷ text "to" ∷ decimal b ∷ [])
+      here (inl z) = ap (λ p. walk version p (rule_set kind first second) (text "from" ∷ decimal a ∷ text "to" ∷ decimal b ∷ [])) z
+      here (inr (inl z)) = ap (λ p. walk version p (rule_set kind first second) (text "from" ∷ decimal a ∷ text "to" ∷ decimal b ∷ [])) z
+      here (inr (inr z)) = ap (λ p. walk version p (rule_set kind first second) (text "from" ∷ decimal a ∷ text "to" ∷ decimal b ∷ [])) z
 
       behind : walk version 35 given (decimal a ∷ text "to" ∷ decimal b ∷ []) ≡ stopped 0 [] (kind ∷ first ∷ second ∷ a ∷ b ∷ 1 ∷ 4 ∷ 0 ∷ 0 ∷ 0 ∷ 0 ∷ [])
       behind =
@@ -343,5 +343,5 @@ module _ (version n kind first second a b : ℕ) (l : a ≤ mostNumber) (h : b �
           ∙ amount version 37 65 b h refl refl refl refl (omega arith) refl refl (kind ∷ first ∷ second ∷ a ∷ 0 ∷ 1 ∷ 0 ∷ 0 ∷ 0 ∷ 0 ∷ 0 ∷ []) []
 
   pub stretch-walk : (place : ℕ) → (place ≡ 34) ⊎ ((place ≡ 21) ⊎ (place ≡ 22))
-      → walk version place (ruleSet kind first second) (stretchWords n a b) ≡ stopped 0 [] (systemSet n kind first second a b)
+      → walk version place (rule_set kind first second) (stretch_words n a b) ≡ stopped 0 [] (system_set n kind first second a b)
   stretch-walk place e = stretched (is_whole n a b) place e

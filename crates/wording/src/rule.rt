@@ -1,16 +1,16 @@
 // A rule in words.
 ghost use Rattle.std.specs.Prelude.{◌+◌, ◌≤◌, length};
 ghost use Rattle.text.specs.Added.{Added};
-ghost use Rattle.wording.specs.Numbers.{oneText, oneRoom};
-ghost use Rattle.wording.specs.Rule.{byNumbers, alone, ruleText, ruleRoom};
+ghost use Rattle.wording.specs.Numbers.{one_text, one_room};
+ghost use Rattle.wording.specs.Rule.{by_numbers, alone, rule_text, rule_room};
 
 use rules::kind;
 use text::lines;
 
 // Puts any rule by its numbers.
 fn put_numbers(kind: u64, first: u64, second: u64, out: &mut [u8], at: usize) -> usize
-    requires { at + ruleRoom ≤ length out.old }
-    ensures { Added (byNumbers kind first second) out.old at out.new result }
+    requires { at + rule_room ≤ length out.old }
+    ensures { Added (by_numbers kind first second) out.old at out.new result }
 {
     let end = text::put_named(b"kind ", kind, out, at);
     lines::put_pair(b" first ", first, b" second ", second, out, end)
@@ -26,9 +26,9 @@ fn put_alone(
     out: &mut [u8],
     at: usize,
 ) -> usize
-    requires words { oneRoom before.now behind.now ≤ ruleRoom }
-    requires room { at + ruleRoom ≤ length out.old }
-    ensures { Added (alone kind first second (oneText before.now first behind.now))
+    requires words { one_room before.now behind.now ≤ rule_room }
+    requires room { at + rule_room ≤ length out.old }
+    ensures { Added (alone kind first second (one_text before.now first behind.now))
         out.old at out.new result }
 {
     if second == 0 {
@@ -39,8 +39,8 @@ fn put_alone(
 
 // Puts a rule in the words of its kind.
 pub fn put_rule(kind: u64, first: u64, second: u64, out: &mut [u8], at: usize) -> usize
-    requires { at + ruleRoom ≤ length out.old }
-    ensures { Added (ruleText kind first second) out.old at out.new result }
+    requires { at + rule_room ≤ length out.old }
+    ensures { Added (rule_text kind first second) out.old at out.new result }
 {
     match kind {
         kind::NUMBER => put_alone(kind, b"fails at ", first, b" dead", second, out, at),

@@ -8,10 +8,10 @@ use lib.ListN.{length}
 use Rattle.rules.specs.declared.Worth.{Worth}
 use Rattle.rules.specs.declared.Worth.TheVariants as ends
 use Rattle.rules.specs.State.{S}
-use Rattle.rules.specs.Asked.{Asked, unitIn}
-use Rattle.rules.specs.Refusal.{cells, figuresRefusal}
-use Rattle.rules.specs.Worth.{swapped, working, failing, badFan, worthRefusal}
-use Rattle.rules.specs.Gain.{swappedBoth}
+use Rattle.rules.specs.Asked.{Asked, unit_in}
+use Rattle.rules.specs.Refusal.{cells, figures_refusal}
+use Rattle.rules.specs.Worth.{swapped, working, failing, bad_fan, worth_refusal}
+use Rattle.rules.specs.Gain.{swapped_both}
 use Rattle.rules.proofs.Unless.{after_none}
 use Rattle.rules.proofs.Sure.{after_first, chosen-fan, swapped-accepted}
 use Rattle.places.specs.Cells.{Kept}
@@ -19,28 +19,28 @@ use Rattle.places.specs.declared.Ends.{Ends}
 use Rattle.places.proofs.Cells.{kept_trans}
 use Rattle.stretches.specs.Outcome.{Worked}
 use Rattle.swaps.specs.declared.Swap.{Swap}
-use Rattle.swaps.specs.Swapping.{swapIn, Swappable}
+use Rattle.swaps.specs.Swapping.{swap_in, Swappable}
 use Rattle.swaps.proofs.Replaced as swaps
 use Rattle.worth.specs.Outcome.{Found}
 
-module _ (q : Asked) (fan : ℕ) (table : List ℕ) (none : worthRefusal q fan table ≡ 0) where
-  accepted : figuresRefusal q table ≡ 0
+module _ (q : Asked) (fan : ℕ) (table : List ℕ) (none : worth_refusal q fan table ≡ 0) where
+  accepted : figures_refusal q table ≡ 0
   accepted = after_first _ _ none
 
-  chosen : badFan q fan ≡ false
-  chosen = chosen-fan (badFan q fan) (sym (after_none _ _ accepted) ∙ none)
+  chosen : bad_fan q fan ≡ false
+  chosen = chosen-fan (bad_fan q fan) (sym (after_none _ _ accepted) ∙ none)
 
   pub room : cells ≤ length table
   room = swaps.room q table accepted
 
   -- the fan with any number that is not above the unit, in the table as it was lent or as a rating has left it
-  pub swappable : (p : ℕ) → p ≤ unitIn q → (later : List ℕ) → Kept table later → Swappable q (record { first = fan; second = fan; p = p }) later
+  pub swappable : (p : ℕ) → p ≤ unit_in q → (later : List ℕ) → Kept table later → Swappable q (record { first = fan; second = fan; p = p }) later
   swappable p small later k = record { none = swaps.kept-accepted q table accepted later k; first = chosen; second = chosen; small = small }
 
-  pub within : (p : ℕ) → p ≤ unitIn q → {t₀ t : List ℕ} {r : Ends} → Worked (swappedBoth fan fan p q) t₀ t r → (r.low ≤ S) × (r.high ≤ S)
+  pub within : (p : ℕ) → p ≤ unit_in q → {t₀ t : List ℕ} {r : Ends} → Worked (swapped_both fan fan p q) t₀ t r → (r.low ≤ S) × (r.high ≤ S)
   within p small w = swaps.rated-within (swapped fan p q) table (swapped-accepted q table fan p accepted small) (swaps.worked-once fan p q w)
 
-  pub found : {u : ℕ} → u ≡ unitIn q → {t t' : List ℕ} {works fails : Ends} {r : Worth} → Worked (swappedBoth fan fan u q) table t works → Worked (swappedBoth fan fan 0 q) t t' fails
+  pub found : {u : ℕ} → u ≡ unit_in q → {t t' : List ℕ} {works fails : Ends} {r : Worth} → Worked (swapped_both fan fan u q) table t works → Worked (swapped_both fan fan 0 q) t t' fails
       → r ≡ ends.Ends (sub_ℕ works.low fails.high) (sub_ℕ works.high fails.low) → Found q fan table t' r
   found {u} unit w f is =
       let works = rw unit at (swaps.worked-once fan u q w) in

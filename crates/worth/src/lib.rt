@@ -1,7 +1,7 @@
 // The worth of one fan: low and high with it sure to work, less high and low with it sure to fail.
 ghost use Rattle.std.specs.Prelude.{◌≡◌};
 ghost use Rattle.rules.specs.Asked.{asked_of};
-ghost use Rattle.rules.specs.Worth.{worthRefusal};
+ghost use Rattle.rules.specs.Worth.{worth_refusal};
 ghost use Rattle.worth.specs.Outcome.{Found, Answered, Weighed};
 
 use rules::{Question, Worth};
@@ -19,7 +19,7 @@ fn rate_sure(
     table: &mut [u64],
 ) -> Worth
     requires { let q = asked_of question survival.now weights.now more.now boards.now switchboards.now in
-        worthRefusal q fan table.old ≡ 0 }
+        worth_refusal q fan table.old ≡ 0 }
     ensures { let q = asked_of question survival.now weights.now more.now
         boards.now switchboards.now in
         Found q fan table.old table.new result }

@@ -1,7 +1,7 @@
 // What each fan of a deck is worth to a system.
 ghost use Rattle.std.specs.Prelude.{◌≡◌};
 ghost use Rattle.deck.specs.Outcome.{Placed};
-ghost use Rattle.worths.specs.Worths.{Weighed, lowerEnd, upperEnd};
+ghost use Rattle.worths.specs.Worths.{Weighed, lower_end, upper_end};
 
 use deck::Head;
 use drawn::Worths;
@@ -10,7 +10,7 @@ use rules::limit::FANS;
 
 // The lower end of a worth, 0 where there is none.
 fn lower_of(worth: Worth) -> i64
-    ensures { result ≡ lowerEnd worth }
+    ensures { result ≡ lower_end worth }
 {
     match worth {
         Worth::Ends { lower, upper: _ } => lower,
@@ -20,7 +20,7 @@ fn lower_of(worth: Worth) -> i64
 
 // The upper end, likewise.
 fn upper_of(worth: Worth) -> i64
-    ensures { result ≡ upperEnd worth }
+    ensures { result ≡ upper_end worth }
 {
     match worth {
         Worth::Ends { lower: _, upper } => upper,

@@ -3,9 +3,9 @@
 pub mod bytes; // bytes.rt: numbers as bytes, laid over a room
 
 ghost use Rattle.std.specs.Prelude.{◌≡◌, ◌/◌, length};
-ghost use Rattle.rules.specs.Boards.{boardsRead};
-ghost use Rattle.rules.specs.File.{perSystem, fileLength, headerOf};
-ghost use Rattle.rules.specs.Writing.{typed_of, bytesFor, badFives, writeRefusal};
+ghost use Rattle.rules.specs.Boards.{boards_read};
+ghost use Rattle.rules.specs.File.{per_system, file_length, header_of};
+ghost use Rattle.rules.specs.Writing.{typed_of, bytes_for, bad_fives, write_refusal};
 ghost use Rattle.writer.specs.Laid.{laid};
 ghost use Rattle.writer.specs.Outcome.{Sized, Heads, Wrote};
 
@@ -16,7 +16,7 @@ const PER_SYSTEM: usize = 5;
 
 // 12: the number of systems is not 1..32, or the last one is a part.
 fn bad_fives(count: usize) -> bool
-    ensures { result ≡ badFives count }
+    ensures { result ≡ bad_fives count }
 {
     if count % PER_SYSTEM != 0 {
         return true;
@@ -27,8 +27,8 @@ fn bad_fives(count: usize) -> bool
 // How long the file is: of the boards' numbers, those that the version has.
 fn file_size(version: u64, n: usize, switchboards: &[u32], systems: &[u16]) -> usize
     requires { Sized version n switchboards.now systems.now }
-    ensures { result ≡ fileLength version n (length (boardsRead version switchboards.now))
-        (length systems.now / perSystem) }
+    ensures { result ≡ file_length version n (length (boards_read version switchboards.now))
+        (length systems.now / per_system) }
 {
     let own = board_lists::numbers_read(version, switchboards);
     layout::file_length(version, n, own.len(), systems.len() / PER_SYSTEM)
@@ -44,7 +44,7 @@ fn refusal(
     systems: &[u16],
     room: &[u8],
 ) -> u64
-    ensures { result ≡ writeRefusal (typed_of version survival.now weights.now
+    ensures { result ≡ write_refusal (typed_of version survival.now weights.now
         boards.now switchboards.now systems.now) room.now }
 {
     if refusals::version_out(version) {
@@ -76,7 +76,7 @@ fn refusal(
 // four, and g and the offset of the board bytes where the version has them.
 pub fn put_header(version: u64, n: usize, g: usize, m: usize, room: &mut [u8])
     requires { Heads version n g m room.old }
-    ensures { room.new ≡ laid 0 (headerOf version n g m) room.old }
+    ensures { room.new ≡ laid 0 (header_of version n g m) room.old }
 {
     let counts = [version as u16, 0, n as u16, m as u16];
     bytes::put_all2(&counts, room, layout::VERSION_FIELD);
@@ -104,10 +104,10 @@ fn put_file(
     systems: &[u16],
     room: &mut [u8],
 )
-    requires { writeRefusal (typed_of version survival.now weights.now boards.now switchboards.now
+    requires { write_refusal (typed_of version survival.now weights.now boards.now switchboards.now
         systems.now) room.old ≡ 0 }
     ensures { room.new ≡ laid 0
-        (bytesFor (typed_of version survival.now weights.now boards.now
+        (bytes_for (typed_of version survival.now weights.now boards.now
         switchboards.now systems.now)) room.old }
 {
     let n = survival.len();

@@ -2,7 +2,7 @@
 use mathlib.Core.Path.{◌≡◌, refl}
 use native.Mathlib.Omega.{arith}
 use Rattle.advice.specs.Words.{forms}
-use Rattle.advice.specs.Causes.{systemsOut, boardsOut, endsEarly, laidWrongly, boardPastLast}
+use Rattle.advice.specs.Causes.{systems_out, boards_out, ends_early, laid_wrongly, board_past_last}
 use Rattle.advice.proofs.Worded.{worded}
 use borrow.Author.Rules.{rules}
 use Rattle.advice.proofs.put_counts.Statement.{statement}
@@ -49,7 +49,7 @@ unfolding forms
 returns c =
     let put = c.before.before in
     let in-arm = put.before.before.before in
-    worded in-arm.before.before.before.args.why systemsOut in-arm.match.keys1 refl in-arm.before.numbers_of.ensures put.put-form.ensures
+    worded in-arm.before.before.before.args.why systems_out in-arm.match.keys1 refl in-arm.before.numbers_of.ensures put.put-form.ensures
 
 same-length-2 : tie.Need-same-length-2
 same-length-2 c = search rules
@@ -59,7 +59,7 @@ unfolding forms
 returns-2 c =
     let put = c.before.before in
     let in-arm = put.before.before.before in
-    worded in-arm.before.before.before.args.why boardsOut in-arm.match.keys2 refl in-arm.before.numbers_of.ensures put.put-form2.ensures
+    worded in-arm.before.before.before.args.why boards_out in-arm.match.keys2 refl in-arm.before.numbers_of.ensures put.put-form2.ensures
 
 same-length-3 : tie.Need-same-length-3
 same-length-3 c = search rules
@@ -69,7 +69,7 @@ unfolding forms
 returns-3 c =
     let put = c.before.before in
     let in-arm = put.before.before.before in
-    worded in-arm.before.before.before.args.why endsEarly in-arm.match.keys3 refl in-arm.before.numbers_of.ensures put.put-form3.ensures
+    worded in-arm.before.before.before.args.why ends_early in-arm.match.keys3 refl in-arm.before.numbers_of.ensures put.put-form3.ensures
 
 same-length-4 : tie.Need-same-length-4
 same-length-4 c = search rules
@@ -79,7 +79,7 @@ unfolding forms
 returns-4 c =
     let put = c.before.before in
     let in-arm = put.before.before.before in
-    worded in-arm.before.before.before.args.why laidWrongly in-arm.match.keys4 refl in-arm.before.numbers_of.ensures put.put-form4.ensures
+    worded in-arm.before.before.before.args.why laid_wrongly in-arm.match.keys4 refl in-arm.before.numbers_of.ensures put.put-form4.ensures
 
 same-length-5 : tie.Need-same-length-5
 same-length-5 c = search rules
@@ -94,8 +94,8 @@ returns-5 c =
     let none6 = none7.0 in
     let none5 = none6.0 in
     let none4 = none5.0 in
-    let last : start.args.why.row ≡ boardPastLast = omega (arith, start.requires.0, none7.1, none6.1, none5.1, none4.1) in
-    worded start.args.why boardPastLast last refl in-arm.before.numbers_of.ensures put.put-form5.ensures
+    let last : start.args.why.row ≡ board_past_last = omega (arith, start.requires.0, none7.1, none6.1, none5.1, none4.1) in
+    worded start.args.why board_past_last last refl in-arm.before.numbers_of.ensures put.put-form5.ensures
 
 pub put-counts-spec : {M : Type 1} → statement M
 put-counts-spec =

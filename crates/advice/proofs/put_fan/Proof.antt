@@ -1,6 +1,6 @@
 -- `put_fan` meets its contract: it has its row's form. Assumes nothing.
 use mathlib.Core.Path.{refl}
-use Rattle.advice.specs.Causes.{fanOutside}
+use Rattle.advice.specs.Causes.{fan_outside}
 use Rattle.advice.specs.Words.{forms}
 use Rattle.advice.proofs.Worded.{worded}
 use borrow.Author.Rules.{rules}
@@ -25,7 +25,7 @@ returns c =
     let put = c.before.before in
     let numbered = put.before.before.before in
     let start = numbered.before.before in
-    worded start.args.why fanOutside start.requires.0 refl numbered.numbers_of.ensures put.put-form.ensures
+    worded start.args.why fan_outside start.requires.0 refl numbered.numbers_of.ensures put.put-form.ensures
 
 pub put-fan-spec : {M : Type 1} → statement M
 put-fan-spec = tie.close (tie.spec numbers-of-requires slice-aggregate-put-form put-form-requires same_length returns)

@@ -2,7 +2,7 @@
 use mathlib.Core.Path.{◌≡◌, refl}
 use native.Mathlib.Omega.{arith}
 use Rattle.advice.specs.Words.{forms}
-use Rattle.advice.specs.Causes.{secondSet, numberOut, runOut, weightOut, noWeight}
+use Rattle.advice.specs.Causes.{second_set, number_out, run_out, weight_out, no_weight}
 use Rattle.advice.proofs.Worded.{worded}
 use borrow.Author.Rules.{rules}
 use Rattle.advice.proofs.put_one.Statement.{statement}
@@ -49,7 +49,7 @@ unfolding forms
 returns c =
     let put = c.before.before in
     let in-arm = put.before.before.before in
-    worded in-arm.before.before.before.args.why secondSet in-arm.match.keys1 refl in-arm.before.numbers_of.ensures put.put-form.ensures
+    worded in-arm.before.before.before.args.why second_set in-arm.match.keys1 refl in-arm.before.numbers_of.ensures put.put-form.ensures
 
 same-length-2 : tie.Need-same-length-2
 same-length-2 c = search rules
@@ -59,7 +59,7 @@ unfolding forms
 returns-2 c =
     let put = c.before.before in
     let in-arm = put.before.before.before in
-    worded in-arm.before.before.before.args.why numberOut in-arm.match.keys2 refl in-arm.before.numbers_of.ensures put.put-form2.ensures
+    worded in-arm.before.before.before.args.why number_out in-arm.match.keys2 refl in-arm.before.numbers_of.ensures put.put-form2.ensures
 
 same-length-3 : tie.Need-same-length-3
 same-length-3 c = search rules
@@ -69,7 +69,7 @@ unfolding forms
 returns-3 c =
     let put = c.before.before in
     let in-arm = put.before.before.before in
-    worded in-arm.before.before.before.args.why runOut in-arm.match.keys3 refl in-arm.before.numbers_of.ensures put.put-form3.ensures
+    worded in-arm.before.before.before.args.why run_out in-arm.match.keys3 refl in-arm.before.numbers_of.ensures put.put-form3.ensures
 
 same-length-4 : tie.Need-same-length-4
 same-length-4 c = search rules
@@ -79,7 +79,7 @@ unfolding forms
 returns-4 c =
     let put = c.before.before in
     let in-arm = put.before.before.before in
-    worded in-arm.before.before.before.args.why weightOut in-arm.match.keys4 refl in-arm.before.numbers_of.ensures put.put-form4.ensures
+    worded in-arm.before.before.before.args.why weight_out in-arm.match.keys4 refl in-arm.before.numbers_of.ensures put.put-form4.ensures
 
 same-length-5 : tie.Need-same-length-5
 same-length-5 c = search rules
@@ -94,8 +94,8 @@ returns-5 c =
     let none16 = none17.0 in
     let none15 = none16.0 in
     let none14 = none15.0 in
-    let last : start.args.why.row ≡ noWeight = omega (arith, start.requires.0, none17.1, none16.1, none15.1, none14.1) in
-    worded start.args.why noWeight last refl in-arm.before.numbers_of.ensures put.put-form5.ensures
+    let last : start.args.why.row ≡ no_weight = omega (arith, start.requires.0, none17.1, none16.1, none15.1, none14.1) in
+    worded start.args.why no_weight last refl in-arm.before.numbers_of.ensures put.put-form5.ensures
 
 pub put-one-spec : {M : Type 1} → statement M
 put-one-spec =

@@ -2,7 +2,7 @@
 use mathlib.Core.Path.{◌≡◌, refl}
 use native.Mathlib.Omega.{arith}
 use Rattle.advice.specs.Words.{forms}
-use Rattle.advice.specs.Causes.{headerShort, unknownVersion, zeroFieldSet, fansOut}
+use Rattle.advice.specs.Causes.{header_short, unknown_version, zero_field_set, fans_out}
 use Rattle.advice.proofs.Worded.{worded}
 use borrow.Author.Rules.{rules}
 use Rattle.advice.proofs.put_start.Statement.{statement}
@@ -43,7 +43,7 @@ unfolding forms
 returns c =
     let put = c.before.before in
     let in-arm = put.before.before.before in
-    worded in-arm.before.before.before.args.why headerShort in-arm.match.keys1 refl in-arm.before.numbers_of.ensures put.put-form.ensures
+    worded in-arm.before.before.before.args.why header_short in-arm.match.keys1 refl in-arm.before.numbers_of.ensures put.put-form.ensures
 
 same-length-2 : tie.Need-same-length-2
 same-length-2 c = search rules
@@ -53,7 +53,7 @@ unfolding forms
 returns-2 c =
     let put = c.before.before in
     let in-arm = put.before.before.before in
-    worded in-arm.before.before.before.args.why unknownVersion in-arm.match.keys2 refl in-arm.before.numbers_of.ensures put.put-form2.ensures
+    worded in-arm.before.before.before.args.why unknown_version in-arm.match.keys2 refl in-arm.before.numbers_of.ensures put.put-form2.ensures
 
 same-length-3 : tie.Need-same-length-3
 same-length-3 c = search rules
@@ -63,7 +63,7 @@ unfolding forms
 returns-3 c =
     let put = c.before.before in
     let in-arm = put.before.before.before in
-    worded in-arm.before.before.before.args.why zeroFieldSet in-arm.match.keys3 refl in-arm.before.numbers_of.ensures put.put-form3.ensures
+    worded in-arm.before.before.before.args.why zero_field_set in-arm.match.keys3 refl in-arm.before.numbers_of.ensures put.put-form3.ensures
 
 same-length-4 : tie.Need-same-length-4
 same-length-4 c = search rules
@@ -77,8 +77,8 @@ returns-4 c =
     let none2 = in-arm.match.rest in
     let none1 = none2.0 in
     let none0 = none1.0 in
-    let last : start.args.why.row ≡ fansOut = omega (arith, start.requires.0, none2.1, none1.1, none0.1) in
-    worded start.args.why fansOut last refl in-arm.before.numbers_of.ensures put.put-form4.ensures
+    let last : start.args.why.row ≡ fans_out = omega (arith, start.requires.0, none2.1, none1.1, none0.1) in
+    worded start.args.why fans_out last refl in-arm.before.numbers_of.ensures put.put-form4.ensures
 
 pub put-start-spec : {M : Type 1} → statement M
 put-start-spec =

@@ -2,7 +2,7 @@
 use mathlib.Core.Path.{◌≡◌, refl}
 use native.Mathlib.Omega.{arith}
 use Rattle.advice.specs.Words.{forms}
-use Rattle.advice.specs.Causes.{noSuchKind, noStretch, fanAbove, boardAbove, tooHeavy}
+use Rattle.advice.specs.Causes.{no_such_kind, no_stretch, fan_above, board_above, too_heavy}
 use Rattle.advice.proofs.Worded.{worded}
 use borrow.Author.Rules.{rules}
 use Rattle.advice.proofs.put_system.Statement.{statement}
@@ -49,7 +49,7 @@ unfolding forms
 returns c =
     let put = c.before.before in
     let in-arm = put.before.before.before in
-    worded in-arm.before.before.before.args.why noSuchKind in-arm.match.keys1 refl in-arm.before.numbers_of.ensures put.put-form.ensures
+    worded in-arm.before.before.before.args.why no_such_kind in-arm.match.keys1 refl in-arm.before.numbers_of.ensures put.put-form.ensures
 
 same-length-2 : tie.Need-same-length-2
 same-length-2 c = search rules
@@ -59,7 +59,7 @@ unfolding forms
 returns-2 c =
     let put = c.before.before in
     let in-arm = put.before.before.before in
-    worded in-arm.before.before.before.args.why noStretch in-arm.match.keys2 refl in-arm.before.numbers_of.ensures put.put-form2.ensures
+    worded in-arm.before.before.before.args.why no_stretch in-arm.match.keys2 refl in-arm.before.numbers_of.ensures put.put-form2.ensures
 
 same-length-3 : tie.Need-same-length-3
 same-length-3 c = search rules
@@ -69,7 +69,7 @@ unfolding forms
 returns-3 c =
     let put = c.before.before in
     let in-arm = put.before.before.before in
-    worded in-arm.before.before.before.args.why fanAbove in-arm.match.keys3 refl in-arm.before.numbers_of.ensures put.put-form3.ensures
+    worded in-arm.before.before.before.args.why fan_above in-arm.match.keys3 refl in-arm.before.numbers_of.ensures put.put-form3.ensures
 
 same-length-4 : tie.Need-same-length-4
 same-length-4 c = search rules
@@ -79,7 +79,7 @@ unfolding forms
 returns-4 c =
     let put = c.before.before in
     let in-arm = put.before.before.before in
-    worded in-arm.before.before.before.args.why boardAbove in-arm.match.keys4 refl in-arm.before.numbers_of.ensures put.put-form4.ensures
+    worded in-arm.before.before.before.args.why board_above in-arm.match.keys4 refl in-arm.before.numbers_of.ensures put.put-form4.ensures
 
 same-length-5 : tie.Need-same-length-5
 same-length-5 c = search rules
@@ -94,8 +94,8 @@ returns-5 c =
     let none11 = none12.0 in
     let none10 = none11.0 in
     let none9 = none10.0 in
-    let last : start.args.why.row ≡ tooHeavy = omega (arith, start.requires.0, none12.1, none11.1, none10.1, none9.1) in
-    worded start.args.why tooHeavy last refl in-arm.before.numbers_of.ensures put.put-form5.ensures
+    let last : start.args.why.row ≡ too_heavy = omega (arith, start.requires.0, none12.1, none11.1, none10.1, none9.1) in
+    worded start.args.why too_heavy last refl in-arm.before.numbers_of.ensures put.put-form5.ensures
 
 pub put-system-spec : {M : Type 1} → statement M
 put-system-spec =

@@ -2,7 +2,7 @@
 use mathlib.Core.Path.{◌≡◌, refl}
 use native.Mathlib.Omega.{arith}
 use Rattle.advice.specs.Words.{forms}
-use Rattle.advice.specs.Causes.{betweenOut, nearOut, nearLacking, ringOut, ringOfOne, lackingOut}
+use Rattle.advice.specs.Causes.{between_out, near_out, near_lacking, ring_out, ring_of_one, lacking_out}
 use Rattle.advice.proofs.Worded.{worded}
 use borrow.Author.Rules.{rules}
 use Rattle.advice.proofs.put_two.Statement.{statement}
@@ -55,7 +55,7 @@ unfolding forms
 returns c =
     let put = c.before.before in
     let in-arm = put.before.before.before in
-    worded in-arm.before.before.before.args.why betweenOut in-arm.match.keys1 refl in-arm.before.numbers_of.ensures put.put-form.ensures
+    worded in-arm.before.before.before.args.why between_out in-arm.match.keys1 refl in-arm.before.numbers_of.ensures put.put-form.ensures
 
 same-length-2 : tie.Need-same-length-2
 same-length-2 c = search rules
@@ -65,7 +65,7 @@ unfolding forms
 returns-2 c =
     let put = c.before.before in
     let in-arm = put.before.before.before in
-    worded in-arm.before.before.before.args.why nearOut in-arm.match.keys2 refl in-arm.before.numbers_of.ensures put.put-form2.ensures
+    worded in-arm.before.before.before.args.why near_out in-arm.match.keys2 refl in-arm.before.numbers_of.ensures put.put-form2.ensures
 
 same-length-3 : tie.Need-same-length-3
 same-length-3 c = search rules
@@ -75,7 +75,7 @@ unfolding forms
 returns-3 c =
     let put = c.before.before in
     let in-arm = put.before.before.before in
-    worded in-arm.before.before.before.args.why nearLacking in-arm.match.keys3 refl in-arm.before.numbers_of.ensures put.put-form3.ensures
+    worded in-arm.before.before.before.args.why near_lacking in-arm.match.keys3 refl in-arm.before.numbers_of.ensures put.put-form3.ensures
 
 same-length-4 : tie.Need-same-length-4
 same-length-4 c = search rules
@@ -85,7 +85,7 @@ unfolding forms
 returns-4 c =
     let put = c.before.before in
     let in-arm = put.before.before.before in
-    worded in-arm.before.before.before.args.why ringOut in-arm.match.keys4 refl in-arm.before.numbers_of.ensures put.put-form4.ensures
+    worded in-arm.before.before.before.args.why ring_out in-arm.match.keys4 refl in-arm.before.numbers_of.ensures put.put-form4.ensures
 
 same-length-5 : tie.Need-same-length-5
 same-length-5 c = search rules
@@ -95,7 +95,7 @@ unfolding forms
 returns-5 c =
     let put = c.before.before in
     let in-arm = put.before.before.before in
-    worded in-arm.before.before.before.args.why ringOfOne in-arm.match.keys5 refl in-arm.before.numbers_of.ensures put.put-form5.ensures
+    worded in-arm.before.before.before.args.why ring_of_one in-arm.match.keys5 refl in-arm.before.numbers_of.ensures put.put-form5.ensures
 
 same-length-6 : tie.Need-same-length-6
 same-length-6 c = search rules
@@ -111,8 +111,8 @@ returns-6 c =
     let none21 = none22.0 in
     let none20 = none21.0 in
     let none19 = none20.0 in
-    let last : start.args.why.row ≡ lackingOut = omega (arith, start.requires.0, none23.1, none22.1, none21.1, none20.1, none19.1) in
-    worded start.args.why lackingOut last refl in-arm.before.numbers_of.ensures put.put-form6.ensures
+    let last : start.args.why.row ≡ lacking_out = omega (arith, start.requires.0, none23.1, none22.1, none21.1, none20.1, none19.1) in
+    worded start.args.why lacking_out last refl in-arm.before.numbers_of.ensures put.put-form6.ensures
 
 pub put-two-spec : {M : Type 1} → statement M
 put-two-spec =

@@ -2,15 +2,15 @@
 use mathlib.Core.Path.{refl}
 use Prim.Native.Nat.{◌-◌}
 use native.Mathlib.Omega.{arith}
-use Rattle.rules.specs.Refusal.{mostBoards}
-use Rattle.rules.specs.File.{survivalBytes, nthNumber}
+use Rattle.rules.specs.Refusal.{most_boards}
+use Rattle.rules.specs.File.{survival_bytes, nth_number}
 use Rattle.arrays.proofs.Lists.{Filled, filled_none, filled_more, filled-all}
 use Rattle.layout.proofs.Numbers.{spelled-fits}
 use Rattle.arrays.proofs.board_survival_in.Statement.{statement}
 use Rattle.arrays.proofs.board_survival_in.Tie as tie
 
 abbrev invariant-loop : tie.invariant-loop
-invariant-loop bytes from g survival₀ b₀ survival b = Filled mostBoards 0 (nthNumber survivalBytes bytes from) g survival b
+invariant-loop bytes from g survival₀ b₀ survival b = Filled most_boards 0 (nth_number survival_bytes bytes from) g survival b
 
 abbrev decreases-loop : tie.decreases-loop
 decreases-loop bytes from g survival₀ b₀ survival b = g - b
@@ -29,7 +29,7 @@ number4-requires c κs = omega arith
 
 cast-survival : tie.Need-overflow-cast-survival invariant-loop decreases-loop
 cast-survival c =
-    record { fits = spelled-fits survivalBytes _ _ c.number4.ensures (λ i. (c.before.before.before.shared-slice-known.given i).fits) }
+    record { fits = spelled-fits survival_bytes _ _ c.number4.ensures (λ i. (c.before.before.before.shared-slice-known.given i).fits) }
 
 mul-survival : tie.Need-overflow-mul-survival invariant-loop decreases-loop
 mul-survival c = omega arith

@@ -2,14 +2,14 @@
 use mathlib.Core.Path.{refl}
 use Prim.Native.Nat.{◌-◌}
 use native.Mathlib.Omega.{arith}
-use Rattle.rules.specs.File.{mostFans, survivalBytes, nthNumber}
+use Rattle.rules.specs.File.{most_fans, survival_bytes, nth_number}
 use Rattle.arrays.proofs.Lists.{Filled, filled_none, filled_more, filled-all}
 use Rattle.layout.proofs.Numbers.{spelled-fits}
 use Rattle.arrays.proofs.survival_in.Statement.{statement}
 use Rattle.arrays.proofs.survival_in.Tie as tie
 
 abbrev invariant-loop : tie.invariant-loop
-invariant-loop bytes from n survival₀ i₀ survival i = Filled mostFans 0 (nthNumber survivalBytes bytes from) n survival i
+invariant-loop bytes from n survival₀ i₀ survival i = Filled most_fans 0 (nth_number survival_bytes bytes from) n survival i
 
 abbrev decreases-loop : tie.decreases-loop
 decreases-loop bytes from n survival₀ i₀ survival i = n - i
@@ -28,7 +28,7 @@ number4-requires c κs = omega arith
 
 cast-survival : tie.Need-overflow-cast-survival invariant-loop decreases-loop
 cast-survival c =
-    record { fits = spelled-fits survivalBytes _ _ c.number4.ensures (λ i. (c.before.before.before.shared-slice-known.given i).fits) }
+    record { fits = spelled-fits survival_bytes _ _ c.number4.ensures (λ i. (c.before.before.before.shared-slice-known.given i).fits) }
 
 mul-survival : tie.Need-overflow-mul-survival invariant-loop decreases-loop
 mul-survival c = omega arith

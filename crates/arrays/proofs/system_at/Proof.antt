@@ -1,6 +1,6 @@
 -- `system_at` meets its contract, number by number. Assumes nothing.
 use borrow.Author.Rules.{rules}
-use Rattle.rules.specs.File.{systemAt}
+use Rattle.rules.specs.File.{system_at}
 use Rattle.arrays.proofs.system_at.Statement.{statement}
 use Rattle.arrays.proofs.system_at.Tie as tie
 
@@ -32,7 +32,7 @@ number2-requires-5 : tie.Need-number2-requires-5
 number2-requires-5 c κs = search rules
 
 returns : tie.Need-returns
-unfolding systemAt
+unfolding system_at
 returns c =
     λ x.
     record {

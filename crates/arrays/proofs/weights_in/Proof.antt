@@ -2,14 +2,14 @@
 use mathlib.Core.Path.{refl}
 use Prim.Native.Nat.{◌-◌}
 use native.Mathlib.Omega.{arith}
-use Rattle.rules.specs.File.{mostFans, weightBytes, nthNumber}
+use Rattle.rules.specs.File.{most_fans, weight_bytes, nth_number}
 use Rattle.arrays.proofs.Lists.{Filled, filled_none, filled_more, filled-all}
 use Rattle.layout.proofs.Numbers.{spelled-fits}
 use Rattle.arrays.proofs.weights_in.Statement.{statement}
 use Rattle.arrays.proofs.weights_in.Tie as tie
 
 abbrev invariant-loop : tie.invariant-loop
-invariant-loop bytes from n weights₀ i₀ weights i = Filled mostFans 0 (nthNumber weightBytes bytes from) n weights i
+invariant-loop bytes from n weights₀ i₀ weights i = Filled most_fans 0 (nth_number weight_bytes bytes from) n weights i
 
 abbrev decreases-loop : tie.decreases-loop
 decreases-loop bytes from n weights₀ i₀ weights i = n - i
@@ -28,7 +28,7 @@ number2-requires c κs = omega arith
 
 cast-weights : tie.Need-overflow-cast-weights invariant-loop decreases-loop
 cast-weights c =
-    record { fits = spelled-fits weightBytes _ _ c.number2.ensures (λ i. (c.before.before.before.shared-slice-known.given i).fits) }
+    record { fits = spelled-fits weight_bytes _ _ c.number2.ensures (λ i. (c.before.before.before.shared-slice-known.given i).fits) }
 
 mul-weights : tie.Need-overflow-mul-weights invariant-loop decreases-loop
 mul-weights c = omega arith

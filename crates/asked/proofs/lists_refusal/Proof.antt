@@ -6,12 +6,12 @@ use mathlib.Core.List.{[], ◌∷◌}
 use Prim.Native.Nat.{ℕ, ◌≤◌}
 use native.Mathlib.Omega.{arith}
 use lib.ListN.{length}
-use Rattle.rules.specs.Asked.{Asked, asked_of, unitIn, part_of, switchboardsOf}
-use Rattle.rules.specs.Refusal.{first_of, after, aboveUnit}
+use Rattle.rules.specs.Asked.{Asked, asked_of, unit_in, part_of, switchboards_of}
+use Rattle.rules.specs.Refusal.{first_of, after, above_unit}
 use Rattle.rules.proofs.Accepted.{in-stretch, first-of, first-after}
 use Rattle.rules.proofs.Unless.{after_none, after-some}
 use Rattle.units.proofs.Laws.{whole-most}
-use Rattle.asked.specs.Parts.{listsRefusal}
+use Rattle.asked.specs.Parts.{lists_refusal}
 use Rattle.asked.proofs.Refused.{part-is, boards-first}
 use Rattle.asked.proofs.lists_refusal.Statement.{statement}
 use Rattle.asked.proofs.lists_refusal.Tie as tie
@@ -24,14 +24,14 @@ abbrev asked : tie.Start → Asked
 asked c = let x = c.args in asked_of x.question x.survival.now [] [] x.boards.now x.switchboards.now
 
 abbrev four : Asked → ℕ
-four q = first_of ((4, aboveUnit (unitIn q) (part_of q) (switchboardsOf q)) ∷ [])
+four q = first_of ((4, above_unit (unit_in q) (part_of q) (switchboards_of q)) ∷ [])
 
 fits : (c : tie.Start) → (1 ≤ (asked c).a) × ((asked c).a ≤ (asked c).b) × ((asked c).b ≤ length (asked c).survival)
 fits c = in-stretch (asked c).a (asked c).b _ c.requires
 
 -- the refusal by that of the boards' lists, and past it
 boarded : (c : tie.After-refusal) → let q = asked (entry c) in
-    listsRefusal (entry c).args.question q.survival q.boards q.switchboards
+    lists_refusal (entry c).args.question q.survival q.boards q.switchboards
     ≡ after c.refusal.result (four q)
 boarded c =
     let x = (entry c).args in
@@ -43,12 +43,12 @@ abbrev past : tie.After-numbers-out → tie.Else1
 past c = let read = c.before.before.before.before in read.before
 
 above : (c : tie.After-numbers-out) → let q = asked (entry (past c).before) in
-    aboveUnit (unitIn q) (part_of q) (switchboardsOf q) ≡ c.numbers-out.result
+    above_unit (unit_in q) (part_of q) (switchboards_of q) ≡ c.numbers-out.result
 above c =
     let unit = c.before.before.whole.ensures ∙ c.before.before.before.is-decimal.ensures in
     let part = part-is _ _ _ _ (entry (past c).before).requires in
     let own = c.before.before.before.before.numbers-read.ensures in
-    sym (c.numbers-out.ensures ∙ (λ i. aboveUnit (unit i) (part i) (own i)))
+    sym (c.numbers-out.ensures ∙ (λ i. above_unit (unit i) (part i) (own i)))
 
 sub-from : tie.Need-overflow-sub-from
 sub-from c = omega (arith, fits c.before.before.before)

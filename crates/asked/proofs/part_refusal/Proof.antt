@@ -6,8 +6,8 @@ use lib.ListN.{length}
 use borrow.Author.Tests.{not-false}
 use Rattle.rules.specs.Below.{total}
 use Rattle.rules.proofs.EachKind.{within-true}
-use Rattle.refusals.specs.Shared.{ratedRefusal}
-use Rattle.asked.specs.Parts.{partRefusal}
+use Rattle.refusals.specs.Shared.{rated_refusal}
+use Rattle.asked.specs.Parts.{part_refusal}
 use Rattle.asked.proofs.Refused.{own_is, rated-short, placed}
 use Rattle.asked.proofs.part_refusal.Statement.{statement}
 use Rattle.asked.proofs.part_refusal.Tie as tie
@@ -28,13 +28,13 @@ rated-refusal-requires c κs =
     (small.1, rw c.rated-weights.ensures (rated-short x.rule x.n x.weights.now x.a x.b))
 
 returns : tie.Need-returns
-unfolding partRefusal
+unfolding part_refusal
 returns c =
     let x = c.before.before.before.before.args in
     let fits = (placed _ _ _ _ c.before.before.before.before.requires).fits in
     let size : suc x.b - x.a ≡ x.b - (x.a - 1) = omega arith in
     c.rated-refusal.ensures
-    ∙ ap (λ ws. ratedRefusal x.rule x.n (length x.weights.now) (x.b - (x.a - 1)) (total ws) x.more.now) c.before.rated-weights.ensures
+    ∙ ap (λ ws. rated_refusal x.rule x.n (length x.weights.now) (x.b - (x.a - 1)) (total ws) x.more.now) c.before.rated-weights.ensures
     ∙ rw size (own_is x.rule x.n x.weights.now x.a x.b (x.b - (x.a - 1)) x.more.now)
 
 pub part-refusal-spec : {M : Type 1} → statement M

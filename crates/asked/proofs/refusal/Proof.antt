@@ -5,11 +5,11 @@ use mathlib.Core.Path.{◌≡◌, sym, ◌∙◌}
 use mathlib.Core.List.{[], ◌∷◌}
 use Prim.Native.Nat.{ℕ}
 use borrow.Author.Tests.{lt-ltb, le-ltb}
-use Rattle.rules.specs.Asked.{Asked, questionIn, asked_of, length_of}
-use Rattle.rules.specs.Refusal.{after, shortTable, first_of, figuresRefusal}
+use Rattle.rules.specs.Asked.{Asked, question_in, asked_of, length_of}
+use Rattle.rules.specs.Refusal.{after, short_table, first_of, figures_refusal}
 use Rattle.rules.proofs.Accepted.{first-of, first-after}
 use Rattle.rules.proofs.Unless.{after_none, after-some}
-use Rattle.asked.specs.Parts.{placeRefusal, listsRefusal, partRefusal}
+use Rattle.asked.specs.Parts.{place_refusal, lists_refusal, part_refusal}
 use Rattle.asked.proofs.Refused.{placed, past-version}
 use Rattle.asked.proofs.refusal.Statement.{statement}
 use Rattle.asked.proofs.refusal.Tie as tie
@@ -24,20 +24,20 @@ asked c =
     asked_of x.question x.survival.now x.weights.now x.more.now x.boards.now x.switchboards.now
 
 abbrev refused : tie.Else1 → ℕ
-refused c = figuresRefusal (asked c) (entry c).args.table.now
+refused c = figures_refusal (asked c) (entry c).args.table.now
 
 -- the parts that are asked for, one after another
 abbrev place : tie.Else1 → ℕ
-place c = let q = asked c in placeRefusal q.rule q.a q.b (length_of q)
+place c = let q = asked c in place_refusal q.rule q.a q.b (length_of q)
 
 abbrev lists : tie.Else1 → ℕ
-lists c = let q = asked c in listsRefusal (questionIn q) q.survival q.boards q.switchboards
+lists c = let q = asked c in lists_refusal (question_in q) q.survival q.boards q.switchboards
 
 abbrev part : tie.Else1 → ℕ
-part c = let q = asked c in partRefusal q.rule q.a q.b (length_of q) q.weights q.more
+part c = let q = asked c in part_refusal q.rule q.a q.b (length_of q) q.weights q.more
 
 abbrev last : tie.Else1 → ℕ
-last c = first_of ((7, shortTable (entry c).args.table.now) ∷ [])
+last c = first_of ((7, short_table (entry c).args.table.now) ∷ [])
 
 -- what is left past each of them
 abbrev second : tie.Else2 → tie.Else1
@@ -71,7 +71,7 @@ version-out-requires : tie.Need-version-out-requires
 version-out-requires c κs = search rules
 
 returns : tie.Need-returns
-unfolding figuresRefusal
+unfolding figures_refusal
 returns c = sym (first-of 11 _ _ (sym c.before.version-out.ensures ∙ c.if1.true))
 
 place-refusal-requires : tie.Need-place-refusal-requires

@@ -4,7 +4,7 @@ use mathlib.Core.List.{List}
 use Prim.Native.Nat.{ℕ}
 use borrow.Author.Rules.{rules}
 use Rattle.rules.specs.State.{unit_of}
-use Rattle.rules.specs.File.{versionIn, loadingOf}
+use Rattle.rules.specs.File.{version_in, loading_of}
 use Rattle.rules.proofs.Unless.{unless-some}
 use Rattle.deck.specs.declared.Opened.{Opened}
 use Rattle.deck.specs.Outcome.{Opens}
@@ -17,7 +17,7 @@ open-requires : tie.Need-open-requires
 open-requires c κs = search rules
 
 returns : tie.Need-returns
-unfolding loadingOf
+unfolding loading_of
 returns c =
     let own = c.before.before.«open».ensures.refusal in
     record { answer = rw (unless-some _ _ _ (λ none. c.if1.true (own ∙ none))) own }
@@ -29,7 +29,7 @@ whole-requires : tie.Need-whole-requires
 whole-requires c κs = search rules
 
 -- the unit is the file's
-own-unit : {file : List ℕ} {opened : Opened} (u : ℕ) → Opens file opened → opened.refusal ≡ 0 → u ≡ unit_of opened.head.version → u ≡ unit_of (versionIn file)
+own-unit : {file : List ℕ} {opened : Opened} (u : ℕ) → Opens file opened → opened.refusal ≡ 0 → u ≡ unit_of opened.head.version → u ≡ unit_of (version_in file)
 own-unit u opens none e = e ∙ ap unit_of (opened-headed opens none).says.version
 
 rate-opened-requires : tie.Need-rate-opened-requires

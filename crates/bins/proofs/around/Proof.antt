@@ -2,7 +2,7 @@
 use mathlib.Core.Path.{◌≡◌, refl, ◌∙◌}
 use Prim.Native.Nat.{suc, ◌-◌, ◌≤◌, min}
 use native.Mathlib.Omega.{arith}
-use Rattle.rules.specs.Below.{sumBelow}
+use Rattle.rules.specs.Below.{sum_below}
 use Rattle.bins.specs.Bins.{term, Around}
 use Rattle.bins.proofs.Filling.{sum_step}
 use borrow.Author.Rules.{rules}
@@ -10,7 +10,7 @@ use Rattle.bins.proofs.around.Statement.{statement}
 use Rattle.bins.proofs.around.Tie as tie
 
 abbrev invariant-loop : tie.invariant-loop
-invariant-loop k top j table ends sum₀ m₀ sum m = (m ≤ ends) × (ends ≡ min k (suc j)) × Around k top j table × (sum ≡ sumBelow m (term top table))
+invariant-loop k top j table ends sum₀ m₀ sum m = (m ≤ ends) × (ends ≡ min k (suc j)) × Around k top j table × (sum ≡ sum_below m (term top table))
 
 abbrev decreases-loop : tie.decreases-loop
 decreases-loop k top j table ends sum₀ m₀ sum m = ends - m
@@ -22,7 +22,7 @@ lesser-requires : tie.Need-lesser-requires invariant-loop decreases-loop
 lesser-requires c κs = search rules
 
 loop-holds : tie.Need-loop-init invariant-loop decreases-loop
-unfolding sumBelow
+unfolding sum_below
 loop-holds c = (search rules, c.lesser.ensures ∙ omega arith, c.before.before.requires, refl)
 
 part-requires : tie.Need-part-requires invariant-loop decreases-loop

@@ -4,7 +4,7 @@ use Prim.Native.Nat.{suc, ◌+◌, ◌-◌, ◌≤◌}
 use native.Mathlib.Omega.{arith}
 use Rattle.bins.specs.From.{bins, shift}
 use Rattle.bins.specs.Cells.{Stored}
-use Rattle.places.specs.Map.{binRow}
+use Rattle.places.specs.Map.{bin_row}
 use Rattle.bins.proofs.Cells.{stored-none, stored-up}
 use Rattle.bins.proofs.Filling.{slid, rows_more}
 use borrow.Author.Rules.{rules}
@@ -13,7 +13,7 @@ use Rattle.bins.proofs.next.Tie as tie
 
 abbrev invariant-loop : tie.invariant-loop
 invariant-loop k n b table₀ from to last held₀ j₀ table held j =
-    (j ≤ suc last) × (held ≡ shift (bins k (suc b)) 1 j) × Stored (bins k (suc b)) (from + binRow) 0 j table₀ table
+    (j ≤ suc last) × (held ≡ shift (bins k (suc b)) 1 j) × Stored (bins k (suc b)) (from + bin_row) 0 j table₀ table
 
 abbrev decreases-loop : tie.decreases-loop
 decreases-loop k n b table₀ from to last held₀ j₀ table held j = suc last - j

@@ -9,7 +9,7 @@ use lib.ListN.{length, get_or}
 use borrow.Author.Rules.{rules}
 use borrow.Author.Tests.{lt-ltb, le-ltb}
 use Rattle.rules.specs.Below.{some}
-use Rattle.rules.specs.Refusal.{someAbove}
+use Rattle.rules.specs.Refusal.{some_above}
 use Rattle.rules.proofs.Windows.{some-found}
 use Rattle.board_lists.proofs.some_above.Statement.{statement}
 use Rattle.board_lists.proofs.some_above.Tie as tie
@@ -31,7 +31,7 @@ cast-if1 : tie.Need-overflow-cast-if1 invariant-loop decreases-loop
 cast-if1 c = omega (arith, c.shared-slice-known.given c.before.before.loop.i)
 
 returns : tie.Need-returns invariant-loop decreases-loop
-unfolding someAbove
+unfolding some_above
 returns c = sym (some-found _ _ c.before.before.before.loop.i c.before.before.loop-test.true (lt-ltb _ _ c.if1.true))
 
 add-i : tie.Need-overflow-add-i invariant-loop decreases-loop
@@ -45,7 +45,7 @@ unfolding some
 loop-again c = (omega arith, rw (add-one, c.before.before.before.loop.invariant.1) (le-ltb _ _ c.if1.false))
 
 returns-2 : tie.Need-returns-2 invariant-loop decreases-loop
-unfolding someAbove
+unfolding some_above
 returns-2 c =
     let e : c.before.loop.i ≡ length c.before.before.args.boards.now = omega arith in
     sym (rw e at c.before.loop.invariant.1)

@@ -1,6 +1,6 @@
 -- `rate` meets its contract: without boards the engine alone, else every set of failed boards. Assumes nothing.
 use borrow.Author.Rules.{rules}
-use Rattle.rules.specs.State.{besideOf}
+use Rattle.rules.specs.State.{beside_of}
 use Rattle.units.specs.Step.{whole}
 use Rattle.places.proofs.Cells.{both-as}
 use Rattle.boards.proofs.Working.{alone}
@@ -21,7 +21,7 @@ returns c =
     let tested = called.before.before in
     let known = tested.before.before.before in
     let x = known.before.before.before.before.args in
-    let beside = besideOf x.rule x.weights.now x.more.now in (
+    let beside = beside_of x.rule x.weights.now x.more.now in (
       both-as (λ up. alone up (whole x.decimal) x.rule x.survival.now beside x.boards.now x.switchboards.now tested.if1.true) called.rate.ensures.0,
       called.rate.ensures.1,
     )

@@ -10,7 +10,7 @@ behind-requires : tie.Need-behind-requires
 behind-requires c κs =
     let known = c.before.before.before in
     let asked = known.before.before.requires in
-    (asked.0.accepted.size-high, asked.1)
+    (asked.0.accepted.size_high, asked.1)
 
 array-share-prefix-numbers : tie.Need-array-share-prefix-numbers
 array-share-prefix-numbers c = search rules

@@ -3,19 +3,19 @@ use mathlib.Core.Logic.{⊎_elim}
 use Prim.Native.Nat.{◌-◌, ◌≤◌}
 use native.Mathlib.Omega.{arith}
 use lib.Bits.{and_le_l}
-use Rattle.rules.specs.State.{besideOf}
+use Rattle.rules.specs.State.{beside_of}
 use Rattle.units.specs.Step.{whole}
 use Rattle.units.proofs.Laws.{whole-some}
 use Rattle.places.specs.Cells.{Both, Kept}
 use Rattle.places.proofs.Cells.{kept-none}
-use Rattle.boards.specs.Combining.{figureOut}
+use Rattle.boards.specs.Combining.{figure_out}
 use Rattle.boards.proofs.Working.{boarded-behind, ratable-kept, few-sets, Sets, sets-none, sets-own, sets_more, sets-combinable, sets-all}
 use Rattle.boards.proofs.rate_sets.Statement.{statement}
 use Rattle.boards.proofs.rate_sets.Tie as tie
 
 abbrev invariant-loop : tie.invariant-loop
 invariant-loop decimal rule survival weights more boards board-survival table₀ felt sets low₀ high₀ out₀ table low high out =
-    Sets (whole decimal) rule survival (besideOf rule weights more) boards table₀ table low high out
+    Sets (whole decimal) rule survival (beside_of rule weights more) boards table₀ table low high out
 
 abbrev decreases-loop : tie.decreases-loop
 decreases-loop decimal rule survival weights more boards board-survival table₀ felt sets low₀ high₀ out₀ table low high out = sets - out
@@ -74,8 +74,8 @@ abbrev Done : tie.Joined1 invariant-loop decreases-loop → Type 0
 Done c =
     let at = c.before.before in
     let x = (entry at).args in
-    let beside = besideOf x.rule x.weights.now x.more.now in
-    Both (λ up. figureOut up (whole x.decimal) x.rule x.survival.now beside x.boards.now at.loop.out) c.if1.ends
+    let beside = beside_of x.rule x.weights.now x.more.now in
+    Both (λ up. figure_out up (whole x.decimal) x.rule x.survival.now beside x.boards.now at.loop.out) c.if1.ends
     × Kept at.loop.table c.if1.table
 
 done : (c : tie.Joined1 invariant-loop decreases-loop) → Done c

@@ -13,7 +13,7 @@ work-requires c κs =
     let start = at-match-rest.before.before.before.before in
     let p = start.requires in
     let few = ⊎_elim (λ l. l.taken) (λ o. absurd (omega (arith, o.1.left, p.counted))) c.before.if1.branch in
-    record { kind = on-table _ p.accepted.kind-low few at-match-rest.match.rest.1; accepted = p.accepted; long = p.long }
+    record { kind = on-table _ p.accepted.kind_low few at-match-rest.match.rest.1; accepted = p.accepted; long = p.long }
 
 lay-requires : tie.Need-lay-requires
 lay-requires c κs =

@@ -3,7 +3,7 @@ use mathlib.Core.Path.{◌∙◌}
 use mathlib.Core.Bool.{not, ◌||◌}
 use lib.Dec.{eqb}
 use lib.ListN.{length}
-use Rattle.rules.specs.File.{fileLength}
+use Rattle.rules.specs.File.{file_length}
 use Rattle.deck.proofs.Checks.{layout_is}
 use borrow.Author.Rules.{rules}
 use Rattle.deck.proofs.bad_layout.Statement.{statement}
@@ -23,7 +23,7 @@ returns c =
     let start = c.before.before.before.before in
     let bytes = start.args.bytes.now in
     let says = start.requires.says in
-    let whole = c.length-given.ensures ∙ (λ x. fileLength (says.version x) (says.fans x) (says.boards x) (says.systems x)) in
+    let whole = c.length-given.ensures ∙ (λ x. file_length (says.version x) (says.fans x) (says.boards x) (says.systems x)) in
     (λ x. (c.before.before.lists-elsewhere.ensures x || c.before.boards-elsewhere.ensures x) || not (eqb (length bytes) (whole x)))
     ∙ layout_is bytes
 

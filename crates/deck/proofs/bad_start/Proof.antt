@@ -2,7 +2,7 @@
 use mathlib.Core.Path.{ap, ap₂, ◌∙◌}
 use mathlib.Core.Bool.{not, ◌||◌}
 use lib.Dec.{eqb}
-use Rattle.rules.specs.Refusal.{badVersion}
+use Rattle.rules.specs.Refusal.{bad_version}
 use borrow.Author.Rules.{rules}
 use Rattle.deck.proofs.bad_start.Statement.{statement}
 use Rattle.deck.proofs.bad_start.Tie as tie
@@ -16,7 +16,7 @@ number2-requires c κs = search rules
 returns : tie.Need-returns
 returns c =
     let start = c.before.before.before in
-    ap₂ (λ b x. b || not (eqb x 0)) (c.before.version-out.ensures ∙ ap badVersion start.requires.is) c.number2.ensures
+    ap₂ (λ b x. b || not (eqb x 0)) (c.before.version-out.ensures ∙ ap bad_version start.requires.is) c.number2.ensures
 
 pub bad-start-spec : {M : Type 1} → statement M
 bad-start-spec = tie.close (tie.spec version-out-requires number2-requires returns)

@@ -3,7 +3,7 @@ use mathlib.Core.Path.{◌≡◌, ap, ap₂, ◌∙◌}
 use Prim.Native.Nat.{◌+◌, ◌-◌}
 use native.Mathlib.Omega.{arith}
 use lib.ListN.{take, drop}
-use Rattle.rules.specs.File.{boardsOffset, boardFans}
+use Rattle.rules.specs.File.{boards_offset, board_fans}
 use Rattle.layout.proofs.Numbers.{bytes-are}
 use borrow.Author.Rules.{rules}
 use Rattle.deck.proofs.board_bytes.Statement.{statement}
@@ -30,10 +30,10 @@ part-result-end c = search rules
 returns : tie.Need-returns
 returns c =
     let x = c.before.before.before.before.args in
-    let from = boardsOffset x.version x.n in
-    let k = boardFans x.version x.n in
+    let from = boards_offset x.version x.n in
+    let k = board_fans x.version x.n in
     let some : from + k - from ≡ k = omega arith in
-    ap₂ (λ i j. take (i + j - i) (drop i x.bytes.now)) c.before.before.boards-offset.ensures.0 c.before.board-fans.ensures.0
+    ap₂ (λ i j. take (i + j - i) (drop i x.bytes.now)) c.before.before.boards_offset.ensures.0 c.before.board-fans.ensures.0
     ∙ ap (λ j. take j (drop from x.bytes.now)) some
     ∙ bytes-are x.bytes.now from k (omega (arith, c.before.before.before.before.requires.1))
 

@@ -3,22 +3,22 @@ use mathlib.Core.Path.{◌≡◌, sym, ap, ◌∙◌}
 use mathlib.Core.List.{[]}
 use Rattle.rules.proofs.Unless.{after_none, after-some}
 use Rattle.rules.proofs.Accepted.{first-of, first-after}
-use Rattle.deck.specs.Head.{head_of, countsRefusal}
-use Rattle.deck.specs.Outcome.{bodyRefusal}
+use Rattle.deck.specs.Head.{head_of, counts_refusal}
+use Rattle.deck.specs.Outcome.{body_refusal}
 use Rattle.deck.proofs.Checks.{none_left}
 use Rattle.deck.proofs.Outcome.{head-is}
 use borrow.Author.Rules.{rules}
 use Rattle.deck.proofs.body_refusal.Statement.{statement}
 use Rattle.deck.proofs.body_refusal.Tie as tie
 
-counted : (c : tie.After-counts-refusal) → c.counts-refusal.result ≡ countsRefusal (head_of c.before.before.args.bytes.now)
-counted c = c.counts-refusal.ensures ∙ ap countsRefusal (head-is c.before.before.requires.says)
+counted : (c : tie.After-counts-refusal) → c.counts-refusal.result ≡ counts_refusal (head_of c.before.before.args.bytes.now)
+counted c = c.counts-refusal.ensures ∙ ap counts_refusal (head-is c.before.before.requires.says)
 
 counts-refusal-requires : tie.Need-counts-refusal-requires
 counts-refusal-requires c κs = search rules
 
 returns : tie.Need-returns
-unfolding bodyRefusal
+unfolding body_refusal
 returns c =
     let e = counted c.before in
     e ∙ sym (after-some _ _ (λ z. c.if1.true (e ∙ z)))
@@ -27,7 +27,7 @@ bad-layout-requires : tie.Need-bad-layout-requires
 bad-layout-requires c κs = search rules
 
 returns-2 : tie.Need-returns-2
-unfolding bodyRefusal
+unfolding body_refusal
 returns-2 c =
     let at-counts = c.before.before in
     let none = sym (counted at-counts.before) ∙ at-counts.if1.false in
@@ -39,7 +39,7 @@ misplaced-requires c κs =
     (counted.before.before.requires, sym c.before.bad-layout.ensures ∙ c.if2.false)
 
 returns-3 : tie.Need-returns-3
-unfolding bodyRefusal
+unfolding body_refusal
 returns-3 c =
     let at-layout = c.before.before in
     let at-counts = at-layout.before.before in
@@ -50,7 +50,7 @@ returns-3 c =
     ∙ first-of 21 _ _ (sym c.before.misplaced.ensures ∙ c.if3.true))
 
 returns-4 : tie.Need-returns-4
-unfolding bodyRefusal
+unfolding body_refusal
 returns-4 c =
     let at-layout = c.before.before in
     let at-counts = at-layout.before.before in

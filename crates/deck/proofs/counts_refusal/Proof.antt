@@ -2,7 +2,7 @@
 use mathlib.Core.Path.{sym, ◌∙◌}
 use mathlib.Core.List.{[]}
 use Rattle.rules.proofs.Accepted.{first-of, first-after}
-use Rattle.deck.specs.Head.{countsRefusal}
+use Rattle.deck.specs.Head.{counts_refusal}
 use Rattle.deck.proofs.Checks.{none_left}
 use borrow.Author.Rules.{rules}
 use Rattle.deck.proofs.counts_refusal.Statement.{statement}
@@ -12,14 +12,14 @@ outside-requires : tie.Need-outside-requires
 outside-requires c κs = search rules
 
 returns : tie.Need-returns
-unfolding countsRefusal
+unfolding counts_refusal
 returns c = sym (first-of 2 _ _ (sym c.before.outside.ensures ∙ c.if1.true))
 
 outside-requires-2 : tie.Need-outside-requires-2
 outside-requires-2 c κs = search rules
 
 returns-2 : tie.Need-returns-2
-unfolding countsRefusal
+unfolding counts_refusal
 returns-2 c =
     let sized = c.before.before in
     sym
@@ -30,7 +30,7 @@ boards-out-requires : tie.Need-boards-out-requires
 boards-out-requires c κs = search rules
 
 returns-3 : tie.Need-returns-3
-unfolding countsRefusal
+unfolding counts_refusal
 returns-3 c =
     let counted = c.before.before in
     let sized = counted.before.before in
@@ -40,7 +40,7 @@ returns-3 c =
     ∙ first-of 20 _ _ (sym c.before.boards-out.ensures ∙ c.if3.true))
 
 returns-4 : tie.Need-returns-4
-unfolding countsRefusal
+unfolding counts_refusal
 returns-4 c =
     let counted = c.before.before in
     let sized = counted.before.before in

@@ -2,7 +2,7 @@
 use Prim.Native.Nat.{ℕ, ◌<◌}
 use native.Mathlib.Omega.{arith}
 use lib.ListN.{get_or}
-use Rattle.rules.specs.File.{versionIn}
+use Rattle.rules.specs.File.{version_in}
 use Rattle.layout.proofs.Numbers.{spelled-fits}
 use Rattle.layout.proofs.Versions.{header-bounds}
 use borrow.Author.Rules.{rules}
@@ -10,10 +10,10 @@ use Rattle.deck.proofs.head_given.Statement.{statement}
 use Rattle.deck.proofs.head_given.Tie as tie
 
 number2-requires : tie.Need-number2-requires
-number2-requires c κs = omega (arith, header-bounds (versionIn c.before.args.bytes.now))
+number2-requires c κs = omega (arith, header-bounds (version_in c.before.args.bytes.now))
 
 number2-requires-2 : tie.Need-number2-requires-2
-number2-requires-2 c κs = omega (arith, header-bounds (versionIn c.before.before.args.bytes.now))
+number2-requires-2 c κs = omega (arith, header-bounds (version_in c.before.before.args.bytes.now))
 
 boards-given-requires : tie.Need-boards-given-requires
 boards-given-requires c κs = search rules

@@ -3,7 +3,7 @@ use mathlib.Core.Path.{ap, ap₂, ◌∙◌}
 use mathlib.Core.Bool.{not, ◌||◌}
 use native.Mathlib.Omega.{arith}
 use lib.Dec.{eqb}
-use Rattle.rules.specs.File.{number_at, survivalField, weightsField, systemsField, headerLength, weightsOffset, systemsOffset, versionIn}
+use Rattle.rules.specs.File.{number_at, survival_field, weights_field, systems_field, header_length, weights_offset, systems_offset, version_in}
 use Rattle.layout.proofs.Versions.{header-bounds}
 use borrow.Author.Rules.{rules}
 use Rattle.deck.proofs.lists_elsewhere.Statement.{statement}
@@ -21,19 +21,19 @@ systems-offset-requires c κs = search rules
 elsewhere-requires : tie.Need-elsewhere-requires
 elsewhere-requires c κs =
     let start = c.before.before.before.before in
-    omega (arith, start.requires.long, header-bounds (versionIn start.args.bytes.now))
+    omega (arith, start.requires.long, header-bounds (version_in start.args.bytes.now))
 
 elsewhere-requires-2 : tie.Need-elsewhere-requires-2
 elsewhere-requires-2 c κs =
     let worked = c.before in
     let start = worked.before.before.before.before in
-    omega (arith, start.requires.long, header-bounds (versionIn start.args.bytes.now))
+    omega (arith, start.requires.long, header-bounds (version_in start.args.bytes.now))
 
 elsewhere-requires-3 : tie.Need-elsewhere-requires-3
 elsewhere-requires-3 c κs =
     let worked = c.before.before in
     let start = worked.before.before.before.before in
-    omega (arith, start.requires.long, header-bounds (versionIn start.args.bytes.now))
+    omega (arith, start.requires.long, header-bounds (version_in start.args.bytes.now))
 
 returns : tie.Need-returns
 returns c =
@@ -41,13 +41,13 @@ returns c =
     let start = worked.before.before.before.before in
     let bytes = start.args.bytes.now in
     let says = start.requires.says in
-    let survival = worked.before.before.header-length.ensures.0 ∙ ap headerLength says.version in
-    let weights = worked.before.weights-offset.ensures.0 ∙ ap₂ weightsOffset says.version says.fans in
-    let systems = worked.systems-offset.ensures.0 ∙ (λ x. systemsOffset (says.version x) (says.fans x) (says.boards x)) in
+    let survival = worked.before.before.header-length.ensures.0 ∙ ap header_length says.version in
+    let weights = worked.before.weights_offset.ensures.0 ∙ ap₂ weights_offset says.version says.fans in
+    let systems = worked.systems_offset.ensures.0 ∙ (λ x. systems_offset (says.version x) (says.fans x) (says.boards x)) in
     (λ x. c.before.before.elsewhere.ensures x || c.before.elsewhere2.ensures x || c.elsewhere3.ensures x)
     ∙ (λ x.
-    not (eqb (number_at 4 bytes survivalField) (survival x)) || not (eqb (number_at 4 bytes weightsField) (weights x))
-    || not (eqb (number_at 4 bytes systemsField) (systems x)))
+    not (eqb (number_at 4 bytes survival_field) (survival x)) || not (eqb (number_at 4 bytes weights_field) (weights x))
+    || not (eqb (number_at 4 bytes systems_field) (systems x)))
 
 pub lists-elsewhere-spec : {M : Type 1} → statement M
 lists-elsewhere-spec =

@@ -4,7 +4,7 @@ use Prim.Native.Nat.{◌-◌}
 use native.Mathlib.Omega.{arith}
 use lib.ListN.{take, drop}
 use Rattle.rules.specs.Refusal.{misplaced}
-use Rattle.deck.specs.Head.{boardsBy}
+use Rattle.deck.specs.Head.{boards_by}
 use Rattle.deck.proofs.Checks.{laid-whole, misplaced-is}
 use borrow.Author.Rules.{rules}
 use Rattle.deck.proofs.misplaced.Statement.{statement}
@@ -27,7 +27,7 @@ returns c =
     let stand = c.before.board-bytes.result.now in
     c.misplaced.ensures
     ∙ (λ x. misplaced (says.version x) (says.fans x) (says.boards x) stand (take (says.fans x - 0) (drop 0 stand)))
-    ∙ misplaced-is bytes stand (c.before.board-bytes.ensures ∙ (λ x. boardsBy bytes (says.version x) (says.fans x)))
+    ∙ misplaced-is bytes stand (c.before.board-bytes.ensures ∙ (λ x. boards_by bytes (says.version x) (says.fans x)))
 
 pub misplaced-spec : {M : Type 1} → statement M
 misplaced-spec = tie.close (tie.spec board-bytes-requires misplaced-requires returns)

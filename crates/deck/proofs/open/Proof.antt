@@ -5,19 +5,19 @@ use Prim.Native.Nat.{◌≤◌}
 use native.Mathlib.Omega.{arith}
 use lib.ListN.{length}
 use borrow.Author.Tests.{lt-ltb, le-ltb}
-use Rattle.rules.specs.File.{headerLength, versionIn, badStart, fileRefusal}
+use Rattle.rules.specs.File.{header_length, version_in, bad_start, file_refusal}
 use Rattle.rules.proofs.Accepted.{first-of, first-after}
-use Rattle.deck.specs.Outcome.{bodyRefusal}
+use Rattle.deck.specs.Outcome.{body_refusal}
 use Rattle.deck.proofs.Checks.{body-after}
 use Rattle.deck.proofs.Outcome.{opens-refused, opens-head}
 use borrow.Author.Rules.{rules}
 use Rattle.deck.proofs.open.Statement.{statement}
 use Rattle.deck.proofs.open.Tie as tie
 
-header : (c : tie.After-header-length) → let read = c.before.before.before in c.header-length.result ≡ headerLength (versionIn read.before.before.before.args.file.now)
-header c = c.header-length.ensures.0 ∙ ap headerLength c.before.before.before.number2.ensures
+header : (c : tie.After-header-length) → let read = c.before.before.before in c.header-length.result ≡ header_length (version_in read.before.before.before.args.file.now)
+header c = c.header-length.ensures.0 ∙ ap header_length c.before.before.before.number2.ensures
 
-started : (c : tie.Else2) → let read = c.before.before in badStart read.before.before.before.args.file.now ≡ false
+started : (c : tie.Else2) → let read = c.before.before in bad_start read.before.before.before.args.file.now ≡ false
 started c = sym c.before.bad-start.ensures ∙ c.if2.false
 
 -- past the header the refusal is that of the body
@@ -25,7 +25,7 @@ started c = sym c.before.bad-start.ensures ∙ c.if2.false
 past : (c : tie.Else3)
     → let read = c.before.before.before.before in
     let bytes = read.before.before.before.args.file.now in
-    fileRefusal bytes ≡ bodyRefusal bytes
+    file_refusal bytes ≡ body_refusal bytes
 past c =
     let at-start = c.before.before in
     let at_length = at-start.before.before.before in
@@ -35,7 +35,7 @@ refused-requires : tie.Need-refused-requires
 refused-requires c κs = search rules
 
 returns : tie.Need-returns
-unfolding fileRefusal
+unfolding file_refusal
 returns c = opens-refused (sym (first-of 10 _ _ (lt-ltb _ _ c.before.if1.true))) (λ z. omega arith) c.refused.ensures
 
 number2-requires : tie.Need-number2-requires
@@ -48,7 +48,7 @@ refused-requires-2 : tie.Need-refused-requires-2
 refused-requires-2 c κs = search rules
 
 returns-2 : tie.Need-returns-2
-unfolding fileRefusal
+unfolding file_refusal
 returns-2 c =
     let at-start = c.before in
     let at_length = at-start.before.before.before in
@@ -63,7 +63,7 @@ refused-requires-3 : tie.Need-refused-requires-3
 refused-requires-3 c κs = search rules
 
 returns-3 : tie.Need-returns-3
-unfolding fileRefusal
+unfolding file_refusal
 returns-3 c =
     let at-header = c.before in
     let at-start = at-header.before.before in

@@ -2,7 +2,7 @@
 use mathlib.Core.Path.{sym, ap, ◌∙◌}
 use Prim.Native.Nat.{◌+◌, ◌*◌, ◌<◌}
 use native.Mathlib.Omega.{arith}
-use Rattle.rules.specs.File.{survivalBytes, headerLength, number_at, fansIn, deckIn}
+use Rattle.rules.specs.File.{survival_bytes, header_length, number_at, fans_in, deck_in}
 use Rattle.rules.proofs.Lists.{below_get}
 use Rattle.deck.proofs.Kept.{few-fans, whole}
 use borrow.Author.Rules.{rules}
@@ -22,15 +22,15 @@ number4-requires : tie.Need-number4-requires
 number4-requires c κs = omega (arith, c.before.before.requires.1, whole c.before.before.requires.0)
 
 returns : tie.Need-returns
-unfolding deckIn
+unfolding deck_in
 returns c =
     let start = c.before.before.before in
     let bytes = start.args.file.now in
     let i = start.args.i in
     let says = start.requires.0.says in
-    let from = c.before.header-length.ensures.0 ∙ ap headerLength says.version in
-    let place : i < fansIn bytes = rw says.fans at start.requires.1 in
-    c.number4.ensures ∙ ap (λ from. number_at survivalBytes bytes (from + survivalBytes * i)) from ∙ sym (below_get (fansIn bytes) _ 0 i place)
+    let from = c.before.header-length.ensures.0 ∙ ap header_length says.version in
+    let place : i < fans_in bytes = rw says.fans at start.requires.1 in
+    c.number4.ensures ∙ ap (λ from. number_at survival_bytes bytes (from + survival_bytes * i)) from ∙ sym (below_get (fans_in bytes) _ 0 i place)
 
 pub survival-at-spec : {M : Type 1} → statement M
 survival-at-spec =

@@ -2,7 +2,7 @@
 use mathlib.Core.Path.{ap, ◌∙◌}
 use Prim.Native.Nat.{◌+◌, ◌*◌}
 use native.Mathlib.Omega.{arith}
-use Rattle.rules.specs.File.{systemBytes, systemsOffset, systemAt}
+use Rattle.rules.specs.File.{system_bytes, systems_offset, system_at}
 use Rattle.deck.proofs.Kept.{few-fans, few-systems, few-boards, whole}
 use borrow.Author.Rules.{rules}
 use Rattle.deck.proofs.system_in.Statement.{statement}
@@ -24,8 +24,8 @@ returns : tie.Need-returns
 returns c =
     let start = c.before.before.before in
     let says = start.requires.headed.says in
-    let from = c.before.systems-offset.ensures.0 ∙ (λ x. systemsOffset (says.version x) (says.fans x) (says.boards x)) in
-    c.system-at.ensures ∙ ap (λ from. systemAt start.args.file.now (from + systemBytes * start.args.s)) from
+    let from = c.before.systems_offset.ensures.0 ∙ (λ x. systems_offset (says.version x) (says.fans x) (says.boards x)) in
+    c.system-at.ensures ∙ ap (λ from. system_at start.args.file.now (from + system_bytes * start.args.s)) from
 
 pub system-in-spec : {M : Type 1} → statement M
 system-in-spec =

@@ -26,7 +26,7 @@ returns c =
     let passed = made.before.before in
     let ended = passed.before.before.before in
     let is = made.make.ensures in
-    record { file-counts = is.file-counts; out-counts = is.out-counts; stands = λ bytes h. is.stands bytes (ended.finish.ensures.holds bytes h) }
+    record { file_counts = is.file_counts; out_counts = is.out_counts; stands = λ bytes h. is.stands bytes (ended.finish.ensures.holds bytes h) }
 
 pub make-fed-spec : {M : Type 1} → statement M
 make-fed-spec =

@@ -2,15 +2,15 @@
 use Prim.Native.Nat.{◌-◌, ◌≤◌}
 use native.Mathlib.Omega.{arith}
 use borrow.Author.Rules.{rules}
-use Rattle.drawn.specs.Drawn.{mostDrawn}
+use Rattle.drawn.specs.Drawn.{most_drawn}
 use Rattle.drawn.proofs.largest_in.Statement.{statement}
 use Rattle.drawn.proofs.largest_in.Tie as tie
 
 abbrev invariant-loop : tie.invariant-loop
-invariant-loop ends largest₀ i₀ largest i = i ≤ mostDrawn
+invariant-loop ends largest₀ i₀ largest i = i ≤ most_drawn
 
 abbrev decreases-loop : tie.decreases-loop
-decreases-loop ends largest₀ i₀ largest i = mostDrawn - i
+decreases-loop ends largest₀ i₀ largest i = most_drawn - i
 
 loop-holds : tie.Need-loop-init invariant-loop decreases-loop
 loop-holds c = omega arith

@@ -53,7 +53,7 @@ early : (c : tie.At-match-rest) →
 early c =
     let known = c.before.before.before.before in
     let start = known.before in
-    omega (arith, start.requires.accepted.kind-high)
+    omega (arith, start.requires.accepted.kind_high)
 
 rate-requires-2 : tie.Need-rate-requires-2
 rate-requires-2 c κs =

@@ -4,10 +4,10 @@ use mathlib.Core.List.{[]}
 use native.Mathlib.Omega.{arith}
 use lib.ListN.{replicate}
 use lib.Seq.{length-take-le}
-use Rattle.rules.specs.Asked.{questionOf, asked_of}
+use Rattle.rules.specs.Asked.{question_of, asked_of}
 use Rattle.rules.specs.Refusal.{cells}
-use Rattle.rules.specs.Gain.{gainOf}
-use Rattle.rules.specs.File.{deckIn, systemGain}
+use Rattle.rules.specs.Gain.{gain_of}
+use Rattle.rules.specs.File.{deck_in, system_gain}
 use Rattle.deck.proofs.Kept.{few-fans, few-boards, lent-survival, lent-weights, lent-numbers}
 use borrow.Author.Rules.{rules}
 use Rattle.fan_gains.proofs.weigh.Statement.{statement}
@@ -58,7 +58,7 @@ weigh-lists-requires : tie.Need-weigh-lists-requires
 weigh-lists-requires c κs = search rules
 
 returns : tie.Need-returns
-unfolding systemGain deckIn
+unfolding system_gain deck_in
 returns c =
     let all = c.before.before.before.before in
     let read = all.before.before.before.before in
@@ -71,7 +71,7 @@ returns c =
     let spare = read.before.before.args.spare in
     let system = all.system-in.ensures in
     c.weigh-lists.ensures
-    ∙ (λ i. gainOf (asked_of (questionOf (version i) (system i).rule (system i).a (system i).b) (survival i) (weights i) [] (boards i) (numbers i)) spare.fan spare.p (replicate cells 0))
+    ∙ (λ i. gain_of (asked_of (question_of (version i) (system i).rule (system i).a (system i).b) (survival i) (weights i) [] (boards i) (numbers i)) spare.fan spare.p (replicate cells 0))
 
 pub weigh-spec : {M : Type 1} → statement M
 weigh-spec =

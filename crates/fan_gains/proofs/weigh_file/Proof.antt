@@ -2,7 +2,7 @@
 use mathlib.Core.Path.{sym, ap, ◌∙◌}
 use native.Mathlib.Omega.{arith}
 use Rattle.rules.specs.declared.Worth.TheVariants.{Refused}
-use Rattle.rules.specs.File.{gainLoadingOf}
+use Rattle.rules.specs.File.{gain_loading_of}
 use Rattle.rules.proofs.Unless.{unless-none, unless-some}
 use Rattle.systems.proofs.Answers.{opened-answer, numbered}
 use borrow.Author.Rules.{rules}
@@ -16,7 +16,7 @@ refusal-requires : tie.Need-refusal-requires
 refusal-requires c κs = search rules
 
 returns : tie.Need-returns
-unfolding gainLoadingOf
+unfolding gain_loading_of
 returns c =
     let is = c.before.refusal.ensures in
     ap Refused is ∙ sym (opened-answer c.before.before.«open».ensures _ Refused _ ∙ unless-some _ _ _ (λ none. c.if1.true (is ∙ none)))
@@ -32,7 +32,7 @@ weigh-requires c κs =
     (numbered at-refusal.before.«open».ensures _ (sym at-refusal.refusal.ensures ∙ c.before.if1.false)).1
 
 returns-2 : tie.Need-returns-2
-unfolding gainLoadingOf
+unfolding gain_loading_of
 returns-2 c =
     let at-refusal = c.before.before.before in
     let none = sym at-refusal.refusal.ensures ∙ c.before.before.if1.false in

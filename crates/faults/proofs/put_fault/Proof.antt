@@ -1,7 +1,7 @@
 -- `put_fault` meets its contract: where it is, what was wanted and the line's end fit. Assumes nothing.
 use native.Mathlib.Omega.{arith}
 use Rattle.text.proofs.Adding.{put-added, added_more}
-use Rattle.faults.specs.Told.{faultText}
+use Rattle.faults.specs.Told.{fault_text}
 use Rattle.faults.proofs.Lengths.{spot-short, wanted-short}
 use borrow.Author.Rules.{rules}
 use Rattle.faults.proofs.put_fault.Statement.{statement}
@@ -52,7 +52,7 @@ same_length : tie.Need-same-length
 same_length c = search rules
 
 returns : tie.Need-returns
-unfolding faultText
+unfolding fault_text
 returns c =
     let after-put-arg3 = c.before.before.before.before in
     let after-put-wanted = after-put-arg3.before.before.before in

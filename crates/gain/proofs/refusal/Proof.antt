@@ -2,8 +2,8 @@
 use borrow.Author.Rules.{rules}
 use mathlib.Core.Path.{◌≡◌, ap, ap₂, ◌∙◌}
 use lib.Dec.{ltb}
-use Rattle.rules.specs.Asked.{Asked, asked_of, unitIn}
-use Rattle.gain.specs.Outcome.{withSpare}
+use Rattle.rules.specs.Asked.{Asked, asked_of, unit_in}
+use Rattle.gain.specs.Outcome.{with_spare}
 use Rattle.gain.proofs.Refused.{with-spare}
 use Rattle.gain.proofs.refusal.Statement.{statement}
 use Rattle.gain.proofs.refusal.Tie as tie
@@ -36,8 +36,8 @@ returns c =
     let own = whole.before.before in
     let x = (entry own).args in
     let q = asked (entry own) in
-    let unit : whole.whole.result ≡ unitIn q = whole.whole.ensures ∙ whole.before.is-decimal.ensures in
-    c.with-spare.ensures ∙ ap₂ withSpare (ap (λ u. ltb u x.p) unit) own.refusal.ensures ∙ with-spare (ltb (unitIn q) x.p) q x.table.now
+    let unit : whole.whole.result ≡ unit_in q = whole.whole.ensures ∙ whole.before.is-decimal.ensures in
+    c.with-spare.ensures ∙ ap₂ with_spare (ap (λ u. ltb u x.p) unit) own.refusal.ensures ∙ with-spare (ltb (unit_in q) x.p) q x.table.now
 
 pub refusal-spec : {M : Type 1} → statement M
 refusal-spec =

@@ -2,8 +2,8 @@
 use borrow.Author.Rules.{rules}
 use mathlib.Core.Path.{◌≡◌, sym, ap, ◌∙◌}
 use Rattle.rules.specs.Asked.{asked_of}
-use Rattle.rules.specs.Gain.{gainRefusal}
-use Rattle.swaps.specs.Compared.{fanRefusal}
+use Rattle.rules.specs.Gain.{gain_refusal}
+use Rattle.swaps.specs.Compared.{fan_refusal}
 use Rattle.swaps.proofs.Compared.{compared-refused}
 use Rattle.gain.proofs.Outcome.{answered-found}
 use Rattle.gain.proofs.weigh.Statement.{statement}
@@ -18,10 +18,10 @@ entry c =
 
 refused : (c : tie.After-fan-refusal) → let x = (entry c).args in
     c.fan-refusal.result
-    ≡ gainRefusal (asked_of x.question x.survival.now x.weights.now x.more.now x.boards.now x.switchboards.now) x.spare.fan x.spare.p x.table.now
+    ≡ gain_refusal (asked_of x.question x.survival.now x.weights.now x.more.now x.boards.now x.switchboards.now) x.spare.fan x.spare.p x.table.now
 refused c =
     let x = (entry c).args in
-    c.fan-refusal.ensures ∙ ap (λ own. fanRefusal own x.question.a x.spare.fan x.question.b) c.before.refusal.ensures
+    c.fan-refusal.ensures ∙ ap (λ own. fan_refusal own x.question.a x.spare.fan x.question.b) c.before.refusal.ensures
 
 refusal-requires : tie.Need-refusal-requires
 refusal-requires c κs = search rules

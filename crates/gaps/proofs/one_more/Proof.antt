@@ -25,7 +25,7 @@ step-requires c κs =
     record {
       survival = rw c.before.chance.ensures (list.units _);
       rest = c.failure.ensures;
-      left = pre.works-small;
+      left = pre.works_small;
       right = valued-within list.whole (owing args.r) args.survival.now list.units args.i args.m after-past.past.ensures;
     }
 

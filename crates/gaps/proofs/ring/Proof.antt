@@ -4,7 +4,7 @@ use mathlib.Core.Path.{◌≡◌, refl, ap, ◌∙◌}
 use Prim.Native.Nat.{◌-◌, ◌<◌}
 use native.Mathlib.Omega.{arith}
 use lib.ListN.{length}
-use Rattle.memory.specs.Owed.{cleanAfter}
+use Rattle.memory.specs.Owed.{clean_after}
 use Rattle.places.proofs.Cells.{kept_trans}
 use Rattle.units.specs.Step.{whole}
 use Rattle.gaps.proofs.Whole.{start-begun, reached-as, closed, closed_is, hand_first, hand-next, hand-worked, Closing, closing-first, closing-last, closing-bringable, closing-closable, closing-more}
@@ -13,7 +13,7 @@ use Rattle.gaps.proofs.ring.Tie as tie
 
 abbrev invariant-loop : tie.invariant-loop
 invariant-loop decimal r survival table₀ n known₀ hand₀ ends₀ i₀ table known hand ends i =
-    (n ≡ length survival) × (hand ≡ cleanAfter r (n - i)) × Closing (whole decimal) r survival table₀ i known ends table
+    (n ≡ length survival) × (hand ≡ clean_after r (n - i)) × Closing (whole decimal) r survival table₀ i known ends table
 
 abbrev decreases-loop : tie.decreases-loop
 decreases-loop decimal r survival table₀ n known₀ hand₀ ends₀ i₀ table known hand ends i = n - i

@@ -1,7 +1,7 @@
 -- `none` meets its contract: no list has an entry, and no fault is told. Assumes nothing.
 use mathlib.Core.Path.{refl}
 use native.Mathlib.Omega.{arith}
-use Rattle.faults.specs.Told.{faultsText}
+use Rattle.faults.specs.Told.{faults_text}
 use borrow.Author.Rules.{rules}
 use Rattle.listing.proofs.none.Statement.{statement}
 use Rattle.listing.proofs.none.Tie as tie
@@ -13,7 +13,7 @@ no-systems-requires : tie.Need-no-systems-requires
 no-systems-requires c κs = search rules
 
 returns : tie.Need-returns
-unfolding faultsText
+unfolding faults_text
 returns c = λ out room. record {
   lines = refl;
   version = refl;

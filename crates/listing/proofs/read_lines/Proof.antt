@@ -5,7 +5,7 @@ use native.Mathlib.Omega.{arith}
 use lib.ListN.{length, take}
 use Rattle.grammar.specs.Words.{lines_of}
 use Rattle.grammar.specs.Grammar.{grammar}
-use Rattle.grammar.specs.Text.{withLines}
+use Rattle.grammar.specs.Text.{with_lines}
 use Rattle.listing.specs.Holds.{Steps}
 use Rattle.listing.proofs.Ends.{Whole, whole-none, whole-on, lines-on, lines_end, last-goes-on, one_none, beyond}
 use Rattle.listing.proofs.Reading.{steps-none, steps_on, steps_up}
@@ -14,7 +14,7 @@ use Rattle.listing.proofs.read_lines.Statement.{statement}
 use Rattle.listing.proofs.read_lines.Tie as tie
 
 abbrev invariant-loop : tie.invariant-loop
-invariant-loop text out₀ table next₀ at₀ out next at = (at ≤ length text) × (table ≡ grammar) × Whole (take at text) × Steps at next₀ out₀ next out (λ s. withLines s (lines_of (take at text))) × (length out ≡ length out₀)
+invariant-loop text out₀ table next₀ at₀ out next at = (at ≤ length text) × (table ≡ grammar) × Whole (take at text) × Steps at next₀ out₀ next out (λ s. with_lines s (lines_of (take at text))) × (length out ≡ length out₀)
 
 abbrev decreases-loop : tie.decreases-loop
 decreases-loop text out₀ table next₀ at₀ out next at = length text - at

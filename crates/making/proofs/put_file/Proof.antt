@@ -2,7 +2,7 @@
 use mathlib.Core.Path.{refl, sym}
 use native.Mathlib.Omega.{arith}
 use lib.Seq.{length-take-le}
-use Rattle.grammar.specs.Text.{typedBy}
+use Rattle.grammar.specs.Text.{typed_by}
 use Rattle.listing.proofs.Handed.{held-typed}
 use Rattle.making.proofs.Filing.{written-counts, file-written, never_other}
 use borrow.Author.Rules.{rules}
@@ -108,7 +108,7 @@ returns c =
       counts = written-counts _ _ _ _ wrote-file;
       stands = λ s told h none.
           let e = held-typed h typed.result typed.ensures in
-          file-written (typedBy s) _ _ _ (rw e at wrote-file);
+          file-written (typed_by s) _ _ _ (rw e at wrote-file);
     }
 
 same-length-2 : tie.Need-same-length-2
@@ -126,7 +126,7 @@ returns-2 c =
       counts = (omega arith, refl);
       stands = λ s told h none.
           let e = held-typed h typed.result typed.ensures in
-          absurd (never_other (typedBy s) _ _ none _ (rw (e, after-written2.written2.given.1) at wrote.ensures));
+          absurd (never_other (typed_by s) _ _ none _ (rw (e, after-written2.written2.given.1) at wrote.ensures));
     }
 
 pub put-file-spec : {M : Type 1} → statement M

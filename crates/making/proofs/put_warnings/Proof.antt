@@ -8,13 +8,13 @@ use lib.ListN.{length}
 use Rattle.text.specs.Added.{Added}
 use Rattle.text.proofs.Adding.{none-added, added_more}
 use borrow.Author.Rules.{rules}
-use Rattle.making.specs.Lines.{warningsText}
+use Rattle.making.specs.Lines.{warnings_text}
 use Rattle.making.proofs.Lengths.{warnings-short}
 use Rattle.making.proofs.put_warnings.Statement.{statement}
 use Rattle.making.proofs.put_warnings.Tie as tie
 
 abbrev invariant-loop : tie.invariant-loop
-invariant-loop file count out₀ opened end₀ s₀ out end s = (s ≤ count) × (length out ≡ length out₀) × Added (warningsText file s) out₀ 0 out end
+invariant-loop file count out₀ opened end₀ s₀ out end s = (s ≤ count) × (length out ≡ length out₀) × Added (warnings_text file s) out₀ 0 out end
 
 abbrev decreases-loop : tie.decreases-loop
 decreases-loop file count out₀ opened end₀ s₀ out end s = count - s
@@ -23,7 +23,7 @@ open-requires : tie.Need-open-requires invariant-loop decreases-loop
 open-requires c κs = search rules
 
 loop-holds : tie.Need-loop-init invariant-loop decreases-loop
-unfolding warningsText
+unfolding warnings_text
 loop-holds c = (omega arith, refl, none-added c.before.before.before.args.out.now 0)
 
 add-s : tie.Need-overflow-add-s invariant-loop decreases-loop
@@ -50,7 +50,7 @@ loop-less c =
     omega (arith, rated.before.loop-test.true)
 
 loop-again : tie.Need-loop-preserved invariant-loop decreases-loop
-unfolding warningsText
+unfolding warnings_text
 loop-again c =
     let rated = c.before.before.before.before in
     let l = rated.before.before.loop in

@@ -3,11 +3,11 @@ use mathlib.Core.Path.{◌≡◌, ap, ap₂, ◌∙◌}
 use native.Mathlib.Omega.{arith}
 use lib.ListN.{length, replicate}
 use Rattle.rules.specs.Below.{held}
-use Rattle.rules.specs.File.{headerLength}
+use Rattle.rules.specs.File.{header_length}
 use Rattle.rules.specs.Mending.{differs}
 use Rattle.rules.proofs.Changes.{count_most}
 use Rattle.writer.specs.Laid.{laid}
-use Rattle.mend.specs.Outcome.{longestHeader}
+use Rattle.mend.specs.Outcome.{longest_header}
 use Rattle.mend.proofs.Mendable.{mendable}
 use Rattle.mend.proofs.Looking.{sized, header-own}
 use Rattle.mend.proofs.Heading.{alone-length, count-alone}
@@ -30,8 +30,8 @@ changed-requires c κs =
     let start = alone.before.before in
     let bytes = start.args.bytes.now in
     let none = start.requires.none in
-    let upto = c.before.header-given.ensures.0 ∙ ap headerLength start.requires.says.version in
-    let new = alone.header-for.ensures ∙ ap (λ h. laid 0 h (replicate longestHeader 0)) (header-own start.requires) in (
+    let upto = c.before.header-given.ensures.0 ∙ ap header_length start.requires.says.version in
+    let new = alone.header-for.ensures ∙ ap (λ h. laid 0 h (replicate longest_header 0)) (header-own start.requires) in (
       omega (arith, upto, (mendable bytes none).long),
       omega (arith, c.before.header-given.ensures.1, ap length new ∙ alone-length bytes none),
     )
@@ -42,8 +42,8 @@ returns c =
     let start = alone.before.before in
     let bytes = start.args.bytes.now in
     let given = c.before.before.header-given in
-    let upto = given.ensures.0 ∙ ap headerLength start.requires.says.version in
-    let new = alone.header-for.ensures ∙ ap (λ h. laid 0 h (replicate longestHeader 0)) (header-own start.requires) in (
+    let upto = given.ensures.0 ∙ ap header_length start.requires.says.version in
+    let new = alone.header-for.ensures ∙ ap (λ h. laid 0 h (replicate longest_header 0)) (header-own start.requires) in (
       c.changed.ensures ∙ ap₂ (λ new k. held (differs bytes new) k) new upto ∙ count-alone bytes start.requires.none,
       omega (arith, c.changed.ensures, count_most bytes alone.header-for.result given.result, given.ensures.1),
     )

@@ -3,9 +3,9 @@ use mathlib.Core.Path.{◌≡◌, sym, ap, ◌∙◌}
 use mathlib.Core.Bool.{false}
 use native.Mathlib.Omega.{arith}
 use borrow.Author.Tests.{lt-ltb, le-ltb}
-use Rattle.rules.specs.Refusal.{badVersion}
-use Rattle.rules.specs.File.{headerLength, versionIn}
-use Rattle.rules.specs.Mending.{beyondMending}
+use Rattle.rules.specs.Refusal.{bad_version}
+use Rattle.rules.specs.File.{header_length, version_in}
+use Rattle.rules.specs.Mending.{beyond_mending}
 use Rattle.rules.proofs.Accepted.{first-of, first-after}
 use Rattle.mend.proofs.Checks.{counts-then}
 use Rattle.mend.proofs.Looking.{looks-refused}
@@ -14,17 +14,17 @@ use Rattle.mend.proofs.look.Statement.{statement}
 use Rattle.mend.proofs.look.Tie as tie
 
 -- the version that was read is the file's, and so is its header's length
-header : (c : tie.After-header-length) → let read = c.before.before.before in c.header-length.result ≡ headerLength (versionIn read.before.before.before.args.bytes.now)
-header c = c.header-length.ensures.0 ∙ ap headerLength c.before.before.before.number2.ensures
+header : (c : tie.After-header-length) → let read = c.before.before.before in c.header-length.result ≡ header_length (version_in read.before.before.before.args.bytes.now)
+header c = c.header-length.ensures.0 ∙ ap header_length c.before.before.before.number2.ensures
 
-versioned : (c : tie.Else2) → let read = c.before.before in badVersion (versionIn read.before.before.before.args.bytes.now) ≡ false
-versioned c = ap badVersion (sym c.before.before.number2.ensures) ∙ sym c.before.version-out.ensures ∙ c.if2.false
+versioned : (c : tie.Else2) → let read = c.before.before in bad_version (version_in read.before.before.before.args.bytes.now) ≡ false
+versioned c = ap bad_version (sym c.before.before.number2.ensures) ∙ sym c.before.version-out.ensures ∙ c.if2.false
 
 refused-requires : tie.Need-refused-requires
 refused-requires c κs = search rules
 
 returns : tie.Need-returns
-unfolding beyondMending
+unfolding beyond_mending
 returns c = looks-refused (sym (first-of 10 _ _ (lt-ltb _ _ c.before.if1.true))) (λ z. omega arith) c.refused.ensures
 
 number2-requires : tie.Need-number2-requires
@@ -37,11 +37,11 @@ refused-requires-2 : tie.Need-refused-requires-2
 refused-requires-2 c κs = search rules
 
 returns-2 : tie.Need-returns-2
-unfolding beyondMending
+unfolding beyond_mending
 returns-2 c =
     let at-version = c.before in
     let at_length = at-version.before.before.before in
-    let bad = ap badVersion (sym at-version.before.before.number2.ensures) ∙ sym at-version.before.version-out.ensures ∙ at-version.if2.true in
+    let bad = ap bad_version (sym at-version.before.before.number2.ensures) ∙ sym at-version.before.version-out.ensures ∙ at-version.if2.true in
     looks-refused (sym (first-after 10 _ _ (le-ltb _ _ at_length.if1.false) ∙ first-of 11 _ _ bad)) (λ z. omega arith) c.refused2.ensures
 
 header-length-requires : tie.Need-header-length-requires
@@ -51,7 +51,7 @@ refused-requires-3 : tie.Need-refused-requires-3
 refused-requires-3 c κs = search rules
 
 returns-3 : tie.Need-returns-3
-unfolding beyondMending
+unfolding beyond_mending
 returns-3 c =
     let at-header = c.before in
     let at-version = at-header.before.before in

@@ -3,10 +3,10 @@ use mathlib.Core.Path.{ap, ap₂, ◌∙◌}
 use native.Mathlib.Omega.{arith}
 use lib.ListN.{length, replicate}
 use Rattle.rules.specs.Below.{held}
-use Rattle.rules.specs.File.{headerLength}
-use Rattle.rules.specs.Mending.{differs, changesBelow}
+use Rattle.rules.specs.File.{header_length}
+use Rattle.rules.specs.Mending.{differs, changes_below}
 use Rattle.writer.specs.Laid.{laid}
-use Rattle.mend.specs.Outcome.{longestHeader}
+use Rattle.mend.specs.Outcome.{longest_header}
 use Rattle.mend.proofs.Mendable.{mendable}
 use Rattle.mend.proofs.Looking.{sized, header-own}
 use Rattle.mend.proofs.Heading.{alone-length, list-alone, count-alone}
@@ -30,8 +30,8 @@ put-changes-requires c κs =
     let looked = start.requires.0 in
     let bytes = start.args.bytes.now in
     let given = c.before.before.header-given in
-    let upto = given.ensures.0 ∙ ap headerLength looked.says.version in
-    let new = alone.header-for.ensures ∙ ap (λ h. laid 0 h (replicate longestHeader 0)) (header-own looked) in
+    let upto = given.ensures.0 ∙ ap header_length looked.says.version in
+    let new = alone.header-for.ensures ∙ ap (λ h. laid 0 h (replicate longest_header 0)) (header-own looked) in
     let count = ap₂ (λ new k. held (differs bytes new) k) new upto ∙ count-alone bytes looked.none in (
       (
         omega (arith, upto, (mendable bytes looked.none).long),
@@ -51,9 +51,9 @@ returns c =
     let start = alone.before.before.before in
     let looked = start.requires.0 in
     let bytes = start.args.bytes.now in
-    let upto = given.header-given.ensures.0 ∙ ap headerLength looked.says.version in
-    let new = alone.header-for.ensures ∙ ap (λ h. laid 0 h (replicate longestHeader 0)) (header-own looked) in
-    let list = ap₂ (λ new k. changesBelow bytes new k) new upto ∙ list-alone bytes looked.none in
+    let upto = given.header-given.ensures.0 ∙ ap header_length looked.says.version in
+    let new = alone.header-for.ensures ∙ ap (λ h. laid 0 h (replicate longest_header 0)) (header-own looked) in
+    let list = ap₂ (λ new k. changes_below bytes new k) new upto ∙ list-alone bytes looked.none in
     c.before.before.put-changes.ensures ∙ ap (λ changes. laid 0 changes start.args.list.now) list
 
 pub put-list-spec : {M : Type 1} → statement M

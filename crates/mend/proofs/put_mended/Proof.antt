@@ -3,7 +3,7 @@ use mathlib.Core.Path.{◌≡◌, ap, ◌∙◌}
 use Prim.Native.Nat.{◌-◌}
 use native.Mathlib.Omega.{arith}
 use lib.ListN.{drop, length-take, length-drop}
-use Rattle.rules.specs.File.{headerLength}
+use Rattle.rules.specs.File.{header_length}
 use Rattle.writer.specs.Laid.{laid}
 use Rattle.mend.proofs.Mendable.{mendable}
 use Rattle.mend.proofs.Looking.{sized, small, header-own, length-own}
@@ -17,7 +17,7 @@ put-head-requires : tie.Need-put-head-requires
 put-head-requires c κs =
     let start = c.before.before.before in
     let looked = start.requires.0 in
-    let header = ap headerLength looked.says.version in
+    let header = ap header_length looked.says.version in
     (sized looked, omega (arith, header, mended-length _ looked.none, start.requires.1))
 
 header-given-requires : tie.Need-header-given-requires
@@ -49,7 +49,7 @@ put-all1-requires c κs =
     let bytes = start.args.bytes.now in
     let from = given.header-given.result in
     let upto = c.before.before.length-given.result in
-    let begins = given.header-given.ensures.0 ∙ ap headerLength looked.says.version in
+    let begins = given.header-given.ensures.0 ∙ ap header_length looked.says.version in
     let ends = c.before.before.length-given.ensures ∙ length-own looked in
     omega (
       arith,
@@ -76,7 +76,7 @@ returns c =
     let looked = start.requires.0 in
     let bytes = start.args.bytes.now in
     let room = start.args.room.now in
-    let begins = given.header-given.ensures.0 ∙ ap headerLength looked.says.version in
+    let begins = given.header-given.ensures.0 ∙ ap header_length looked.says.version in
     let ends = long.length-given.ensures ∙ length-own looked in
     let header = headed.put-head.ensures ∙ ap (λ h. laid 0 h room) (header-own looked) in
     mended-laid bytes room (record { each = λ i. (headed.before.before.before.shared-slice-known.given i).fits }) looked.none header

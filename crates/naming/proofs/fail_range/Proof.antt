@@ -2,14 +2,14 @@
 use mathlib.Core.Path.{◌≡◌, sym, ap, ◌∙◌}
 use Prim.Native.Nat.{suc, ◌+◌, ◌-◌, ◌≤◌}
 use native.Mathlib.Omega.{arith}
-use Rattle.states.specs.States.{fanFailed}
-use Rattle.naming.specs.Named.{manyFailed}
+use Rattle.states.specs.States.{fan_failed}
+use Rattle.naming.specs.Named.{many_failed}
 use Rattle.naming.proofs.Parts.{none-failed, one-failed}
 use Rattle.naming.proofs.fail_range.Statement.{statement}
 use Rattle.naming.proofs.fail_range.Tie as tie
 
 abbrev invariant-loop : tie.invariant-loop
-invariant-loop state from to after₀ fan₀ after fan = (fan₀ ≤ fan) × (fan ≤ to + 1) × (after ≡ manyFailed after₀ fan₀ (fan - fan₀))
+invariant-loop state from to after₀ fan₀ after fan = (fan₀ ≤ fan) × (fan ≤ to + 1) × (after ≡ many_failed after₀ fan₀ (fan - fan₀))
 
 abbrev decreases-loop : tie.decreases-loop
 decreases-loop state from to after₀ fan₀ after fan = to + 1 - fan
@@ -32,7 +32,7 @@ loop-again c =
     let x = c.before.before.before.args in (
       omega (arith, l.invariant.0),
       omega (arith, c.before.loop-test.true),
-      c.fan-failed.ensures ∙ ap (λ s. fanFailed s l.fan) l.invariant.2 ∙ one-failed x.state x.from l.fan l.invariant.0,
+      c.fan-failed.ensures ∙ ap (λ s. fan_failed s l.fan) l.invariant.2 ∙ one-failed x.state x.from l.fan l.invariant.0,
     )
 
 returns : tie.Need-returns invariant-loop decreases-loop
@@ -40,7 +40,7 @@ returns c =
     let l = c.before.loop in
     let x = c.before.before.args in
     let all : l.fan - x.from ≡ suc x.to - x.from = omega (arith, l.invariant.1, c.loop-test.false) in
-    l.invariant.2 ∙ ap (manyFailed x.state x.from) all
+    l.invariant.2 ∙ ap (many_failed x.state x.from) all
 
 pub fail-range-spec : {M : Type 1} → statement M
 fail-range-spec =

@@ -8,14 +8,14 @@ use lib.Seq.{take_all}
 use borrow.Author.Tests.{lt-ltb, le-ltb}
 use borrow.Author.Rules.{rules}
 use mathlib.Core.Bool.{cond}
-use Rattle.naming.specs.Named.{minus, up_to, number_in, firstIn}
+use Rattle.naming.specs.Named.{minus, up_to, number_in, first_in}
 use Rattle.naming.proofs.last_of.Statement.{statement}
 use Rattle.naming.proofs.last_of.Tie as tie
 
 returns : tie.Need-returns
 returns c =
     let start = c.before.before in
-    start.requires.2 ∙ sym (ap (λ t. cond t (number_in (drop (suc (up_to minus start.args.part.now)) start.args.part.now)) (firstIn start.args.part.now))
+    start.requires.2 ∙ sym (ap (λ t. cond t (number_in (drop (suc (up_to minus start.args.part.now)) start.args.part.now)) (first_in start.args.part.now))
     (le-ltb (up_to minus start.args.part.now) (length start.args.part.now) (omega (arith, start.requires.0, c.if1.true))))
 
 add-number-of : tie.Need-overflow-add-number-of
@@ -44,7 +44,7 @@ returns-2 c =
     let all = take_all (length part - (at + 1)) (drop (at + 1) part) (omega (arith, length-drop (at + 1) part)) in
     c.number_of_lem.ensures
     ∙ ap number_in (all ∙ ap (λ n. drop n part) (add-one at ∙ ap suc here))
-    ∙ sym (ap (λ t. cond t (number_in (drop (suc (up_to minus part)) part)) (firstIn part)) some)
+    ∙ sym (ap (λ t. cond t (number_in (drop (suc (up_to minus part)) part)) (first_in part)) some)
 
 pub last-of-spec : {M : Type 1} → statement M
 last-of-spec =

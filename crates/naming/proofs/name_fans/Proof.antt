@@ -5,14 +5,14 @@ use Prim.Native.Nat.{ℕ, suc, ◌+◌, ◌-◌, ◌≤◌}
 use native.Mathlib.Omega.{arith}
 use lib.ListN.{length, take, drop, length-drop}
 use lib.Seq.{take_all}
-use Rattle.naming.specs.Named.{comma, up_to, namedNext, namedAll, named_in}
+use Rattle.naming.specs.Named.{comma, up_to, named_next, named_all, named_in}
 use Rattle.naming.proofs.Parts.{left, whole-left, part-named, all_named}
 use borrow.Author.Rules.{rules}
 use Rattle.naming.proofs.name_fans.Statement.{statement}
 use Rattle.naming.proofs.name_fans.Tie as tie
 
 abbrev invariant-loop : tie.invariant-loop
-invariant-loop n word state named₀ at₀ named at = (at ≤ length word + 1) × (namedAll n (left word at) named ≡ named_in n word state)
+invariant-loop n word state named₀ at₀ named at = (at ≤ length word + 1) × (named_all n (left word at) named ≡ named_in n word state)
 
 abbrev decreases-loop : tie.decreases-loop
 decreases-loop n word state named₀ at₀ named at = length word + 1 - at
@@ -92,9 +92,9 @@ loop-again c =
     let past : at + found.up-to.result + 1 ≡ at + suc size = omega (arith, comma-is found) in
     let long : at + found.up-to.result - at ≡ size = omega (arith, comma-is found) in (
       omega (arith, found.before.before.loop-test.true, rest-short found),
-      ap (namedAll x.n (left word (at + found.up-to.result + 1))) c.name-part.ensures
-          ∙ ap (λ a. namedAll x.n (left word a) (namedNext x.n (take (at + found.up-to.result - at) (drop at word)) l.named)) past
-          ∙ ap (λ b. namedAll x.n (left word (at + suc size)) (namedNext x.n (take b (drop at word)) l.named)) long
+      ap (named_all x.n (left word (at + found.up-to.result + 1))) c.name-part.ensures
+          ∙ ap (λ a. named_all x.n (left word a) (named_next x.n (take (at + found.up-to.result - at) (drop at word)) l.named)) past
+          ∙ ap (λ b. named_all x.n (left word (at + suc size)) (named_next x.n (take b (drop at word)) l.named)) long
           ∙ sym (part-named x.n word at found.before.before.loop-test.true l.named)
           ∙ l.invariant.1,
     )

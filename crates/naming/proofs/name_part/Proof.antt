@@ -9,7 +9,7 @@ use lib.Seq.{length-take-le}
 use borrow.Author.Tests.{not-true, not-false}
 use Rattle.rules.specs.Below.{within}
 use Rattle.rules.proofs.EachKind.{within-true}
-use Rattle.naming.specs.Named.{number_in, firstIn, lastIn, rangeFailed, fits, partNamed}
+use Rattle.naming.specs.Named.{number_in, first_in, last_in, range_failed, fits, part_named}
 use Rattle.naming.proofs.Parts.{no-first, no_last, both-named}
 use borrow.Author.Rules.{rules}
 use Rattle.naming.proofs.name_part.Statement.{statement}
@@ -19,7 +19,7 @@ use Rattle.naming.proofs.name_part.Tie as tie
 first-is : (c : tie.After-number-of) →
     let after-up-to = c.before.before in
     let start = after-up-to.before.before.before in
-    c.number_of_lem.result ≡ firstIn start.args.part.now
+    c.number_of_lem.result ≡ first_in start.args.part.now
 first-is c =
     let after-up-to = c.before.before in
     let start = after-up-to.before.before.before in
@@ -29,7 +29,7 @@ first-is c =
 first-in : (c : tie.Else2) →
     let after-number-of-arg = c.before.before.before.before in
     let start = after-number-of-arg.before.before.before.before in
-    within 1 (firstIn start.args.part.now) start.args.n ≡ true
+    within 1 (first_in start.args.part.now) start.args.n ≡ true
 first-in c =
     let tested = c.before in
     let read = tested.before.before in
@@ -42,7 +42,7 @@ last-in : (c : tie.Else3) →
     let after-last-of = c.before.before.before.before in
     let after-up-to = after-last-of.before.before.before in
     let start = after-up-to.before.before.before in
-    within (firstIn start.args.part.now) (lastIn start.args.part.now) start.args.n ≡ true
+    within (first_in start.args.part.now) (last_in start.args.part.now) start.args.n ≡ true
 last-in c =
     let tested = c.before in
     let found = tested.before.before.before in
@@ -79,7 +79,7 @@ returns-2 c =
     let listened = read.before.before.before in
     let x = listened.before.before.args in
     let out = rw (first-is read) at (not-true (within 1 read.number_of_lem.result x.n) (sym tested.outside.ensures ∙ c.if2.true)) in
-    sym (ap (λ t. cond t x.named (partNamed x.n x.part.now x.named.state)) listened.if1.false ∙ no-first x.n x.part.now x.named.state out)
+    sym (ap (λ t. cond t x.named (part_named x.n x.part.now x.named.state)) listened.if1.false ∙ no-first x.n x.part.now x.named.state out)
 
 outside-requires-2 : tie.Need-outside-requires-2
 outside-requires-2 c κs = search rules
@@ -93,7 +93,7 @@ returns-3 c =
     let listened = read.before.before.before in
     let x = listened.before.before.args in
     let out = rw (first-is read, found.last_of.ensures) at (not-true (within read.number_of_lem.result found.last_of.result x.n) (sym tested.outside2.ensures ∙ c.if3.true)) in
-    sym (ap (λ t. cond t x.named (partNamed x.n x.part.now x.named.state)) listened.if1.false ∙ no_last x.n x.part.now x.named.state (first-in passed) out)
+    sym (ap (λ t. cond t x.named (part_named x.n x.part.now x.named.state)) listened.if1.false ∙ no_last x.n x.part.now x.named.state (first-in passed) out)
 
 fail-range-requires : tie.Need-fail-range-requires
 fail-range-requires c κs =
@@ -103,8 +103,8 @@ fail-range-requires c κs =
     let after-up-to = read.before.before in
     let start = after-up-to.before.before.before in
     let part = start.args.part.now in
-    let low = within-true 1 (firstIn part) start.args.n (first-in passed) in
-    let high = within-true (firstIn part) (lastIn part) start.args.n (last-in c) in
+    let low = within-true 1 (first_in part) start.args.n (first-in passed) in
+    let high = within-true (first_in part) (last_in part) start.args.n (last-in c) in
     (omega (arith, low.0, first-is read), omega (arith, high.0, first-is read, found.last_of.ensures), omega (arith, high.1, found.last_of.ensures, start.requires))
 
 returns-4 : tie.Need-returns-4
@@ -116,8 +116,8 @@ returns-4 c =
     let listened = read.before.before.before in
     let x = listened.before.before.args in
     let all = both-named x.n x.part.now x.named.state (first-in passed) (last-in passed2) in
-    ap fits (c.fail-range.ensures ∙ ap (λ f. rangeFailed x.named.state f found.last_of.result) (first-is read) ∙ ap (rangeFailed x.named.state (firstIn x.part.now)) found.last_of.ensures)
-    ∙ sym (ap (λ t. cond t x.named (partNamed x.n x.part.now x.named.state)) listened.if1.false ∙ all)
+    ap fits (c.fail-range.ensures ∙ ap (λ f. range_failed x.named.state f found.last_of.result) (first-is read) ∙ ap (range_failed x.named.state (first_in x.part.now)) found.last_of.ensures)
+    ∙ sym (ap (λ t. cond t x.named (part_named x.n x.part.now x.named.state)) listened.if1.false ∙ all)
 
 pub name-part-spec : {M : Type 1} → statement M
 name-part-spec =

@@ -4,13 +4,13 @@ use Prim.Native.Nat.{◌-◌, ◌≤◌, ◌/◌}
 use native.Mathlib.Nat.{sub-zero, div-mul-le_self}
 use native.Mathlib.Omega.{arith}
 use lib.ListN.{length}
-use Rattle.options.specs.Words.{rows_of, optionFrom, optionIn}
+use Rattle.options.specs.Words.{rows_of, option_from, option_in}
 use Rattle.options.proofs.Table.{next-named, next-unnamed, none_named}
 use Rattle.options.proofs.option_in.Statement.{statement}
 use Rattle.options.proofs.option_in.Tie as tie
 
 abbrev invariant-loop : tie.invariant-loop
-invariant-loop table word rows k₀ k = (k ≤ rows_of table) × (rows ≡ rows_of table) × (optionFrom (rows_of table - k) k table word ≡ optionIn table word)
+invariant-loop table word rows k₀ k = (k ≤ rows_of table) × (rows ≡ rows_of table) × (option_from (rows_of table - k) k table word ≡ option_in table word)
 
 abbrev decreases-loop : tie.decreases-loop
 decreases-loop table word rows k₀ k = rows - k
@@ -18,7 +18,7 @@ decreases-loop table word rows k₀ k = rows - k
 loop-holds : tie.Need-loop-init invariant-loop decreases-loop
 loop-holds c =
     let x = c.before.before.args in
-    (omega arith, refl, ap (λ n. optionFrom n 0 x.table.now x.word.now) (sub-zero (rows_of x.table.now)))
+    (omega arith, refl, ap (λ n. option_from n 0 x.table.now x.word.now) (sub-zero (rows_of x.table.now)))
 
 row-is-requires : tie.Need-row-is-requires invariant-loop decreases-loop
 row-is-requires c κs = omega (arith, c.loop-test.true, div-mul-le_self (length c.before.before.before.before.args.table.now) 12)

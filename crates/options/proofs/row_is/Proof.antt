@@ -5,16 +5,16 @@ use native.Mathlib.Omega.{arith}
 use native.Mathlib.Numerals.{add-one}
 use borrow.Author.Rules.{rules}
 use borrow.Author.Tests.{le-leb, lt-leb}
-use Rattle.options.specs.Words.{nameLength, rowLength, sameFrom}
+use Rattle.options.specs.Words.{name_length, row_length, same_from}
 use Rattle.options.proofs.Table.{next-same, next-other, none_left}
 use Rattle.options.proofs.row_is.Statement.{statement}
 use Rattle.options.proofs.row_is.Tie as tie
 
 abbrev invariant-loop : tie.invariant-loop
-invariant-loop table k word j₀ j = (j ≤ nameLength) × (sameFrom (nameLength - j) j table (rowLength * k) word ≡ sameFrom nameLength 0 table (rowLength * k) word)
+invariant-loop table k word j₀ j = (j ≤ name_length) × (same_from (name_length - j) j table (row_length * k) word ≡ same_from name_length 0 table (row_length * k) word)
 
 abbrev decreases-loop : tie.decreases-loop
-decreases-loop table k word j₀ j = nameLength - j
+decreases-loop table k word j₀ j = name_length - j
 
 returns : tie.Need-returns invariant-loop decreases-loop
 returns c = simp (lt-leb _ _ c.if1.true)
@@ -40,7 +40,7 @@ returns-2 c =
     let start = at_test.before.before.before.before in
     let x = start.args in
     let loop = at_test.loop in
-    let byte = next-other x.table.now (rowLength * x.k) x.word.now nameLength loop.j (omega arith) (λ e. c.if2.true (e ∙ sym c.before.byte_of.ensures)) in
+    let byte = next-other x.table.now (row_length * x.k) x.word.now name_length loop.j (omega arith) (λ e. c.if2.true (e ∙ sym c.before.byte_of.ensures)) in
     simp (le-leb _ _ at_test.before.if1.false, sym loop.invariant.1 ∙ byte)
 
 add-j : tie.Need-overflow-add-j invariant-loop decreases-loop
@@ -55,7 +55,7 @@ loop-again c =
     let start = at_test.before.before.before.before in
     let x = start.args in
     let loop = at_test.loop in
-    (omega arith, next-same x.table.now (rowLength * x.k) x.word.now nameLength loop.j (omega arith) (c.if2.false ∙ c.before.byte_of.ensures) ∙ loop.invariant.1)
+    (omega arith, next-same x.table.now (row_length * x.k) x.word.now name_length loop.j (omega arith) (c.if2.false ∙ c.before.byte_of.ensures) ∙ loop.invariant.1)
 
 returns-3 : tie.Need-returns-3 invariant-loop decreases-loop
 returns-3 c =
@@ -63,7 +63,7 @@ returns-3 c =
     let start = else1.before.before.before in
     let loop = c.before.loop in
     let x = start.args in
-    let all = none_left x.table.now (rowLength * x.k) x.word.now nameLength loop.j (omega arith) in
+    let all = none_left x.table.now (row_length * x.k) x.word.now name_length loop.j (omega arith) in
     simp (le-leb _ _ else1.if1.false, sym loop.invariant.1 ∙ all)
 
 pub row-is-spec : {M : Type 1} → statement M

@@ -4,13 +4,13 @@ use Prim.Native.Nat.{◌-◌, ◌≤◌}
 use native.Mathlib.Omega.{arith}
 use native.Mathlib.Numerals.{add-one}
 use lib.ListN.{length, drop}
-use Rattle.options.specs.Texts.{sameText}
+use Rattle.options.specs.Texts.{same_text}
 use Rattle.options.proofs.Texts.{other_length, same-on, other_byte, same_end}
 use Rattle.options.proofs.same.Statement.{statement}
 use Rattle.options.proofs.same.Tie as tie
 
 abbrev invariant-loop : tie.invariant-loop
-invariant-loop a b i₀ i = (i ≤ length a) × (length a ≡ length b) × (sameText (drop i a) (drop i b) ≡ sameText a b)
+invariant-loop a b i₀ i = (i ≤ length a) × (length a ≡ length b) × (same_text (drop i a) (drop i b) ≡ same_text a b)
 
 abbrev decreases-loop : tie.decreases-loop
 decreases-loop a b i₀ i = length a - i

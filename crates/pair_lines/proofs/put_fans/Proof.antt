@@ -3,7 +3,7 @@ use borrow.Author.Rules.{rules}
 use Prim.Native.Nat.{◌+◌, ◌≤◌}
 use native.Mathlib.Omega.{arith}
 use Rattle.text.specs.Decimal.{text}
-use Rattle.text.specs.Lines.{namedRoom, pairRoom}
+use Rattle.text.specs.Lines.{named_room, pair_room}
 use Rattle.text.proofs.Adding.{added_more, named-added, named-reach, pair-reach}
 use Rattle.pair_lines.proofs.put_fans.Statement.{statement}
 use Rattle.pair_lines.proofs.put_fans.Tie as tie
@@ -15,10 +15,10 @@ entry c = let lent = c.before.before.before in lent.before.before
 abbrev pair : tie.After-put-named → tie.After-put-pair
 pair c = let lent = c.before.before.before in lent.before.before
 
-paired : (c : tie.After-put-pair) → c.put-pair.result ≤ (entry c).args.at + pairRoom (text "system ") (text " fans ")
+paired : (c : tie.After-put-pair) → c.put-pair.result ≤ (entry c).args.at + pair_room (text "system ") (text " fans ")
 paired c = let x = (entry c).args in pair-reach (text "system ") x.s (text " fans ") (x.a + x.best.first) c.put-pair.ensures
 
-second : (c : tie.After-put-named) → c.put-named.result ≤ (pair c).put-pair.result + namedRoom (text " and ")
+second : (c : tie.After-put-named) → c.put-named.result ≤ (pair c).put-pair.result + named_room (text " and ")
 second c =
     let at = pair c in
     let x = (entry at).args in

@@ -3,7 +3,7 @@ use borrow.Author.Rules.{rules}
 use Prim.Native.Nat.{◌+◌, ◌≤◌}
 use native.Mathlib.Omega.{arith}
 use Rattle.text.specs.Decimal.{text}
-use Rattle.text.specs.Lines.{pairRoom}
+use Rattle.text.specs.Lines.{pair_room}
 use Rattle.text.proofs.Adding.{put-added, added_more, pair-reach}
 use Rattle.percent.proofs.Digits.{range-short}
 use Rattle.units.specs.Step.{whole}
@@ -17,7 +17,7 @@ entry c = let lent = c.before.before.before in lent.before.before
 abbrev pair : tie.After-put-range → tie.After-put-pair
 pair c = c.before.before.before.before
 
-paired : (c : tie.After-put-pair) → c.put-pair.result ≤ (entry c).args.at + pairRoom (text " low ") (text " high ")
+paired : (c : tie.After-put-pair) → c.put-pair.result ≤ (entry c).args.at + pair_room (text " low ") (text " high ")
 paired c = let x = (entry c).args in pair-reach (text " low ") x.after.low (text " high ") x.after.high c.put-pair.ensures
 
 slice-aggregate-put-pair : tie.Need-slice-aggregate-put-pair

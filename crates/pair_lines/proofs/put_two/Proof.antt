@@ -5,7 +5,7 @@ use native.Mathlib.Omega.{arith}
 use borrow.Author.Tests.{eq-eqb, ne_eqb}
 use Rattle.rules.specs.Asked.{Asked, asked_of, size_of}
 use Rattle.spares.proofs.Rating.{inside}
-use Rattle.pairs.specs.Pairs.{lowWithBoth, highWithBoth}
+use Rattle.pairs.specs.Pairs.{low_with_both, high_with_both}
 use Rattle.pairs.specs.Tried.{Leads}
 use Rattle.pairs.proofs.Pairs.{all-tried}
 use Rattle.pairs.proofs.Rating.{pair-within}
@@ -22,7 +22,7 @@ asked c = let x = c.args in asked_of x.question x.survival.now x.weights.now [] 
 
 -- the pair that leads
 leads : (c : tie.After-best-pair) → let s = entry c.before.before in
-    Leads (lowWithBoth (asked s) s.args.two.p) (highWithBoth (asked s) s.args.two.p) (size_of (asked s)) (size_of (asked s)) 0 c.best-pair.result
+    Leads (low_with_both (asked s) s.args.two.p) (high_with_both (asked s) s.args.two.p) (size_of (asked s)) (size_of (asked s)) 0 c.best-pair.result
 leads c =
     let s = entry c.before.before in
     let h = inside (asked s) s.args.two.p s.pre.0 in

@@ -9,7 +9,7 @@ use Rattle.rules.specs.Asked.{Asked, asked_of, size_of}
 use Rattle.places.specs.Cells.{Kept}
 use Rattle.places.proofs.Cells.{kept_trans}
 use Rattle.spares.proofs.Rating.{clear, inside, swappable}
-use Rattle.pairs.specs.Pairs.{lowWithBoth, highWithBoth}
+use Rattle.pairs.specs.Pairs.{low_with_both, high_with_both}
 use Rattle.pairs.specs.Tried.{Tried}
 use Rattle.pairs.proofs.Trying.{pairs-few, row-begins, one-pair, row_ends}
 use Rattle.pairs.proofs.rate_row.Statement.{statement}
@@ -18,7 +18,7 @@ use Rattle.pairs.proofs.rate_row.Tie as tie
 abbrev invariant-loop : tie.invariant-loop
 invariant-loop question p first survival weights boards switchboards a size best₀ working₀ j₀ more best working j =
     let q = asked_of question survival weights [] boards switchboards in
-    (first < j) × (j ≤ size) × Kept clear working × Tried (lowWithBoth q p) (highWithBoth q p) (size_of q) first j best
+    (first < j) × (j ≤ size) × Kept clear working × Tried (low_with_both q p) (high_with_both q p) (size_of q) first j best
 
 abbrev decreases-loop : tie.decreases-loop
 decreases-loop question p first survival weights boards switchboards a size best₀ working₀ j₀ more best working j = size - j
@@ -102,7 +102,7 @@ loop-again c =
       omega (arith, l.inv.0),
       omega (arith, at.loop-test.taken),
       kept_trans l.inv.2 worked.kept,
-      subst (λ b. Tried (lowWithBoth q p) (highWithBoth q p) (size_of q) (start at).args.first (l.j + 1) b) (sym c.with_pair.ensures) next,
+      subst (λ b. Tried (low_with_both q p) (high_with_both q p) (size_of q) (start at).args.first (l.j + 1) b) (sym c.with_pair.ensures) next,
     )
 
 returns : tie.Need-returns invariant-loop decreases-loop

@@ -4,14 +4,14 @@ use mathlib.Core.List.{◌++◌, append-nil}
 use Prim.Native.Nat.{◌≤◌}
 use native.Mathlib.Omega.{arith}
 use lib.ListN.{length, drop, length-set}
-use Rattle.percent.specs.Percent.{pointDigits, lastDigits}
+use Rattle.percent.specs.Percent.{point_digits, last_digits}
 use Rattle.percent.proofs.Digits.{digit-more, all_digits}
 use Rattle.percent.proofs.last_digits.Statement.{statement}
 use Rattle.percent.proofs.last_digits.Tie as tie
 
 abbrev invariant-loop : tie.invariant-loop
 invariant-loop n digits₀ left₀ k₀ digits left k =
-    (k ≤ pointDigits) × (length digits ≡ pointDigits) × (lastDigits k left ++ drop k digits ≡ lastDigits pointDigits n)
+    (k ≤ point_digits) × (length digits ≡ point_digits) × (last_digits k left ++ drop k digits ≡ last_digits point_digits n)
 
 abbrev decreases-loop : tie.decreases-loop
 decreases-loop n digits₀ left₀ k₀ digits left k = k

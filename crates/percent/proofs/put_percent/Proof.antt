@@ -4,7 +4,7 @@ use Prim.Native.Nat.{◌/◌}
 use native.Mathlib.Omega.{arith}
 use lib.ListN.{length}
 use Rattle.text.proofs.Adding.{put-added, named-added, named-reach, added_more}
-use Rattle.percent.specs.Percent.{pointDigits, million}
+use Rattle.percent.specs.Percent.{point_digits, million}
 use Rattle.percent.proofs.Digits.{last-length}
 use borrow.Author.Rules.{rules}
 use Rattle.percent.proofs.put_percent.Statement.{statement}
@@ -53,7 +53,7 @@ returns c =
     let percent = c.before.before.put3 in
     let name = start.args.name.now in
     let whole = start.args.millionths / million in
-    let size = ap length digits.ensures ∙ last-length pointDigits start.args.millionths in
+    let size = ap length digits.ensures ∙ last-length point_digits start.args.millionths in
     let one = named-added (omega (arith, start.requires)) named.ensures in
     let reach = named-reach name whole one in
     let two = put-added (omega (arith, start.requires, named.auto, reach)) point.ensures in

@@ -9,7 +9,7 @@ use lib.ListN.{length, get_or, set, length-set}
 use lib.Ieee.{nan}
 use lib.Seq.{get_or-set_same, get_or-set_other}
 use Rattle.rules.specs.Refusal.{most}
-use Rattle.rules.specs.Doubles.{isChance, whole_of}
+use Rattle.rules.specs.Doubles.{is_chance, whole_of}
 use Rattle.rules.proofs.Grid.{small}
 use Rattle.rules.proofs.Doubles.{each-chance}
 use Rattle.doubles.specs.Floats.{bits, bits_of}
@@ -26,7 +26,7 @@ decreases-loop up from floats numbers₀ i₀ numbers i = length floats - i
 
 -- the float at hand is a chance
 chance : (c : tie.After-shared-slice-known2 invariant-loop decreases-loop)
-    → isChance (bits (get_or c.before.before.before.before.args.floats.now c.before.before.loop.i nan)) ≡ true
+    → is_chance (bits (get_or c.before.before.before.before.args.floats.now c.before.before.loop.i nan)) ≡ true
 chance c =
     let xs = c.before.before.before.before.args.floats.now in
     let i = c.before.before.loop.i in

@@ -9,9 +9,9 @@ use native.Mathlib.Omega.{arith}
 use lib.ListN.{length, take, length-map}
 use lib.Seq.{length-take-le}
 use Rattle.rules.specs.Stretch.{stretch}
-use Rattle.rules.specs.Asked.{questionOf}
-use Rattle.rules.specs.Refusal.{most, badStretch}
-use Rattle.rules.specs.Doubles.{noChance, whole_of}
+use Rattle.rules.specs.Asked.{question_of}
+use Rattle.rules.specs.Refusal.{most, bad_stretch}
+use Rattle.rules.specs.Doubles.{no_chance, whole_of}
 use Rattle.rules.proofs.Lists.{map-stretch}
 use Rattle.rules.proofs.Doubles.{passed, planned-accepted}
 use Rattle.doubles.specs.Floats.{bits, bits_of}
@@ -29,7 +29,7 @@ fits c = rw (length-is c) at (planned-fits _ _ c.requires)
 small : (c : tie.Start) → length c.args.survival.now ≤ most
 small c = rw (length-is c) at (planned-most _ _ c.requires)
 
-inside : (c : tie.Start) → badStretch c.args.a c.args.b (length c.args.survival.now) ≡ false
+inside : (c : tie.Start) → bad_stretch c.args.a c.args.b (length c.args.survival.now) ≡ false
 inside c = rw (length-is c) at (passed _ _ c.requires).inside
 
 sub-from : tie.Need-overflow-sub-from
@@ -53,7 +53,7 @@ numbers-of-requires c κs =
     let start = known.before.before.before.before in
     let x = start.args in
     record {
-      chances = ap noChance (floats-are x.a x.b _ x.survival.now (inside start)) ∙ (passed _ _ start.requires).chances;
+      chances = ap no_chance (floats-are x.a x.b _ x.survival.now (inside start)) ∙ (passed _ _ start.requires).chances;
       fits = omega (arith, floats-length x.up x.a x.b x.survival.now (inside start), fits start, small start);
     }
 
@@ -95,7 +95,7 @@ returns c =
     let lent = c.before.before.before in
     let made = lent.before.before.before.before in
     let x = (entry made).args in
-    worked_same (questionOf 1 x.rule x.a x.b) _ _ x.weights.now x.more.now [] []
+    worked_same (question_of 1 x.rule x.a x.b) _ _ x.weights.now x.more.now [] []
     ((handed made).1 ∙ map-stretch (whole_of x.up) x.a x.b (bits_of x.survival.now)) c.before.before.work.ensures
 
 pub rate-list-spec : {M : Type 1} → statement M

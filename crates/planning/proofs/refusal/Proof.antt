@@ -7,13 +7,13 @@ use Prim.Native.Nat.{ℕ, ◌-◌}
 use native.Mathlib.Omega.{arith}
 use lib.ListN.{length, take, drop, length-map}
 use borrow.Author.Tests.{lt-ltb, le-ltb}
-use Rattle.rules.specs.Asked.{weightsOf}
-use Rattle.rules.specs.Refusal.{cells, after, badWeights, in_range, shortTable, first_of}
-use Rattle.rules.specs.Doubles.{Planned, plannedOf, askedIn, floatsOf, sizeIn, readIn, noChance, offGrid, plannedRefusal}
+use Rattle.rules.specs.Asked.{weights_of}
+use Rattle.rules.specs.Refusal.{cells, after, bad_weights, in_range, short_table, first_of}
+use Rattle.rules.specs.Doubles.{Planned, planned_of, asked_in, floats_of, size_in, read_in, no_chance, off_grid, planned_refusal}
 use Rattle.rules.proofs.Accepted.{first-of, first-after}
 use Rattle.rules.proofs.Unless.{after_none, after-some}
 use Rattle.doubles.specs.Floats.{bits, bits_of}
-use Rattle.asked.specs.Parts.{placeRefusal, partRefusal}
+use Rattle.asked.specs.Parts.{place_refusal, part_refusal}
 use Rattle.asked.proofs.Refused.{place-first, part-first, Placed, placed}
 use Rattle.planning.proofs.Stretches.{floats-are}
 use Rattle.planning.proofs.refusal.Statement.{statement}
@@ -21,17 +21,17 @@ use Rattle.planning.proofs.refusal.Tie as tie
 
 -- what is left past 6, and past 18
 abbrev from19 : Planned → (table : List ℕ) → List (ℕ × Bool)
-from19 q table = (19, offGrid q.rule (floatsOf q)) ∷ (7, shortTable table) ∷ []
+from19 q table = (19, off_grid q.rule (floats_of q)) ∷ (7, short_table table) ∷ []
 
 abbrev from5 : Planned → (table : List ℕ) → List (ℕ × Bool)
 from5 q table =
-    (5, badWeights q.rule (length q.survival) q.weights (weightsOf (askedIn false q)))
-    ∷ (6, not (in_range q.rule (sizeIn q) (readIn q)))
+    (5, bad_weights q.rule (length q.survival) q.weights (weights_of (asked_in false q)))
+    ∷ (6, not (in_range q.rule (size_in q) (read_in q)))
     ∷ from19 q table
 
 past-place : (q : Planned) (table : List ℕ)
-    → plannedRefusal q table ≡ after (placeRefusal q.rule q.a q.b (length q.survival)) (first_of ((18, noChance (floatsOf q)) ∷ from5 q table))
-unfolding plannedRefusal
+    → planned_refusal q table ≡ after (place_refusal q.rule q.a q.b (length q.survival)) (first_of ((18, no_chance (floats_of q)) ∷ from5 q table))
+unfolding planned_refusal
 past-place q table = place-first q.rule q.a q.b (length q.survival) _
 
 -- what is asked, and its refusal, at each stage
@@ -40,7 +40,7 @@ asked c =
     let known = c.before.before.before.before in
     let start = known.before in
     let x = start.args in
-    plannedOf x.rule x.a x.b (bits_of x.survival.now) x.weights.now x.more.now
+    planned_of x.rule x.a x.b (bits_of x.survival.now) x.weights.now x.more.now
 
 abbrev table : tie.After-place-refusal → List ℕ
 table c =
@@ -48,12 +48,12 @@ table c =
     let start = known.before in
     start.args.table.now
 
-place : (c : tie.After-place-refusal) → let q = asked c in c.place-refusal.result ≡ placeRefusal q.rule q.a q.b (length q.survival)
+place : (c : tie.After-place-refusal) → let q = asked c in c.place-refusal.result ≡ place_refusal q.rule q.a q.b (length q.survival)
 place c =
     let known = c.before.before.before.before in
     let start = known.before in
     let x = start.args in
-    c.place-refusal.ensures ∙ ap (placeRefusal x.rule x.a x.b) (sym (length-map x.survival.now bits))
+    c.place-refusal.ensures ∙ ap (place_refusal x.rule x.a x.b) (sym (length-map x.survival.now bits))
 
 inside : (c : tie.Else1) →
     let known2 = c.before.before.before.before in
@@ -61,50 +61,50 @@ inside : (c : tie.Else1) →
     let x = start.args in Placed x.rule x.a x.b (length x.survival.now)
 inside c = placed _ _ _ _ (sym c.before.place-refusal.ensures ∙ c.if1.false)
 
-left1 : (c : tie.Else1) → plannedRefusal (asked c.before) (table c.before) ≡ first_of ((18, noChance (floatsOf (asked c.before))) ∷ from5 (asked c.before) (table c.before))
+left1 : (c : tie.Else1) → planned_refusal (asked c.before) (table c.before) ≡ first_of ((18, no_chance (floats_of (asked c.before))) ∷ from5 (asked c.before) (table c.before))
 left1 c = past-place (asked c.before) (table c.before) ∙ after_none _ _ (sym (place c.before) ∙ c.if1.false)
 
 read : (c : tie.Else1) →
     let known2 = c.before.before.before.before in
     let start = known2.before.before in
-    let x = start.args in bits_of (take (x.b - (x.a - 1)) (drop (x.a - 1) x.survival.now)) ≡ floatsOf (asked c.before)
+    let x = start.args in bits_of (take (x.b - (x.a - 1)) (drop (x.a - 1) x.survival.now)) ≡ floats_of (asked c.before)
 read c = floats-are _ _ _ _ (inside c).inside
 
-out : (c : tie.After-outside) → noChance (floatsOf (asked c.before.before.before)) ≡ c.outside.result
-out c = sym (c.outside.ensures ∙ ap noChance (read c.before.before))
+out : (c : tie.After-outside) → no_chance (floats_of (asked c.before.before.before)) ≡ c.outside.result
+out c = sym (c.outside.ensures ∙ ap no_chance (read c.before.before))
 
 left2 : (c : tie.Else2) → let q = asked c.before.before.before.before in let t = table c.before.before.before.before in
-    plannedRefusal q t ≡ after (partRefusal q.rule q.a q.b (length q.survival) q.weights q.more) (first_of (from19 q t))
+    planned_refusal q t ≡ after (part_refusal q.rule q.a q.b (length q.survival) q.weights q.more) (first_of (from19 q t))
 left2 c = left1 c.before.before.before ∙ first-after 18 _ _ (out c.before ∙ c.if2.false) ∙ part-first _ _ _ _ _ _ _
 
 part : (c : tie.After-part-refusal) →
     let after-floats = c.before.before.before in
     let after-place-refusal = after-floats.before.before in
     let q = asked after-place-refusal in
-    c.part-refusal.result ≡ partRefusal q.rule q.a q.b (length q.survival) q.weights q.more
+    c.part-refusal.result ≡ part_refusal q.rule q.a q.b (length q.survival) q.weights q.more
 part c =
     let after-floats = c.before.before.before in
     let known3 = after-floats.before.before.before.before in
     let start = known3.before.before.before in
     let x = start.args in
-    c.part-refusal.ensures ∙ ap (λ n. partRefusal x.rule x.a x.b n x.weights.now x.more.now) (sym (length-map x.survival.now bits))
+    c.part-refusal.ensures ∙ ap (λ n. part_refusal x.rule x.a x.b n x.weights.now x.more.now) (sym (length-map x.survival.now bits))
 
 left3 : (c : tie.Else3) →
     let after-floats = c.before.before.before.before in
     let after-place-refusal = after-floats.before.before in
     let q = asked after-place-refusal in let t = table after-place-refusal in
-    plannedRefusal q t ≡ first_of (from19 q t)
+    planned_refusal q t ≡ first_of (from19 q t)
 left3 c = left2 c.before.before ∙ after_none _ _ (sym (part c.before) ∙ c.if3.false)
 
 off : (c : tie.After-off-grid) →
     let after-outside = c.before.before.before.before in
     let after-place-refusal = after-outside.before.before.before in
-    let q = asked after-place-refusal in offGrid q.rule (floatsOf q) ≡ c.off-grid.result
+    let q = asked after-place-refusal in off_grid q.rule (floats_of q) ≡ c.off-grid.result
 off c =
     let after-outside = c.before.before.before.before in
     let else1 = after-outside.before.before in
     let after-place-refusal = else1.before in
-    sym (c.off-grid.ensures ∙ ap (offGrid (asked after-place-refusal).rule) (read else1))
+    sym (c.off-grid.ensures ∙ ap (off_grid (asked after-place-refusal).rule) (read else1))
 
 place-refusal-requires : tie.Need-place-refusal-requires
 place-refusal-requires c κs = search rules

@@ -7,7 +7,7 @@ use native.Mathlib.Omega.{arith}
 use native.Mathlib.Numerals.{add-one}
 use lib.ListN.{length, get_or, length-map}
 use Rattle.rules.specs.Below.{some}
-use Rattle.rules.specs.Doubles.{onGrid, someOff}
+use Rattle.rules.specs.Doubles.{on_grid, some_off}
 use Rattle.rules.proofs.Windows.{some-found}
 use Rattle.rules.proofs.Doubles.{each-chance}
 use Rattle.doubles.specs.Floats.{bits, bits_of}
@@ -16,7 +16,7 @@ use Rattle.planning.proofs.some_off.Statement.{statement}
 use Rattle.planning.proofs.some_off.Tie as tie
 
 abbrev invariant-loop : tie.invariant-loop
-invariant-loop floats i₀ i = (i ≤ length floats) × (some (λ k. not (onGrid (get_or (bits_of floats) k 0))) i ≡ false)
+invariant-loop floats i₀ i = (i ≤ length floats) × (some (λ k. not (on_grid (get_or (bits_of floats) k 0))) i ≡ false)
 
 abbrev decreases-loop : tie.decreases-loop
 decreases-loop floats i₀ i = length floats - i
@@ -38,7 +38,7 @@ on-grid-requires c κs =
     rw (← (bits-get xs i c.before.loop-test.true)) (each-chance (bits_of xs) c.before.before.before.before.requires i)
 
 returns : tie.Need-returns invariant-loop decreases-loop
-unfolding someOff
+unfolding some_off
 returns c =
     let in-loop = c.before.before.before in
     let at-loop = in-loop.before in
@@ -46,7 +46,7 @@ returns c =
     let xs = start.args.floats.now in
     let i = at-loop.loop.i in
     let l = in-loop.loop-test.true in
-    sym (some-found _ _ i (rw (length-map xs bits) l) (ap (λ b. not (onGrid b)) (bits-get xs i l) ∙ ap not (sym c.before.on-grid.ensures) ∙ c.if1.true))
+    sym (some-found _ _ i (rw (length-map xs bits) l) (ap (λ b. not (on_grid b)) (bits-get xs i l) ∙ ap not (sym c.before.on-grid.ensures) ∙ c.if1.true))
 
 add-i : tie.Need-overflow-add-i invariant-loop decreases-loop
 add-i c = search rules
@@ -64,11 +64,11 @@ loop-again c =
     let i = at-loop.loop.i in (
       omega arith,
       rw (add-one, at-loop.loop.invariant.1)
-          (ap (λ b. not (onGrid b)) (bits-get xs i in-loop.loop-test.true) ∙ ap not (sym c.before.on-grid.ensures) ∙ c.if1.false),
+          (ap (λ b. not (on_grid b)) (bits-get xs i in-loop.loop-test.true) ∙ ap not (sym c.before.on-grid.ensures) ∙ c.if1.false),
     )
 
 returns-2 : tie.Need-returns-2 invariant-loop decreases-loop
-unfolding someOff
+unfolding some_off
 returns-2 c =
     let xs = c.before.before.before.args.floats.now in
     let e : c.before.loop.i ≡ length xs = omega arith in

@@ -5,11 +5,11 @@ use borrow.Author.Rules.{rules}
 use Rattle.rules.specs.declared.Counting.{Counting}
 use Rattle.rules.specs.declared.Counting.TheVariants.{Counted, Refused}
 use Rattle.rules.specs.Answer.{Counts}
-use Rattle.ratings.specs.Outcome.{countingNumber}
+use Rattle.ratings.specs.Outcome.{counting_number}
 use Rattle.ratings.proofs.foambeetle_counts.Statement.{statement}
 use Rattle.ratings.proofs.foambeetle_counts.Tie as tie
 
-number_is : (answer : Counting) {refusal : ℕ} → Counts answer refusal → countingNumber answer ≡ refusal
+number_is : (answer : Counting) {refusal : ℕ} → Counts answer refusal → counting_number answer ≡ refusal
 number_is Counted h = sym h
 number_is (Refused number) h = h.0
 

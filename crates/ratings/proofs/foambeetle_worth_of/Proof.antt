@@ -2,7 +2,7 @@
 use mathlib.Core.Path.{ap, ◌∙◌}
 use borrow.Author.Rules.{rules}
 use Rattle.worth.proofs.Outcome.{worth-is}
-use Rattle.loading.specs.Outcome.{number_of, endsAfter}
+use Rattle.loading.specs.Outcome.{number_of, ends_after}
 use Rattle.ratings.proofs.foambeetle_worth_of.Statement.{statement}
 use Rattle.ratings.proofs.foambeetle_worth_of.Tie as tie
 
@@ -27,7 +27,7 @@ returns c =
     let e = rw after-rule-of.rule-of.ensures at after-worth.worth.ensures in
     let told = c.tell.ensures in
     let x = start.args in
-    record { number = told.0 ∙ ap number_of (worth-is e); table = e.outcome.table; ends = told.1 ∙ ap (λ w. endsAfter w x.ends.now) (worth-is e) }
+    record { number = told.0 ∙ ap number_of (worth-is e); table = e.outcome.table; ends = told.1 ∙ ap (λ w. ends_after w x.ends.now) (worth-is e) }
 
 pub foambeetle-worth-of-spec : {M : Type 1} → statement M
 foambeetle-worth-of-spec = tie.close (tie.spec rule-of-requires worth-requires tell-requires same_length returns)

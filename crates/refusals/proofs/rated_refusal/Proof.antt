@@ -8,29 +8,29 @@ use native.Mathlib.Omega.{arith}
 use borrow.Author.Rules.{rules}
 use borrow.Author.Tests.{eq-eqb, ne_eqb, le-ltb, lt-ltb, not-true, not-false}
 use Rattle.rules.specs.declared.Rule.{Rule}
-use Rattle.rules.specs.Refusal.{heaviest, weightsOut, ranged, first_of}
+use Rattle.rules.specs.Refusal.{heaviest, weights_out, ranged, first_of}
 use Rattle.rules.proofs.Unread.{unread-total}
-use Rattle.refusals.specs.Shared.{ratedRefusal}
+use Rattle.refusals.specs.Shared.{rated_refusal}
 use Rattle.refusals.proofs.rated_refusal.Statement.{statement}
 use Rattle.refusals.proofs.rated_refusal.Tie as tie
 
 module _ (rule : Rule) (whole listed n t : ℕ) (more : List ℕ) where
-  other : (fits : Bool) → ranged rule n 0 more ≡ fits → (rule.kind ≡ 2 → ⊥) → ratedRefusal rule whole listed n t more ≡ cond fits 0 6
-  unfolding ratedRefusal first_of weightsOut
+  other : (fits : Bool) → ranged rule n 0 more ≡ fits → (rule.kind ≡ 2 → ⊥) → rated_refusal rule whole listed n t more ≡ cond fits 0 6
+  unfolding rated_refusal first_of weights_out
   other true f h = rw (ne_eqb rule.kind 2 h, unread-total rule n t 0 more h, f)
   other false f h = rw (ne_eqb rule.kind 2 h, unread-total rule n t 0 more h, f)
 
   module _ (two : rule.kind ≡ 2) where
-    not_listed : (listed ≡ whole → ⊥) → ratedRefusal rule whole listed n t more ≡ 5
-    unfolding ratedRefusal first_of weightsOut
+    not_listed : (listed ≡ whole → ⊥) → rated_refusal rule whole listed n t more ≡ 5
+    unfolding rated_refusal first_of weights_out
     not_listed h = rw (eq-eqb rule.kind 2 two, ne_eqb listed whole h)
 
-    heavy : listed ≡ whole → heaviest < t → ratedRefusal rule whole listed n t more ≡ 5
-    unfolding ratedRefusal first_of weightsOut
+    heavy : listed ≡ whole → heaviest < t → rated_refusal rule whole listed n t more ≡ 5
+    unfolding rated_refusal first_of weights_out
     heavy e l = rw (eq-eqb rule.kind 2 two, eq-eqb listed whole e, lt-ltb heaviest t l)
 
-    weighed : (fits : Bool) → ranged rule n t more ≡ fits → listed ≡ whole → t ≤ heaviest → ratedRefusal rule whole listed n t more ≡ cond fits 0 6
-    unfolding ratedRefusal first_of weightsOut
+    weighed : (fits : Bool) → ranged rule n t more ≡ fits → listed ≡ whole → t ≤ heaviest → rated_refusal rule whole listed n t more ≡ cond fits 0 6
+    unfolding rated_refusal first_of weights_out
     weighed true f e l = rw (eq-eqb rule.kind 2 two, eq-eqb listed whole e, le-ltb heaviest t l, f)
     weighed false f e l = rw (eq-eqb rule.kind 2 two, eq-eqb listed whole e, le-ltb heaviest t l, f)
 

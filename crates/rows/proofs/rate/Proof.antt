@@ -83,7 +83,7 @@ add-t18 c =
     let after-limit = after-gap.before in
     let start = after-limit.before.before.before.before in
     let ok = start.requires.accepted in
-    omega (arith, c.load.ensures, load-le ok (length start.args.survival.now), ok.size-high)
+    omega (arith, c.load.ensures, load-le ok (length start.args.survival.now), ok.size_high)
 
 loop-holds : tie.Need-loop-init invariant-loop decreases-loop
 loop-holds c =

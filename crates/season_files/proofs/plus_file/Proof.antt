@@ -2,11 +2,11 @@
 use mathlib.Core.Path.{sym, ap, ◌∙◌}
 use Prim.Native.Nat.{◌*◌}
 use native.Mathlib.Omega.{arith}
-use Rattle.rules.specs.File.{mostSystems}
+use Rattle.rules.specs.File.{most_systems}
 use Rattle.rules.proofs.Unless.{unless-some, unless-none}
 use Rattle.deck.proofs.Outcome.{opened-accepted, opened-headed}
-use Rattle.totals.specs.Plus.{refusalPlus, filePlus}
-use Rattle.totals.specs.Room.{answersBefore}
+use Rattle.totals.specs.Plus.{refusal_plus, file_plus}
+use Rattle.totals.specs.Room.{answers_before}
 use Rattle.totals.proofs.Spare.{totals-more}
 use borrow.Author.Rules.{rules}
 use Rattle.season_files.proofs.plus_file.Statement.{statement}
@@ -19,12 +19,12 @@ add-t9 : tie.Need-overflow-add-t9
 add-t9 c = search rules
 
 returns : tie.Need-returns
-unfolding filePlus
+unfolding file_plus
 returns c =
     let opened = c.before.before in
     let t = opened.before.before.before.args.totals in
     let is = opened.«open».ensures.refusal in
-    ap (refusalPlus t) is ∙ sym (unless-some _ _ _ (λ none. c.before.if1.true (is ∙ none)))
+    ap (refusal_plus t) is ∙ sym (unless-some _ _ _ (λ none. c.before.if1.true (is ∙ none)))
 
 add-t10 : tie.Need-overflow-add-t10
 add-t10 c = search rules
@@ -35,11 +35,11 @@ plus-systems-requires c κs =
     let opened = at_test.before in
     let start = opened.before.before.before in
     let t = start.args.totals in
-    let room = totals-more (mostSystems * t.decks) answersBefore (omega (arith, start.requires.few)) t start.requires.room in
+    let room = totals-more (most_systems * t.decks) answers_before (omega (arith, start.requires.few)) t start.requires.room in
     (opened-headed opened.«open».ensures at_test.if1.false, record { other = room.other; eight = room.eight; kinds = room.kinds })
 
 returns-2 : tie.Need-returns-2
-unfolding filePlus
+unfolding file_plus
 returns-2 c =
     let at_test = c.before.before.before in
     let none = opened-accepted at_test.before.«open».ensures at_test.if1.false in

@@ -3,7 +3,7 @@ use native.Mathlib.Omega.{arith}
 use Rattle.text.specs.Decimal.{text}
 use Rattle.text.proofs.Adding.{added_more}
 use Rattle.season_report.proofs.Lengths.{reach, one-short, two-short}
-use Rattle.season_report.specs.Lines.{oneRoom, twoRoom}
+use Rattle.season_report.specs.Lines.{one_room, two_room}
 use borrow.Author.Rules.{rules}
 use Rattle.season_report.proofs.put_head.Statement.{statement}
 use Rattle.season_report.proofs.put_head.Tie as tie
@@ -26,7 +26,7 @@ put-two-requires c κs =
     let after-put-one = after-out.before in
     let start = after-put-one.before.before.before.before in
     let one = after-put-one.put_one in
-    omega (arith, start.requires, one.auto, reach (oneRoom (text "decks ")) (one-short (text "decks ") _) one.ensures)
+    omega (arith, start.requires, one.auto, reach (one_room (text "decks ")) (one-short (text "decks ") _) one.ensures)
 
 slice-aggregate-put-one-2 : tie.Need-slice-aggregate-put-one-2
 slice-aggregate-put-one-2 c = search rules
@@ -39,8 +39,8 @@ put-one-requires-2 c κs =
     let start = after-put-one.before.before.before.before in
     let one = after-put-one.put_one in
     let two = after-put-two.put_two in
-    let first = reach (oneRoom (text "decks ")) (one-short (text "decks ") _) one.ensures in
-    let second = reach (twoRoom (text "files refused ") (text " number ")) (two-short (text "files refused ") _ (text " number ") _) two.ensures in
+    let first = reach (one_room (text "decks ")) (one-short (text "decks ") _) one.ensures in
+    let second = reach (two_room (text "files refused ") (text " number ")) (two-short (text "files refused ") _ (text " number ") _) two.ensures in
     omega (arith, start.requires, one.auto, two.auto, first, second)
 
 same_length : tie.Need-same-length

@@ -2,7 +2,7 @@
 use native.Mathlib.Omega.{arith}
 use Rattle.text.proofs.Adding.{added_more}
 use Rattle.season_report.proofs.Lengths.{reach, answers-short, lowest-short}
-use Rattle.season_report.specs.Lines.{answersRoom, lowestRoom}
+use Rattle.season_report.specs.Lines.{answers_room, lowest_room}
 use borrow.Author.Rules.{rules}
 use Rattle.season_report.proofs.put_kind.Statement.{statement}
 use Rattle.season_report.proofs.put_kind.Tie as tie
@@ -16,7 +16,7 @@ put-lowest-requires c κs =
     let after-refused = after-put-answers.before.before.before.before in
     let start = after-refused.before.before in
     let answers = after-put-answers.put-answers in
-    omega (arith, start.requires, answers.auto, reach answersRoom (answers-short _ _ _) answers.ensures)
+    omega (arith, start.requires, answers.auto, reach answers_room (answers-short _ _ _) answers.ensures)
 
 put-widths-requires : tie.Need-put-widths-requires
 put-widths-requires c κs =
@@ -26,8 +26,8 @@ put-widths-requires c κs =
     let start = after-refused.before.before in
     let answers = after-put-answers.put-answers in
     let lowest = after-put-lowest.put_lowest in
-    let first = reach answersRoom (answers-short _ _ _) answers.ensures in
-    let second = reach lowestRoom (lowest-short _ _) lowest.ensures in
+    let first = reach answers_room (answers-short _ _ _) answers.ensures in
+    let second = reach lowest_room (lowest-short _ _) lowest.ensures in
     omega (arith, start.requires, answers.auto, lowest.auto, first, second)
 
 same_length : tie.Need-same-length

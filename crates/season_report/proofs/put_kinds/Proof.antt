@@ -7,20 +7,20 @@ use native.Mathlib.Numerals.{add-one}
 use lib.ListN.{length}
 use Rattle.text.specs.Added.{Added}
 use Rattle.text.proofs.Adding.{none-added, added_more}
-use Rattle.rules.specs.Refusal.{lastKind}
-use Rattle.season_report.specs.Lines.{kindsText}
+use Rattle.rules.specs.Refusal.{last_kind}
+use Rattle.season_report.specs.Lines.{kinds_text}
 use Rattle.season_report.proofs.Lengths.{kinds-short}
 use Rattle.season_report.proofs.put_kinds.Statement.{statement}
 use Rattle.season_report.proofs.put_kinds.Tie as tie
 
 abbrev invariant-loop : tie.invariant-loop
-invariant-loop out₀ at kinds end₀ k₀ out end k = (k ≤ lastKind) × (length out ≡ length out₀) × Added (kindsText k kinds) out₀ at out end
+invariant-loop out₀ at kinds end₀ k₀ out end k = (k ≤ last_kind) × (length out ≡ length out₀) × Added (kinds_text k kinds) out₀ at out end
 
 abbrev decreases-loop : tie.decreases-loop
-decreases-loop out₀ at kinds end₀ k₀ out end k = lastKind - k
+decreases-loop out₀ at kinds end₀ k₀ out end k = last_kind - k
 
 loop-holds : tie.Need-loop-init invariant-loop decreases-loop
-unfolding kindsText
+unfolding kinds_text
 loop-holds c = (omega arith, refl, none-added c.before.args.out.now c.before.args.at)
 
 mul-tally : tie.Need-overflow-mul-tally invariant-loop decreases-loop
@@ -43,7 +43,7 @@ loop-less : tie.Need-loop-smaller invariant-loop decreases-loop
 loop-less c = omega arith
 
 loop-again : tie.Need-loop-preserved invariant-loop decreases-loop
-unfolding kindsText
+unfolding kinds_text
 loop-again c =
     let after-put-kind = c.before.before in
     let at-loop = after-put-kind.before.before.before.before in
@@ -57,7 +57,7 @@ same_length c = c.before.loop.invariant.1
 returns : tie.Need-returns invariant-loop decreases-loop
 returns c =
     let l = c.before.loop in
-    let e : l.k ≡ lastKind = omega (arith, l.invariant.0) in
+    let e : l.k ≡ last_kind = omega (arith, l.invariant.0) in
     rw e at l.invariant.2
 
 pub put-kinds-spec : {M : Type 1} → statement M

@@ -1,8 +1,8 @@
 -- `report::put_report` meets its contract: all lines fit. Assumes nothing.
 use native.Mathlib.Omega.{arith}
 use Rattle.text.proofs.Adding.{added_more, added-counts}
-use Rattle.rules.specs.Refusal.{lastKind}
-use Rattle.season_report.specs.Lines.{headRoom, kindsRoom}
+use Rattle.rules.specs.Refusal.{last_kind}
+use Rattle.season_report.specs.Lines.{head_room, kinds_room}
 use Rattle.season_report.proofs.Lengths.{reach, head-short, kinds-short}
 use borrow.Author.Rules.{rules}
 use Rattle.season_report.proofs.put_report.Statement.{statement}
@@ -16,7 +16,7 @@ put-kinds-requires c κs =
     let after-put-head = c.before.before.before in
     let start = after-put-head.before.before.before.before in
     let head = after-put-head.put-head in
-    omega (arith, start.requires, head.auto, reach headRoom (head-short _ _ _ _) head.ensures)
+    omega (arith, start.requires, head.auto, reach head_room (head-short _ _ _ _) head.ensures)
 
 slice-aggregate-put-one : tie.Need-slice-aggregate-put-one
 slice-aggregate-put-one c = search rules
@@ -28,8 +28,8 @@ put-one-requires c κs =
     let start = after-put-head.before.before.before.before in
     let head = after-put-head.put-head in
     let kinds = after-put-kinds.put-kinds in
-    let first = reach headRoom (head-short _ _ _ _) head.ensures in
-    let second = reach kindsRoom (kinds-short lastKind _) kinds.ensures in
+    let first = reach head_room (head-short _ _ _ _) head.ensures in
+    let second = reach kinds_room (kinds-short last_kind _) kinds.ensures in
     omega (arith, start.requires, head.auto, kinds.auto, first, second)
 
 same_length : tie.Need-same-length

@@ -2,8 +2,8 @@
 use mathlib.Core.Path.{sym, ap, ◌∙◌}
 use mathlib.Core.Bool.{not}
 use lib.Dec.{eqb}
-use Rattle.totals.specs.Plus.{oneIf}
-use Rattle.season_report.specs.Lines.{reportText}
+use Rattle.totals.specs.Plus.{one_if}
+use Rattle.season_report.specs.Lines.{report_text}
 use Rattle.season_stream.specs.declared.Season.{Season}
 use Rattle.season_stream.proofs.Handed.{holds-end}
 use borrow.Author.Rules.{rules}
@@ -33,8 +33,8 @@ returns c =
       counts = printed.counts;
       text = λ bytes h.
           printed.stands
-          ∙ ap (reportText totals) flagged.one-if.ensures
-          ∙ ap (λ (s : Season). reportText s.totals (oneIf s.waiting)) (told.settled.ensures ∙ sym (holds-end h));
+          ∙ ap (report_text totals) flagged.one-if.ensures
+          ∙ ap (λ (s : Season). report_text s.totals (one_if s.waiting)) (told.settled.ensures ∙ sym (holds-end h));
       refused = λ bytes h. ap (λ (s : Season). not (eqb s.totals.refused 0)) (told.settled.ensures ∙ sym (holds-end h));
     }
 

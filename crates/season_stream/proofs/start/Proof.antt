@@ -6,8 +6,8 @@ use native.Mathlib.Omega.{arith}
 use lib.ListN.{length-replicate}
 use Rattle.ending.specs.Ending.{longest}
 use Rattle.ending.proofs.Asking.{shortest-least}
-use Rattle.totals.specs.Room.{mostFiles}
-use Rattle.season_stream.specs.Reading.{seasonIn}
+use Rattle.totals.specs.Room.{most_files}
+use Rattle.season_stream.specs.Reading.{season_in}
 use Rattle.season_stream.proofs.Empty.{none-decks, none_open}
 use Rattle.season_stream.proofs.Going.{season-from}
 use borrow.Author.Rules.{rules}
@@ -32,7 +32,7 @@ returns c =
           spare = λ l. none_open none;
         };
       };
-      on = λ rest. season-from rest ∙ ap (λ t. seasonIn mostFiles t rest) (sym none);
+      on = λ rest. season-from rest ∙ ap (λ t. season_in most_files t rest) (sym none);
     }
 
 pub start_spec : {M : Type 1} → statement M

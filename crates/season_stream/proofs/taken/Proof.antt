@@ -5,15 +5,15 @@ use native.Mathlib.Omega.{arith}
 use lib.ListN.{length, take}
 use lib.Seq.{length-take-le}
 use Rattle.ending.specs.Ending.{asks, longest}
-use Rattle.totals.specs.Room.{mostFiles}
-use Rattle.season_stream.specs.Reading.{withFile}
+use Rattle.totals.specs.Room.{most_files}
+use Rattle.season_stream.specs.Reading.{with_file}
 use Rattle.season_stream.proofs.Feeding.{one_left, fed-closed, fed-full, fed-part, fed-file}
 use borrow.Author.Rules.{rules}
 use Rattle.season_stream.proofs.taken.Statement.{statement}
 use Rattle.season_stream.proofs.taken.Tie as tie
 
 -- where a file is read on: another may be read, and what is asked for fits
-left : (c : tie.After-old) → let opened = c.before.before.before in opened.before.before.args.before.files < mostFiles
+left : (c : tie.After-old) → let opened = c.before.before.before in opened.before.before.args.before.files < most_files
 left c =
     let tested = c.before in
     let opened = tested.before.before in
@@ -93,7 +93,7 @@ returns-4 c =
     let kept = start.args.before.kept + length start.args.more.now in
     let done : asks (take kept joined.joined.result) ≤ kept = omega (arith, asked.asks.ensures.0, tested.if3.false) in
     fed-file _ start.requires.0 opened.if1.false start.requires.1.0 (left old) start.requires.1.1 _ _ refl is.0 is.1 done
-    (c.with-file.ensures ∙ ap (withFile start.args.before) added.plus-file.ensures)
+    (c.with-file.ensures ∙ ap (with_file start.args.before) added.plus-file.ensures)
 
 pub taken-spec : {M : Type 1} → statement M
 taken-spec =

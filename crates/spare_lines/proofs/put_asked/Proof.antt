@@ -10,11 +10,11 @@ use Rattle.rules.specs.Refusal.{most}
 use Rattle.rules.proofs.Unless.{unless-some}
 use Rattle.text.specs.Decimal.{text}
 use Rattle.text.proofs.Adding.{added_more, named-added, named-reach}
-use Rattle.spares.specs.Places.{spareRefusal}
+use Rattle.spares.specs.Places.{spare_refusal}
 use Rattle.spares.proofs.Rating.{accepted, inside}
-use Rattle.spare_lines.specs.Lines.{refusedLine, gainLines}
-use Rattle.spare_lines.specs.Best.{rankedIn, bestText}
-use Rattle.spare_lines.specs.System.{answeredText}
+use Rattle.spare_lines.specs.Lines.{refused_line, gain_lines}
+use Rattle.spare_lines.specs.Best.{ranked_in, best_text}
+use Rattle.spare_lines.specs.System.{answered_text}
 use Rattle.spare_lines.proofs.Same.{gains-same}
 use Rattle.spare_lines.proofs.Whole.{of_two, of_one, ranked-is, decimal-is}
 use Rattle.spare_lines.proofs.put_asked.Statement.{statement}
@@ -27,14 +27,14 @@ entry c = let lists = c.before.before.before in lists.before.before.before
 abbrev asked : tie.Start → Asked
 asked c = let x = c.args in asked_of x.question x.survival.now x.weights.now [] x.boards.now x.switchboards.now
 
-none : (c : tie.Else1) → let s = entry c.before in spareRefusal (asked s) s.args.job.p ≡ 0
+none : (c : tie.Else1) → let s = entry c.before in spare_refusal (asked s) s.args.job.p ≡ 0
 none c = sym c.before.refusal.ensures ∙ c.if1.false
 
 -- one spare goes in
 abbrev alone : tie.Else2 → tie.Start
 alone c = entry c.before.before
 
-none-alone : (c : tie.Else2) → spareRefusal (asked (alone c)) (alone c).args.job.p ≡ 0
+none-alone : (c : tie.Else2) → spare_refusal (asked (alone c)) (alone c).args.job.p ≡ 0
 none-alone c = none c.before
 
 add-s : tie.Need-overflow-add-s
@@ -67,7 +67,7 @@ returns c =
     let s = entry refused in
     let e = refused.refusal.ensures in
     let one = named-added (omega (arith, s.pre.1)) named.put-named.ensures in
-    rw (unless-some (spareRefusal (asked s) s.args.job.p) (refusedLine (s.args.job.s + 1)) (answeredText s.args.job (asked s)) (λ none. named.before.before.before.if1.true (e ∙ none)), ← e)
+    rw (unless-some (spare_refusal (asked s) s.args.job.p) (refused_line (s.args.job.s + 1)) (answered_text s.args.job (asked s)) (λ none. named.before.before.before.if1.true (e ∙ none)), ← e)
     (added_more one last.Put-refused.ensures)
 
 put-two-requires : tie.Need-put-two-requires
@@ -135,7 +135,7 @@ returns-3 c =
     let before = placed.before.rate-now.result in
     let lies = within placed in
     let size : q.b - q.a + 1 ≡ size_of q = omega arith in
-    let text-is = ap (λ k. gainLines (job.s + 1) q.a k places before) size
+    let text-is = ap (λ k. gain_lines (job.s + 1) q.a k places before) size
     ∙ gains-same (job.s + 1) placed.rate-places.ensures placed.before.rate-now.ensures in
     rw (of_one job q (none-alone at) at.if2.false, eq-eqb job.best 0 tested.if3.true, ← text-is) put.put-gains.ensures
 
@@ -170,8 +170,8 @@ returns-4 c =
     let lies = within placed in
     let size : q.b - q.a + 1 ≡ size_of q = omega arith in
     let d = decimal.is-decimal.result in
-    let text-is = ap (λ k. bestText (record { s = job.s + 1; a = q.a; size = k; decimal = d }) job.best (rankedIn k places before)) size
-    ∙ ap₂ (λ b k. bestText (record { s = job.s + 1; a = q.a; size = size_of q; decimal = b }) job.best k) (decimal-is d q.version decimal.is-decimal.ensures)
+    let text-is = ap (λ k. best_text (record { s = job.s + 1; a = q.a; size = k; decimal = d }) job.best (ranked_in k places before)) size
+    ∙ ap₂ (λ b k. best_text (record { s = job.s + 1; a = q.a; size = size_of q; decimal = b }) job.best k) (decimal-is d q.version decimal.is-decimal.ensures)
     (ranked-is placed.rate-places.ensures placed.before.rate-now.ensures) in
     rw (of_one job q (none-alone at) at.if2.false, ne_eqb job.best 0 tested.if3.false, ← text-is) put.put-best.ensures
 

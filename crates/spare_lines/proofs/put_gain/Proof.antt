@@ -7,7 +7,7 @@ use lib.IntN.{sub_ℕ}
 use mir.Syntax.{w64}
 use mir.ValLaws.{to_z-of_z}
 use Rattle.text.specs.Decimal.{text}
-use Rattle.text.specs.Lines.{pairRoom}
+use Rattle.text.specs.Lines.{pair_room}
 use Rattle.text.proofs.Signed.{held}
 use Rattle.text.proofs.Adding.{put-added, added_more, pair-reach, signed-pair-reach}
 use Rattle.swaps.proofs.Replaced.{less-fits}
@@ -58,7 +58,7 @@ slice-aggregate-put-signed-pair-2 : tie.Need-slice-aggregate-put-signed-pair-2
 slice-aggregate-put-signed-pair-2 c = search rules
 
 -- how far the pair reaches, and the ends behind it
-paired : (c : tie.After-put-pair) → c.put-pair.result ≤ (entry (ends c)).args.at + pairRoom (text "system ") (text " fan ")
+paired : (c : tie.After-put-pair) → c.put-pair.result ≤ (entry (ends c)).args.at + pair_room (text "system ") (text " fan ")
 paired c = let x = (entry (ends c)).args in pair-reach (text "system ") x.s (text " fan ") x.fan c.put-pair.ensures
 
 put-signed-pair-requires : tie.Need-put-signed-pair-requires

@@ -5,14 +5,14 @@ use native.Mathlib.Omega.{arith}
 use lib.ListN.{get_or}
 use Rattle.rules.specs.Refusal.{most}
 use Rattle.printing.proofs.Lined.{Lined, no_lines, room-left, one_more, all_lines}
-use Rattle.spare_lines.specs.Lines.{endsOf, gainLine, gainRoom}
+use Rattle.spare_lines.specs.Lines.{ends_of, gain_line, gain_room}
 use Rattle.spare_lines.proofs.Lengths.{gain-short}
 use Rattle.spare_lines.proofs.put_gains.Statement.{statement}
 use Rattle.spare_lines.proofs.put_gains.Tie as tie
 
 abbrev invariant-loop : tie.invariant-loop
 invariant-loop s a size before out₀ at low high end₀ i₀ out end i =
-    Lined size (λ j. gainLine s (a + j) (endsOf (get_or low j 0) (get_or high j 0)) before) out₀ at out end i
+    Lined size (λ j. gain_line s (a + j) (ends_of (get_or low j 0) (get_or high j 0)) before) out₀ at out end i
 
 abbrev decreases-loop : tie.decreases-loop
 decreases-loop s a size before out₀ at low high end₀ i₀ out end i = size - i
@@ -50,7 +50,7 @@ put-gain-requires c κs =
     let after = s.pre.1.0.after l.i in
     let now = s.pre.1.0.now in (
       (after.0, after.1, now.0, now.1),
-      room-left l.invariant gainRoom most (λ j. gain-short s.args.s (s.args.a + j) _ s.args.before) at.loop-test.true s.pre.0.few.0 (omega (arith, s.pre.1.1)),
+      room-left l.invariant gain_room most (λ j. gain-short s.args.s (s.args.a + j) _ s.args.before) at.loop-test.true s.pre.0.few.0 (omega (arith, s.pre.1.1)),
     )
 
 add-i : tie.Need-overflow-add-i invariant-loop decreases-loop

@@ -9,20 +9,20 @@ use lib.Dec.{eqb}
 use lib.ListN.{length}
 use lib.Pow.{pow_mono}
 use Rattle.rules.specs.State.{number_of}
-use Rattle.rules.specs.Boards.{fansDown}
-use Rattle.states.specs.States.{boardFailed}
+use Rattle.rules.specs.Boards.{fans_down}
+use Rattle.states.specs.States.{board_failed}
 use Rattle.states.proofs.Bits.{more-bit}
 use Rattle.states.proofs.board_failed.Statement.{statement}
 use Rattle.states.proofs.board_failed.Tie as tie
 
 abbrev invariant-loop : tie.invariant-loop
-invariant-loop boards board state after₀ i₀ after i = (i ≤ length boards) × (after < 2 ^ i) × (after ≡ fansDown (λ k. eqb (number_of boards k) board) i state)
+invariant-loop boards board state after₀ i₀ after i = (i ≤ length boards) × (after < 2 ^ i) × (after ≡ fans_down (λ k. eqb (number_of boards k) board) i state)
 
 abbrev decreases-loop : tie.decreases-loop
 decreases-loop boards board state after₀ i₀ after i = length boards - i
 
 loop-holds : tie.Need-loop-init invariant-loop decreases-loop
-unfolding fansDown
+unfolding fans_down
 loop-holds c = (omega arith, omega arith, refl)
 
 shared-slice-read-failed-with : tie.Need-shared-slice-read-failed-with invariant-loop decreases-loop
@@ -52,7 +52,7 @@ loop-less : tie.Need-loop-smaller invariant-loop decreases-loop
 loop-less c = omega arith
 
 loop-again : tie.Need-loop-preserved invariant-loop decreases-loop
-unfolding fansDown number_of
+unfolding fans_down number_of
 loop-again c =
     let l = c.before.before.before.before.loop in
     let sum : c.bit-of.result + l.after < 2 ^ suc l.i = rw c.bit-of.ensures (more-bit c.before.failed-with.result l.i l.after l.invariant.1) in
@@ -63,7 +63,7 @@ loop-again c =
     )
 
 returns : tie.Need-returns invariant-loop decreases-loop
-unfolding boardFailed
+unfolding board_failed
 returns c =
     let e : c.before.loop.i ≡ length c.before.before.before.args.boards.now = omega arith in
     rw e at c.before.loop.invariant.2

@@ -1,12 +1,12 @@
 -- `deck_place` meets its contract: 0 stays, and any other place moves by the fans before the stretch. Assumes nothing.
-use Rattle.states.specs.States.{deckPlace}
+use Rattle.states.specs.States.{deck_place}
 use Rattle.states.proofs.Places.{some-place}
 use borrow.Author.Rules.{rules}
 use Rattle.states.proofs.deck_place.Statement.{statement}
 use Rattle.states.proofs.deck_place.Tie as tie
 
 returns : tie.Need-returns
-unfolding deckPlace
+unfolding deck_place
 returns c = rw c.if1.true
 
 sub-result : tie.Need-overflow-sub-result

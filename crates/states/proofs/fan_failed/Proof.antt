@@ -4,7 +4,7 @@ use Prim.Native.Nat.{◌*◌, ◌-◌, ◌^◌}
 use native.Mathlib.Omega.{arith}
 use lib.Bits.{bit_or}
 use lib.Pow.{shl_exact}
-use Rattle.states.specs.States.{fanFailed}
+use Rattle.states.specs.States.{fan_failed}
 use borrow.Author.Rules.{rules}
 use Rattle.states.proofs.fan_failed.Statement.{statement}
 use Rattle.states.proofs.fan_failed.Tie as tie
@@ -16,7 +16,7 @@ shl-result : tie.Need-overflow-shl-result
 shl-result c = search rules
 
 returns : tie.Need-returns
-unfolding fanFailed
+unfolding fan_failed
 returns c =
     let k = c.args.fan - 1 in
     let one : 1 * 2 ^ k ≡ 2 ^ k = omega arith in

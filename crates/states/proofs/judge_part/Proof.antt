@@ -7,20 +7,20 @@ use lib.ListN.{length}
 use borrow.Author.Tests.{not-false}
 use Rattle.rules.specs.declared.Verdict.TheVariants.{Refused}
 use Rattle.rules.specs.Refusal.{most}
-use Rattle.rules.specs.Answer.{verdictOf}
+use Rattle.rules.specs.Answer.{verdict_of}
 use Rattle.rules.proofs.EachKind.{within-true}
 use Rattle.rules.proofs.Unless.{unless-none, unless-some}
-use Rattle.asked.specs.Parts.{placeRefusal}
+use Rattle.asked.specs.Parts.{place_refusal}
 use Rattle.asked.proofs.Refused.{Placed, placed, part-is}
 use Rattle.verdict.proofs.Outcome.{verdict-is}
-use Rattle.states.specs.States.{onDeck, partVerdict}
+use Rattle.states.specs.States.{on_deck, part_verdict}
 use Rattle.states.proofs.Places.{few-places}
 use borrow.Author.Rules.{rules}
 use Rattle.states.proofs.judge_part.Statement.{statement}
 use Rattle.states.proofs.judge_part.Tie as tie
 
 -- what the first test leaves
-none : (c : tie.Else1) → let x = c.before.before.before.before.args in placeRefusal x.system.rule x.system.a x.system.b (length x.weights.now) ≡ 0
+none : (c : tie.Else1) → let x = c.before.before.before.before.args in place_refusal x.system.rule x.system.a x.system.b (length x.weights.now) ≡ 0
 none c = sym c.before.place-refusal.ensures ∙ c.if1.false
 
 sound : (c : tie.Else1) → let x = c.before.before.before.before.args in Placed x.system.rule x.system.a x.system.b (length x.weights.now)
@@ -33,7 +33,7 @@ place-refusal-requires : tie.Need-place-refusal-requires
 place-refusal-requires c κs = search rules
 
 returns : tie.Need-returns
-unfolding partVerdict
+unfolding part_verdict
 returns c =
     let e = c.before.place-refusal.ensures in
     ap Refused e ∙ sym (unless-some _ _ _ (λ z. c.if1.true (e ∙ z)))
@@ -72,7 +72,7 @@ on-deck-requires c κs =
     ((fit.0, omega (arith, fit, few tested)), few-places _ _ _ _ _ _ c.verdict-on.ensures (omega (arith, fit, few tested)))
 
 returns-2 : tie.Need-returns-2
-unfolding partVerdict
+unfolding part_verdict
 returns-2 c =
     let after-state-in = c.before.before.before.before in
     let tested = after-state-in.before in
@@ -86,8 +86,8 @@ returns-2 c =
     let part = part-is a b (length x.weights.now) x.weights.now (sound tested).inside in
     let seen = after-state-in.state-in.ensures in
     c.on-deck.ensures
-    ∙ ap (onDeck a) (verdict-is c.before.verdict-on.ensures)
-    ∙ (λ y. onDeck a (verdictOf rule (size y) (part y) [] (seen y)))
+    ∙ ap (on_deck a) (verdict-is c.before.verdict-on.ensures)
+    ∙ (λ y. on_deck a (verdict_of rule (size y) (part y) [] (seen y)))
     ∙ sym (unless-none _ _ _ (none tested))
 
 pub judge-part-spec : {M : Type 1} → statement M

@@ -5,10 +5,10 @@ use Prim.Native.Nat.{ℕ}
 use native.Mathlib.Omega.{arith}
 use lib.ListN.{length}
 use lib.Seq.{length-take-le}
-use Rattle.rules.specs.File.{fansIn, systemIn, deckIn}
+use Rattle.rules.specs.File.{fans_in, system_in, deck_in}
 use Rattle.rules.proofs.Lists.{below_length}
 use Rattle.deck.proofs.Kept.{few-fans, lent-weights}
-use Rattle.states.specs.States.{partVerdict}
+use Rattle.states.specs.States.{part_verdict}
 use borrow.Author.Rules.{rules}
 use Rattle.states.proofs.state_system.Statement.{statement}
 use Rattle.states.proofs.state_system.Tie as tie
@@ -29,9 +29,9 @@ judge-part-requires : tie.Need-judge-part-requires
 judge-part-requires c κs = search rules
 
 -- a file has a weight for each of its fans
-as_many : (bytes : List ℕ) → length (deckIn bytes).weights ≡ length (deckIn bytes).survival
-unfolding deckIn
-as_many bytes = below_length (fansIn bytes) _ ∙ sym (below_length (fansIn bytes) _)
+as_many : (bytes : List ℕ) → length (deck_in bytes).weights ≡ length (deck_in bytes).survival
+unfolding deck_in
+as_many bytes = below_length (fans_in bytes) _ ∙ sym (below_length (fans_in bytes) _)
 
 returns : tie.Need-returns
 returns c =
@@ -40,8 +40,8 @@ returns c =
     let bytes = start.args.file.now in
     let weights = lent-weights start.requires.headed read.before.weights-in.ensures in
     c.judge-part.ensures
-    ∙ (λ x. partVerdict (read.system-in.ensures x) (length (weights x)) (weights x) start.args.state)
-    ∙ ap (λ n. partVerdict (systemIn bytes start.args.s) n (deckIn bytes).weights start.args.state) (as_many bytes)
+    ∙ (λ x. part_verdict (read.system-in.ensures x) (length (weights x)) (weights x) start.args.state)
+    ∙ ap (λ n. part_verdict (system_in bytes start.args.s) n (deck_in bytes).weights start.args.state) (as_many bytes)
 
 pub state-system-spec : {M : Type 1} → statement M
 state-system-spec =

@@ -7,7 +7,7 @@ use native.Mathlib.Omega.{arith}
 use lib.ListN.{take, drop}
 use borrow.Author.Rules.{rules}
 use Rattle.rules.specs.Asked.{Asked, asked_of}
-use Rattle.rules.specs.Boards.{boardsRead}
+use Rattle.rules.specs.Boards.{boards_read}
 use Rattle.units.specs.Step.{whole}
 use Rattle.asked.proofs.Refused.{part-is}
 use Rattle.stretches.proofs.Part.{Handed, inside, fits, listed, handed-able, handed-figure}
@@ -44,7 +44,7 @@ handed c =
       unit = c.is-decimal.ensures;
       part = part-is q.a q.b _ q.survival three;
       rated = c.before.before.before.rated-weights.ensures;
-      placed = c.before.before.boards-read.ensures ∙ ap (boardsRead q.version) (part-is q.a q.b _ q.boards three);
+      placed = c.before.before.boards-read.ensures ∙ ap (boards_read q.version) (part-is q.a q.b _ q.boards three);
       own = c.before.numbers-read.ensures;
     }
 

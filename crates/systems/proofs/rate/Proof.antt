@@ -4,10 +4,10 @@ use mathlib.Core.List.{[]}
 use native.Mathlib.Omega.{arith}
 use lib.ListN.{replicate}
 use lib.Seq.{length-take-le}
-use Rattle.rules.specs.Asked.{questionOf, asked_of}
+use Rattle.rules.specs.Asked.{question_of, asked_of}
 use Rattle.rules.specs.Refusal.{cells}
-use Rattle.rules.specs.Answer.{figuresOf}
-use Rattle.rules.specs.File.{deckIn, systemOf}
+use Rattle.rules.specs.Answer.{figures_of}
+use Rattle.rules.specs.File.{deck_in, system_of}
 use Rattle.deck.proofs.Kept.{few-fans, few-boards, lent-survival, lent-weights, lent-numbers}
 use borrow.Author.Rules.{rules}
 use Rattle.systems.proofs.rate.Statement.{statement}
@@ -58,7 +58,7 @@ rate-lists-requires : tie.Need-rate-lists-requires
 rate-lists-requires c κs = search rules
 
 returns : tie.Need-returns
-unfolding systemOf deckIn
+unfolding system_of deck_in
 returns c =
     let all = c.before.before.before.before in
     let read = all.before.before.before.before in
@@ -70,7 +70,7 @@ returns c =
     let version = h.says.version in
     let system = all.system-in.ensures in
     c.rate-lists.ensures
-    ∙ (λ i. figuresOf (asked_of (questionOf (version i) (system i).rule (system i).a (system i).b) (survival i) (weights i) [] (boards i) (numbers i)) (replicate cells 0))
+    ∙ (λ i. figures_of (asked_of (question_of (version i) (system i).rule (system i).a (system i).b) (survival i) (weights i) [] (boards i) (numbers i)) (replicate cells 0))
 
 pub rate-spec : {M : Type 1} → statement M
 rate-spec =

@@ -2,7 +2,7 @@
 use mathlib.Core.Path.{sym, ap, ◌∙◌}
 use native.Mathlib.Omega.{arith}
 use Rattle.rules.specs.declared.Rating.TheVariants.{Refused}
-use Rattle.rules.specs.File.{loadingOf}
+use Rattle.rules.specs.File.{loading_of}
 use Rattle.rules.proofs.Unless.{unless-none, unless-some}
 use Rattle.systems.proofs.Answers.{opened-answer, numbered}
 use borrow.Author.Rules.{rules}
@@ -13,7 +13,7 @@ refusal-requires : tie.Need-refusal-requires
 refusal-requires c κs = search rules
 
 returns : tie.Need-returns
-unfolding loadingOf
+unfolding loading_of
 returns c =
     let start = c.before.before.before in
     let is = c.before.refusal.ensures in
@@ -30,7 +30,7 @@ rate-requires c κs =
     (numbered at-refusal.before.before.requires _ (sym at-refusal.refusal.ensures ∙ c.before.if1.false)).1
 
 returns-2 : tie.Need-returns-2
-unfolding loadingOf
+unfolding loading_of
 returns-2 c =
     let at-refusal = c.before.before.before in
     let none = sym at-refusal.refusal.ensures ∙ c.before.before.if1.false in

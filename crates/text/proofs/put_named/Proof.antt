@@ -19,7 +19,7 @@ returns c =
     record {
       between = _;
       place = _;
-      name-put = after-put.put.ensures;
+      name_put = after-put.put.ensures;
       number_put = after-put-number.put-number.ensures;
     }
 

@@ -5,7 +5,7 @@ use Prim.Native.Nat.{◌+◌, ◌-◌, ◌<◌}
 use native.Mathlib.Omega.{arith}
 use lib.ListN.{length, take, drop, length-drop, length-take}
 use lib.Seq.{length-take-le, take_all}
-use Rattle.text_stream.specs.Feeding.{lineRoom}
+use Rattle.text_stream.specs.Feeding.{line_room}
 use Rattle.text_stream.proofs.Pieces.{fed-part, fed-lines}
 use borrow.Author.Rules.{rules}
 use Rattle.text_stream.proofs.feed.Statement.{statement}
@@ -41,7 +41,7 @@ returns c =
     record {
       few = omega arith;
       sane = record { listing = start.requires.0.0.listing; within = is.0 };
-      holds = λ bytes h. fed-part h piece (rw first at ended.line-end.ensures) _ _ is.0 (is.1 ∙ ap (λ n. take lineRoom (take start.args.before.kept start.args.line.now ++ take n piece)) first);
+      holds = λ bytes h. fed-part h piece (rw first at ended.line-end.ensures) _ _ is.0 (is.1 ∙ ap (λ n. take line_room (take start.args.before.kept start.args.line.now ++ take n piece)) first);
     }
 
 slice-reshare-prefix-read-line : tie.Need-slice-reshare-prefix-read-line

@@ -5,7 +5,7 @@ use native.Mathlib.Omega.{arith}
 use lib.ListN.{length-take}
 use lib.Seq.{length-take-le}
 use Rattle.text.proofs.Adding.{put-added}
-use Rattle.text_stream.specs.Feeding.{lineRoom}
+use Rattle.text_stream.specs.Feeding.{line_room}
 use Rattle.text_stream.proofs.Pieces.{kept-all, kept-cut}
 use borrow.Author.Rules.{rules}
 use Rattle.text_stream.proofs.keep.Statement.{statement}
@@ -47,7 +47,7 @@ returns-2 c =
     let start = tested.before.before.before in
     let x = start.args in
     kept-cut x.line.now x.more.now x.kept (omega (arith, start.requires)) start.requires.1 (omega (arith, tested.if1.false))
-    (put-added (omega (arith, start.requires, length-take (lineRoom - x.kept) x.more.now)) put.put2.ensures)
+    (put-added (omega (arith, start.requires, length-take (line_room - x.kept) x.more.now)) put.put2.ensures)
 
 pub keep_spec : {M : Type 1} → statement M
 keep_spec =

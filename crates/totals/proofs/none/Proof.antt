@@ -1,7 +1,7 @@
 -- `none` meets its contract: the totals of no file are zeros. Assumes nothing.
 use borrow.Author.Rules.{rules}
-use Rattle.rules.specs.Below.{listBelow, total}
-use Rattle.totals.specs.Season.{chosen, someOf, singlesFrom, totalsOf}
+use Rattle.rules.specs.Below.{list_below, total}
+use Rattle.totals.specs.Season.{chosen, some_of, singles_from, totals_of}
 use Rattle.totals.proofs.none.Statement.{statement}
 use Rattle.totals.proofs.none.Tie as tie
 
@@ -9,7 +9,7 @@ none-requires : tie.Need-none-requires
 none-requires c κs = search rules
 
 returns : tie.Need-returns
-unfolding totalsOf singlesFrom chosen someOf total listBelow
+unfolding totals_of singles_from chosen some_of total list_below
 returns c = rw c.none.ensures
 
 pub none_spec : {M : Type 1} → statement M

@@ -7,13 +7,13 @@ use lib.Dec.{leb}
 use borrow.Author.Rules.{rules}
 use borrow.Author.Tests.{le-leb, lt-leb}
 use Rattle.rules.specs.Below.{some}
-use Rattle.rules.specs.State.{heldIn}
+use Rattle.rules.specs.State.{held_in}
 use Rattle.rules.proofs.Lowest.{nowhere-yet, passed, found, nowhere}
 use Rattle.verdict.proofs.first_window.Statement.{statement}
 use Rattle.verdict.proofs.first_window.Tie as tie
 
 abbrev invariant-loop : tie.invariant-loop
-invariant-loop n width need w starts a₀ a = (a ≤ starts) × (some (λ s. leb need (heldIn n s w width)) a ≡ false)
+invariant-loop n width need w starts a₀ a = (a ≤ starts) × (some (λ s. leb need (held_in n s w width)) a ≡ false)
 
 abbrev decreases-loop : tie.decreases-loop
 decreases-loop n width need w starts a₀ a = starts - a

@@ -4,7 +4,7 @@ use Prim.Native.Nat.{ℕ, ◌≤◌}
 use native.Mathlib.Omega.{arith}
 use borrow.Author.Rules.{rules}
 use Rattle.rules.specs.State.{starts}
-use Rattle.rules.specs.Verdict.{someWindow, firstWindow}
+use Rattle.rules.specs.Verdict.{some_window, first_window}
 use Rattle.verdict.proofs.Placed.{placed, nowhere}
 use Rattle.verdict.proofs.judge_windows.Statement.{statement}
 use Rattle.verdict.proofs.judge_windows.Tie as tie
@@ -26,11 +26,11 @@ add-t9 : tie.Need-overflow-add-t9
 add-t9 c = search rules
 
 returns : tie.Need-returns
-unfolding someWindow firstWindow
+unfolding some_window first_window
 returns c = rw (← c.before.before.starts-of.ensures) (placed _ _ _ c.before.first-window.ensures c.if1.true)
 
 returns-2 : tie.Need-returns-2
-unfolding someWindow firstWindow
+unfolding some_window first_window
 returns-2 c = rw (← c.before.before.starts-of.ensures) (nowhere _ _ _ c.before.first-window.ensures c.if1.false)
 
 pub judge-windows-spec : {M : Type 1} → statement M

@@ -9,11 +9,11 @@ use borrow.Author.Tests.{leb-false}
 use Rattle.rules.specs.declared.Rule.{Rule}
 use Rattle.rules.specs.declared.Verdict.{Verdict}
 use Rattle.rules.specs.declared.Verdict.TheVariants.{Refused}
-use Rattle.rules.specs.State.{besideOf}
-use Rattle.rules.specs.Refusal.{highOne}
-use Rattle.rules.specs.Answer.{judgedOf, verdictOf, unless}
+use Rattle.rules.specs.State.{beside_of}
+use Rattle.rules.specs.Refusal.{high_one}
+use Rattle.rules.specs.Answer.{judged_of, verdict_of, unless}
 use Rattle.rules.specs.Accepted.{Accepted}
-use Rattle.refusals.specs.Shared.{ruleRefusal}
+use Rattle.refusals.specs.Shared.{rule_refusal}
 use Rattle.rules.proofs.Unless.{unless-some, after_none, after-some}
 use Rattle.refusals.proofs.Laws.{verdict-after, accepted}
 use Rattle.verdict.specs.Outcome.{Judged}
@@ -22,18 +22,18 @@ use Rattle.verdict.proofs.verdict_on.Statement.{statement}
 use Rattle.verdict.proofs.verdict_on.Tie as tie
 
 module _ (rule : Rule) (n : ℕ) (ws more : List ℕ) (w : ℕ) where
-  refused : (r : ℕ) → r ≡ ruleRefusal rule n ws more → (r ≡ 0 → ⊥) → Judged rule n ws more w (Refused r)
-  unfolding verdictOf
+  refused : (r : ℕ) → r ≡ rule_refusal rule n ws more → (r ≡ 0 → ⊥) → Judged rule n ws more w (Refused r)
+  unfolding verdict_of
   refused r e h =
-      judged (sym (rw (verdict-after rule n ws more w, ← e, after-some r (cond (highOne n w) 9 0) h) (unless-some r Refused _ h)))
+      judged (sym (rw (verdict-after rule n ws more w, ← e, after-some r (cond (high_one n w) 9 0) h) (unless-some r Refused _ h)))
 
-  high_is : ruleRefusal rule n ws more ≡ 0 → highOne n w ≡ true → Judged rule n ws more w (Refused 9)
-  unfolding verdictOf unless
-  high_is z h = judged (rw (verdict-after rule n ws more w, after_none _ (cond (highOne n w) 9 0) z, h))
+  high_is : rule_refusal rule n ws more ≡ 0 → high_one n w ≡ true → Judged rule n ws more w (Refused 9)
+  unfolding verdict_of unless
+  high_is z h = judged (rw (verdict-after rule n ws more w, after_none _ (cond (high_one n w) 9 0) z, h))
 
-  accepted-is : {r : Verdict} → ruleRefusal rule n ws more ≡ 0 → highOne n w ≡ false → r ≡ judgedOf rule n ws more w → Judged rule n ws more w r
-  unfolding verdictOf unless
-  accepted-is z h e = judged (rw (verdict-after rule n ws more w, after_none _ (cond (highOne n w) 9 0) z, h) e)
+  accepted-is : {r : Verdict} → rule_refusal rule n ws more ≡ 0 → high_one n w ≡ false → r ≡ judged_of rule n ws more w → Judged rule n ws more w r
+  unfolding verdict_of unless
+  accepted-is z h e = judged (rw (verdict-after rule n ws more w, after_none _ (cond (high_one n w) 9 0) z, h) e)
 
 rule-refusal-requires : tie.Need-rule-refusal-requires
 rule-refusal-requires c κs = search rules
@@ -42,14 +42,14 @@ returns : tie.Need-returns
 returns c = refused _ _ _ _ _ _ c.before.rule-refusal.ensures c.if1.true
 
 -- what the first test leaves
-none : (c : tie.Else1) → let a = c.before.before.before.before.args in ruleRefusal a.rule a.n a.weights.now a.more.now ≡ 0
+none : (c : tie.Else1) → let a = c.before.before.before.before.args in rule_refusal a.rule a.n a.weights.now a.more.now ≡ 0
 none c = sym c.before.rule-refusal.ensures ∙ c.if1.false
 
-sound : (c : tie.Else1) → let a = c.before.before.before.before.args in Accepted a.rule a.n (besideOf a.rule a.weights.now a.more.now)
+sound : (c : tie.Else1) → let a = c.before.before.before.before.args in Accepted a.rule a.n (beside_of a.rule a.weights.now a.more.now)
 sound c = accepted _ _ _ _ (none c)
 
 high-one-requires : tie.Need-high-one-requires
-high-one-requires c κs = ((sound c).size_low, (sound c).size-high)
+high-one-requires c κs = ((sound c).size_low, (sound c).size_high)
 
 returns-2 : tie.Need-returns-2
 returns-2 c = high_is _ _ _ _ _ (none c.before.before) (sym c.before.high_one.ensures ∙ c.if2.true)

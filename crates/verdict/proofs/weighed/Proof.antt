@@ -7,24 +7,24 @@ use native.Mathlib.Omega.{arith}
 use native.Mathlib.Numerals.{add-one}
 use lib.ListN.{length, get_or}
 use borrow.Author.Rules.{rules}
-use Rattle.rules.specs.Below.{sumBelow}
+use Rattle.rules.specs.Below.{sum_below}
 use Rattle.rules.specs.State.{number_of, down}
-use Rattle.rules.specs.Verdict.{weightDown}
+use Rattle.rules.specs.Verdict.{weight_down}
 use Rattle.refusals.specs.Shared.{largest}
 use Rattle.verdict.proofs.Windows.{weight-down, weight-most}
 use Rattle.verdict.proofs.weighed.Statement.{statement}
 use Rattle.verdict.proofs.weighed.Tie as tie
 
-none : (ws : List ℕ) (w : ℕ) → weightDown 0 ws w ≡ 0
-unfolding weightDown sumBelow
+none : (ws : List ℕ) (w : ℕ) → weight_down 0 ws w ≡ 0
+unfolding weight_down sum_below
 none ws w = refl
 
-next : (i : ℕ) (ws : List ℕ) (w : ℕ) → weightDown (i + 1) ws w ≡ weightDown i ws w + cond (down i w) (get_or ws i 0) 0
-unfolding weightDown sumBelow number_of
+next : (i : ℕ) (ws : List ℕ) (w : ℕ) → weight_down (i + 1) ws w ≡ weight_down i ws w + cond (down i w) (get_or ws i 0) 0
+unfolding weight_down sum_below number_of
 next i ws w = rw (add-one i)
 
 abbrev invariant-loop : tie.invariant-loop
-invariant-loop n weights w sum₀ i₀ sum i = (i ≤ length weights) × (sum ≤ largest * i) × (sum ≡ weightDown i weights w)
+invariant-loop n weights w sum₀ i₀ sum i = (i ≤ length weights) × (sum ≤ largest * i) × (sum ≡ weight_down i weights w)
 
 abbrev decreases-loop : tie.decreases-loop
 decreases-loop n weights w sum₀ i₀ sum i = length weights - i

@@ -1,7 +1,7 @@
 -- `rate` raises the first level one component a turn and reads the start. Assumes nothing.
 use Prim.Native.Nat.{◌-◌, ◌≤◌}
 use native.Mathlib.Omega.{arith}
-use Rattle.rules.specs.Pairs.{pairsOf}
+use Rattle.rules.specs.Pairs.{pairs_of}
 use Rattle.units.specs.Step.{whole}
 use Rattle.places.specs.Cells.{Kept}
 use Rattle.places.proofs.Cells.{kept-none, kept_trans}
@@ -12,7 +12,7 @@ use Rattle.windows.proofs.rate.Statement.{statement}
 use Rattle.windows.proofs.rate.Tie as tie
 
 abbrev invariant-loop : tie.invariant-loop
-invariant-loop decimal first second more survival table₀ n oldest s₀ table s = Levelled (whole decimal) (pairsOf first second more) oldest survival s table × Kept table₀ table × (s.left ≤ n)
+invariant-loop decimal first second more survival table₀ n oldest s₀ table s = Levelled (whole decimal) (pairs_of first second more) oldest survival s table × Kept table₀ table × (s.left ≤ n)
 
 abbrev decreases-loop : tie.decreases-loop
 decreases-loop decimal first second more survival table₀ n oldest s₀ table s = n - s.left

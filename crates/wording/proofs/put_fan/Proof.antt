@@ -2,7 +2,7 @@
 use native.Mathlib.Omega.{arith}
 use Rattle.text.specs.Decimal.{text}
 use Rattle.text.proofs.Adding.{put-added, named-added, named-reach, added_more}
-use Rattle.wording.specs.Lines.{fanText}
+use Rattle.wording.specs.Lines.{fan_text}
 use Rattle.wording.proofs.Lengths.{some-short}
 use borrow.Author.Rules.{rules}
 use Rattle.wording.proofs.put_fan.Statement.{statement}
@@ -64,7 +64,7 @@ same_length : tie.Need-same-length
 same_length c = search rules
 
 returns : tie.Need-returns
-unfolding fanText
+unfolding fan_text
 returns c =
     let after-put-arg = c.before.before.before.before in
     let after-put-some2 = after-put-arg.before.before.before in

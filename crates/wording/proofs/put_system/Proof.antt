@@ -1,7 +1,7 @@
 -- `put_system` meets its contract: the rule, the stretch and the line's end fit. Assumes nothing.
 use native.Mathlib.Omega.{arith}
 use Rattle.text.proofs.Adding.{put-added, added_more}
-use Rattle.wording.specs.Lines.{systemText}
+use Rattle.wording.specs.Lines.{system_text}
 use Rattle.wording.proofs.Lengths.{rule-short, stretch-short}
 use borrow.Author.Rules.{rules}
 use Rattle.wording.proofs.put_system.Statement.{statement}
@@ -53,7 +53,7 @@ same_length : tie.Need-same-length
 same_length c = search rules
 
 returns : tie.Need-returns
-unfolding systemText
+unfolding system_text
 returns c =
     let after-put-arg3 = c.before.before.before.before in
     let after-put-stretch = after-put-arg3.before.before.before in

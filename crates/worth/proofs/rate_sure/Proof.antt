@@ -4,7 +4,7 @@ use borrow.Author.Rules.{rules}
 use mathlib.Core.Path.{◌≡◌, refl, ◌∙◌}
 use Prim.Native.Nat.{◌≤◌, zero-le}
 use native.Mathlib.Omega.{arith}
-use Rattle.rules.specs.Asked.{Asked, asked_of, unitIn}
+use Rattle.rules.specs.Asked.{Asked, asked_of, unit_in}
 use Rattle.worth.proofs.Asking.{swappable, within, found}
 use Rattle.worth.proofs.rate_sure.Statement.{statement}
 use Rattle.worth.proofs.rate_sure.Tie as tie
@@ -28,10 +28,10 @@ abbrev start : tie.After-rate → tie.After-whole
 start c = c.before.before
 
 -- the number of a fan that is sure to work
-unit : (c : tie.After-whole) → c.whole.result ≡ unitIn (asked (entry c))
+unit : (c : tie.After-whole) → c.whole.result ≡ unit_in (asked (entry c))
 unit c = c.whole.ensures ∙ c.before.is-decimal.ensures
 
-not-above : (c : tie.After-whole) → c.whole.result ≤ unitIn (asked (entry c))
+not-above : (c : tie.After-whole) → c.whole.result ≤ unit_in (asked (entry c))
 not-above c = omega (arith, unit c)
 
 is-decimal-requires : tie.Need-is-decimal-requires

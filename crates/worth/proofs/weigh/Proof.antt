@@ -2,8 +2,8 @@
 use borrow.Author.Rules.{rules}
 use mathlib.Core.Path.{◌≡◌, sym, ap, ◌∙◌}
 use Rattle.rules.specs.Asked.{asked_of}
-use Rattle.rules.specs.Worth.{worthRefusal}
-use Rattle.swaps.specs.Compared.{fanRefusal}
+use Rattle.rules.specs.Worth.{worth_refusal}
+use Rattle.swaps.specs.Compared.{fan_refusal}
 use Rattle.swaps.proofs.Compared.{compared-refused}
 use Rattle.worth.proofs.Outcome.{answered-found}
 use Rattle.worth.proofs.weigh.Statement.{statement}
@@ -18,10 +18,10 @@ entry c =
 
 refused : (c : tie.After-fan-refusal) → let x = (entry c).args in
     c.fan-refusal.result
-    ≡ worthRefusal (asked_of x.question x.survival.now x.weights.now x.more.now x.boards.now x.switchboards.now) x.fan x.table.now
+    ≡ worth_refusal (asked_of x.question x.survival.now x.weights.now x.more.now x.boards.now x.switchboards.now) x.fan x.table.now
 refused c =
     let x = (entry c).args in
-    c.fan-refusal.ensures ∙ ap (λ own. fanRefusal own x.question.a x.fan x.question.b) c.before.refusal.ensures
+    c.fan-refusal.ensures ∙ ap (λ own. fan_refusal own x.question.a x.fan x.question.b) c.before.refusal.ensures
 
 refusal-requires : tie.Need-refusal-requires
 refusal-requires c κs = search rules

@@ -6,20 +6,20 @@ use lib.IntN.{pos}
 use mir.Syntax.{w64}
 use mir.ValLaws.{to_z-of_z}
 use borrow.Author.Rules.{rules, sfits_of}
-use Rattle.rules.specs.File.{worthIn}
-use Rattle.rules.specs.Below.{listBelow}
+use Rattle.rules.specs.File.{worth_in}
+use Rattle.rules.specs.Below.{list_below}
 use Rattle.arrays.specs.Padded.{padded}
 use Rattle.arrays.proofs.Lists.{Filled, filled_none, filled_more, filled-all}
 use Rattle.deck.proofs.Kept.{few-fans}
-use Rattle.drawn.specs.Drawn.{mostDrawn}
-use Rattle.worths.specs.Worths.{lowerEnd, upperEnd}
+use Rattle.drawn.specs.Drawn.{most_drawn}
+use Rattle.worths.specs.Worths.{lower_end, upper_end}
 use Rattle.worths.proofs.worths_of.Statement.{statement}
 use Rattle.worths.proofs.worths_of.Tie as tie
 
 abbrev invariant-loop : tie.invariant-loop
 invariant-loop file head s lower₀ upper₀ i₀ lower upper i =
-    Filled mostDrawn (pos 0) (λ j. lowerEnd (worthIn file s (j + 1))) head.fans lower i
-    × Filled mostDrawn (pos 0) (λ j. upperEnd (worthIn file s (j + 1))) head.fans upper i
+    Filled most_drawn (pos 0) (λ j. lower_end (worth_in file s (j + 1))) head.fans lower i
+    × Filled most_drawn (pos 0) (λ j. upper_end (worth_in file s (j + 1))) head.fans upper i
 
 abbrev decreases-loop : tie.decreases-loop
 decreases-loop file head s lower₀ upper₀ i₀ lower upper i = head.fans - i
@@ -75,8 +75,8 @@ loop-again c =
     let worth = c.before.before.weigh.ensures in
     let low = c.before.lower_of in
     let high = c.upper_of in (
-      filled_more l.invariant.0 at_test.if1.true few (to_z-of_z w64 low.result (sfits_of low.type-inv) ∙ low.ensures ∙ ap lowerEnd worth),
-      filled_more l.invariant.1 at_test.if1.true few (to_z-of_z w64 high.result (sfits_of high.type-inv) ∙ high.ensures ∙ ap upperEnd worth),
+      filled_more l.invariant.0 at_test.if1.true few (to_z-of_z w64 low.result (sfits_of low.type-inv) ∙ low.ensures ∙ ap lower_end worth),
+      filled_more l.invariant.1 at_test.if1.true few (to_z-of_z w64 high.result (sfits_of high.type-inv) ∙ high.ensures ∙ ap upper_end worth),
     )
 
 returns : tie.Need-returns invariant-loop decreases-loop
@@ -88,8 +88,8 @@ returns c =
     let s = start.args.s in
     let fans = start.requires.headed.says.fans in
     record {
-      lower = filled-all l.invariant.0 c.if1.false ∙ ap (λ n. padded mostDrawn (pos 0) (listBelow n (λ j. lowerEnd (worthIn bytes s (j + 1))))) fans;
-      upper = filled-all l.invariant.1 c.if1.false ∙ ap (λ n. padded mostDrawn (pos 0) (listBelow n (λ j. upperEnd (worthIn bytes s (j + 1))))) fans;
+      lower = filled-all l.invariant.0 c.if1.false ∙ ap (λ n. padded most_drawn (pos 0) (list_below n (λ j. lower_end (worth_in bytes s (j + 1))))) fans;
+      upper = filled-all l.invariant.1 c.if1.false ∙ ap (λ n. padded most_drawn (pos 0) (list_below n (λ j. upper_end (worth_in bytes s (j + 1))))) fans;
     }
 
 pub worths-of-spec : {M : Type 1} → statement M

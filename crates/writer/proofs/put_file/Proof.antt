@@ -5,19 +5,19 @@ use Prim.Native.Nat.{ℕ, ◌-◌, ◌≤◌}
 use native.Mathlib.Omega.{arith}
 use lib.ListN.{length, take, drop}
 use lib.Seq.{take_all}
-use Rattle.rules.specs.Boards.{boardsRead}
-use Rattle.rules.specs.File.{fileLength}
-use Rattle.rules.specs.Writing.{Typed, typed_of, writeRefusal}
+use Rattle.rules.specs.Boards.{boards_read}
+use Rattle.rules.specs.File.{file_length}
+use Rattle.rules.specs.Writing.{Typed, typed_of, write_refusal}
 use Rattle.layout.proofs.Versions.{fans-bound}
-use Rattle.writer.proofs.Writable.{count, boardsTyped, bytes-long, few-typed, fans-typed, listed, Writable, writable, whole-read}
+use Rattle.writer.proofs.Writable.{count, boards_typed, bytes-long, few-typed, fans-typed, listed, Writable, writable, whole-read}
 use Rattle.writer.proofs.Parts.{file-laid}
 use borrow.Author.Rules.{rules}
 use Rattle.writer.proofs.put_file.Statement.{statement}
 use Rattle.writer.proofs.put_file.Tie as tie
 
 -- what is not refused, and how long its file is
-sound : (t : Typed) (room : List ℕ) → writeRefusal t room ≡ 0
-    → Writable t room × (fileLength t.version (length t.survival) (boardsTyped t) (count t) ≤ length room)
+sound : (t : Typed) (room : List ℕ) → write_refusal t room ≡ 0
+    → Writable t room × (file_length t.version (length t.survival) (boards_typed t) (count t) ≤ length room)
 sound t room none =
     let w = writable t room none in
     let placed = fans-typed t.version (length t.survival) t.boards t.switchboards w.counted w.placed in
@@ -44,7 +44,7 @@ put-header-requires c κs =
     let x = start.args in
     let w = s.0 in
     let few = few-typed x.version (length x.survival.now) x.boards.now x.switchboards.now w.counted w.placed in
-    record { versioned = w.versioned; few = w.most-fans; boards = rw after-numbers-read.numbers-read.ensures few; fewer = w.most-systems; fits = omega (arith, s.1) }
+    record { versioned = w.versioned; few = w.most_fans; boards = rw after-numbers-read.numbers-read.ensures few; fewer = w.most-systems; fits = omega (arith, s.1) }
 
 header-length-requires : tie.Need-header-length-requires
 header-length-requires c κs = search rules
@@ -65,7 +65,7 @@ weights-offset-requires c κs =
     let after-boards-read = after-put-header.before.before.before in
     let known3 = after-boards-read.before.before.before.before in
     let start = known3.before.before.before in
-    omega (arith, (sound _ _ start.requires).0.most-fans)
+    omega (arith, (sound _ _ start.requires).0.most_fans)
 
 put-all2-requires : tie.Need-put-all2-requires
 put-all2-requires c κs =
@@ -75,7 +75,7 @@ put-all2-requires c κs =
     let known3 = after-boards-read.before.before.before.before in
     let start = known3.before.before.before in
     let s = sound _ _ start.requires in
-    omega (arith, c.weights-offset.ensures.0, s.0.weighed, s.1)
+    omega (arith, c.weights_offset.ensures.0, s.0.weighed, s.1)
 
 boards-offset-requires : tie.Need-boards-offset-requires
 boards-offset-requires c κs =
@@ -85,7 +85,7 @@ boards-offset-requires c κs =
     let after-boards-read = after-room.before.before.before.before in
     let known3 = after-boards-read.before.before.before.before in
     let start = known3.before.before.before in
-    omega (arith, (sound _ _ start.requires).0.most-fans)
+    omega (arith, (sound _ _ start.requires).0.most_fans)
 
 put-all1-requires : tie.Need-put-all1-requires
 put-all1-requires c κs =
@@ -102,7 +102,7 @@ put-all1-requires c κs =
     let w = s.0 in
     let placed = fans-typed x.version (length x.survival.now) x.boards.now x.switchboards.now w.counted w.placed in
     let read = ap length (after-boards-read.boards-read.ensures ∙ whole-read x.version _ x.boards.now x.switchboards.now w.counted w.placed) in
-    omega (arith, c.boards-offset.ensures.0, s.1, placed, read, after-put-all2.put-all2.auto, after-put-all4.put-all4.auto, after-put-header.put-header.auto)
+    omega (arith, c.boards_offset.ensures.0, s.1, placed, read, after-put-all2.put-all2.auto, after-put-all4.put-all4.auto, after-put-header.put-header.auto)
 
 board-survival-offset-requires : tie.Need-board-survival-offset-requires
 board-survival-offset-requires c κs =
@@ -113,7 +113,7 @@ board-survival-offset-requires c κs =
     let after-numbers-read = known2.before.before.before.before in
     let known4 = after-numbers-read.before.before.before.before in
     let start = known4.before.before.before.before in
-    omega (arith, (sound _ _ start.requires).0.most-fans)
+    omega (arith, (sound _ _ start.requires).0.most_fans)
 
 put-all4-requires-2 : tie.Need-put-all4-requires-2
 put-all4-requires-2 c κs =
@@ -143,7 +143,7 @@ systems-offset-requires c κs =
     let x = start.args in
     let w = s.0 in
     let few = few-typed x.version (length x.survival.now) x.boards.now x.switchboards.now w.counted w.placed in
-    (omega (arith, w.most-fans), omega (arith, ap length after-numbers-read.numbers-read.ensures))
+    (omega (arith, w.most_fans), omega (arith, ap length after-numbers-read.numbers-read.ensures))
 
 put-all2-requires-2 : tie.Need-put-all2-requires-2
 put-all2-requires-2 c κs =
@@ -162,7 +162,7 @@ put-all2-requires-2 c κs =
     let s = sound _ _ start.requires in
     omega (
       arith,
-      c.systems-offset.ensures.0,
+      c.systems_offset.ensures.0,
       ap length after-numbers-read.numbers-read.ensures,
       s.0.whole,
       s.1,
@@ -197,9 +197,9 @@ returns c =
     let w = s.0 in
     let read = after-boards-read.boards-read.ensures ∙ whole-read x.version _ x.boards.now x.switchboards.now w.counted w.placed in
     file-laid _ _ w (rw after-numbers-read.numbers-read.ensures at after-put-header.put-header.ensures) (rw after-header-length.header-length.ensures.0 at after-put-all4.put-all4.ensures)
-    (rw after-weights-offset.weights-offset.ensures.0 at after-put-all2.put-all2.ensures) (rw (after-boards-offset.boards-offset.ensures.0, read) at after-put-all1.put-all1.ensures)
+    (rw after-weights-offset.weights_offset.ensures.0 at after-put-all2.put-all2.ensures) (rw (after-boards-offset.boards_offset.ensures.0, read) at after-put-all1.put-all1.ensures)
     (rw (after-board-survival-offset.board-survival-offset.ensures.0, after-numbers-read.numbers-read.ensures) at after-put-all42.put-all42.ensures)
-    (rw (after-systems-offset.systems-offset.ensures.0, after-numbers-read.numbers-read.ensures) at c.before.before.put-all22.ensures)
+    (rw (after-systems-offset.systems_offset.ensures.0, after-numbers-read.numbers-read.ensures) at c.before.before.put-all22.ensures)
 
 pub put-file-spec : {M : Type 1} → statement M
 put-file-spec =

@@ -3,8 +3,8 @@ use mathlib.Core.Path.{ap, ◌∙◌}
 use mathlib.Core.List.{[], ◌∷◌}
 use native.Mathlib.Omega.{arith}
 use lib.ListN.{length}
-use Rattle.rules.specs.Boards.{boardsRead}
-use Rattle.rules.specs.File.{all_bytes, survivalField, boardCountField, countsOf}
+use Rattle.rules.specs.Boards.{boards_read}
+use Rattle.rules.specs.File.{all_bytes, survival_field, board_count_field, counts_of}
 use Rattle.layout.proofs.Header.{version-fits}
 use Rattle.layout.proofs.Versions.{header-bounds, fans-bound}
 use Rattle.writer.specs.Laid.{laid}
@@ -49,7 +49,7 @@ cast-systems c =
     let after-counts = after-room.before.before.before in
     let start = after-counts.before.before in
     let x = start.args in
-    record { fits = omega (arith, c.systems-offset.ensures.0, header-bounds x.version, fans-bound x.version x.n, start.requires.few, start.requires.boards) }
+    record { fits = omega (arith, c.systems_offset.ensures.0, header-bounds x.version, fans-bound x.version x.n, start.requires.few, start.requires.boards) }
 
 slice-aggregate-put-all4 : tie.Need-slice-aggregate-put-all4
 slice-aggregate-put-all4 c = search rules
@@ -84,7 +84,7 @@ put-all4-requires-2 c κs =
     let after-put-all2 = after-weights-offset.before.before.before.before in
     let start = after-put-all2.before.before.before.before in
     let x = start.args in
-    omega (arith, start.requires.fits, ap length c.before.numbers-read.ensures, last_fits x.version x.g after-boards-offset.boards-offset.result)
+    omega (arith, start.requires.fits, ap length c.before.numbers-read.ensures, last_fits x.version x.g after-boards-offset.boards_offset.result)
 
 same_length : tie.Need-same-length
 same_length c = search rules
@@ -101,8 +101,8 @@ returns c =
     let start = after-put-all2.before.before.before.before in
     let x = start.args in
     header-laid x.version x.n x.g x.m x.room.now start.requires.fits after-put-all2.put-all2.ensures
-    (rw (after-header-length.header-length.ensures.0, after-weights-offset.weights-offset.ensures.0, after-systems-offset.systems-offset.ensures.0) at after-put-all4.put-all4.ensures)
-    (rw (after-numbers-read.numbers-read.ensures, after-boards-offset.boards-offset.ensures.0) at c.before.before.put-all42.ensures)
+    (rw (after-header-length.header-length.ensures.0, after-weights-offset.weights_offset.ensures.0, after-systems-offset.systems_offset.ensures.0) at after-put-all4.put-all4.ensures)
+    (rw (after-numbers-read.numbers-read.ensures, after-boards-offset.boards_offset.ensures.0) at c.before.before.put-all42.ensures)
 
 pub put-header-spec : {M : Type 1} → statement M
 put-header-spec =

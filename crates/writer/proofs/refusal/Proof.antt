@@ -4,8 +4,8 @@ use mathlib.Core.List.{[]}
 use native.Mathlib.Omega.{arith}
 use lib.ListN.{length}
 use borrow.Author.Tests.{lt-ltb, le-ltb, eqb-true, not-false}
-use Rattle.rules.specs.File.{mostFans}
-use Rattle.rules.specs.Writing.{typed_of, writeRefusal}
+use Rattle.rules.specs.File.{most_fans}
+use Rattle.rules.specs.Writing.{typed_of, write_refusal}
 use Rattle.rules.proofs.EachKind.{within-true}
 use Rattle.rules.proofs.Unless.{after_none, after-some}
 use Rattle.rules.proofs.Accepted.{first-of, first-after}
@@ -20,21 +20,21 @@ version-out-requires : tie.Need-version-out-requires
 version-out-requires c κs = search rules
 
 returns : tie.Need-returns
-unfolding writeRefusal
+unfolding write_refusal
 returns c = sym (first-of 11 _ _ (sym c.before.version-out.ensures ∙ c.if1.true))
 
 size-out-requires : tie.Need-size-out-requires
 size-out-requires c κs = search rules
 
 returns-2 : tie.Need-returns-2
-unfolding writeRefusal
+unfolding write_refusal
 returns-2 c = sym (first-after 11 _ _ (sym c.before.before.before.version-out.ensures ∙ c.before.before.if1.false) ∙ first-of 2 _ _ (sym c.before.size-out.ensures ∙ c.if2.true))
 
 bad-fives-requires : tie.Need-bad-fives-requires
 bad-fives-requires c κs = search rules
 
 returns-3 : tie.Need-returns-3
-unfolding writeRefusal
+unfolding write_refusal
 returns-3 c =
     let after-size-out = c.before.before.before in
     let else1 = after-size-out.before in
@@ -42,7 +42,7 @@ returns-3 c =
     sym (first-after 11 _ _ (sym after-version-out.version-out.ensures ∙ else1.if1.false) ∙ first-after 2 _ _ (sym after-size-out.size-out.ensures ∙ c.before.before.if2.false) ∙ first-of 5 _ _ c.if3.true)
 
 returns-4 : tie.Need-returns-4
-unfolding writeRefusal
+unfolding write_refusal
 returns-4 c =
     let else2 = c.before.before.before in
     let after-size-out = else2.before in
@@ -80,7 +80,7 @@ file-size-requires c κs =
     let t = typed_of x.version x.survival.now x.weights.now x.boards.now x.switchboards.now x.systems.now in
     let past = typed-sound t c.before.refusal.ensures c.if5.false in
     record {
-      few = (within-true 1 _ mostFans (not-false _ (sym after-size-out.size-out.ensures ∙ else2.if2.false))).1;
+      few = (within-true 1 _ most_fans (not-false _ (sym after-size-out.size-out.ensures ∙ else2.if2.false))).1;
       boards = few-typed x.version (length x.survival.now) x.boards.now x.switchboards.now past.0 past.1;
       fewer = (fives _ (sym after-bad-fives.bad-fives.ensures ∙ c.before.before.if4.false)).2;
     }

@@ -30,7 +30,7 @@ file-size-requires c κs =
     let x = start.args in
     let w = writable _ _ (sym after-refusal.refusal.ensures ∙ else1.if1.false) in
     record {
-      few = w.most-fans;
+      few = w.most_fans;
       boards = few-typed x.version (length x.survival.now) x.boards.now x.switchboards.now w.counted w.placed;
       fewer = w.most-systems;
     }

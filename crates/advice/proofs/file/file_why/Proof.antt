@@ -2,11 +2,11 @@
 use mathlib.Core.Path.{sym, ap, ◌∙◌}
 use lib.ListN.{length}
 use borrow.Author.Tests.{lt-ltb, le-ltb}
-use Rattle.rules.specs.Refusal.{badVersion}
-use Rattle.rules.specs.File.{shortestHeader, versionIn}
+use Rattle.rules.specs.Refusal.{bad_version}
+use Rattle.rules.specs.File.{shortest_header, version_in}
 use Rattle.advice.specs.Words.{because}
-use Rattle.advice.specs.File.{fileWhy}
-use Rattle.advice.specs.Causes.{unknownVersion}
+use Rattle.advice.specs.File.{file_why}
+use Rattle.advice.specs.Causes.{unknown_version}
 use borrow.Author.Rules.{rules}
 use Rattle.advice.proofs.file.file_why.Statement.{statement}
 use Rattle.advice.proofs.file.file_why.Tie as tie
@@ -15,8 +15,8 @@ because-requires : tie.Need-because-requires
 because-requires c κs = search rules
 
 returns : tie.Need-returns
-unfolding fileWhy
-returns c = rw (lt-ltb (length c.before.before.before.args.file.now) shortestHeader c.before.if1.true) c.because.ensures
+unfolding file_why
+returns c = rw (lt-ltb (length c.before.before.before.args.file.now) shortest_header c.before.if1.true) c.because.ensures
 
 number2-requires : tie.Need-number2-requires
 number2-requires c κs = search rules
@@ -28,25 +28,25 @@ because-requires-2 : tie.Need-because-requires-2
 because-requires-2 c κs = search rules
 
 returns-2 : tie.Need-returns-2
-unfolding fileWhy
+unfolding file_why
 returns-2 c =
     let asked = c.before.before in
     let read = asked.before in
     let bytes = read.before.before.before.args.file.now in
     let version = read.number2.ensures in
-    rw (le-ltb (length bytes) shortestHeader read.before.if1.false, sym (asked.version-out.ensures ∙ ap badVersion version) ∙ c.before.if2.true)
-    (c.because2.ensures ∙ ap (λ v. because unknownVersion v 0 0 0) version)
+    rw (le-ltb (length bytes) shortest_header read.before.if1.false, sym (asked.version-out.ensures ∙ ap bad_version version) ∙ c.before.if2.true)
+    (c.because2.ensures ∙ ap (λ v. because unknown_version v 0 0 0) version)
 
 header-why-requires : tie.Need-header-why-requires
 header-why-requires c κs = search rules
 
 returns-3 : tie.Need-returns-3
-unfolding fileWhy
+unfolding file_why
 returns-3 c =
     let asked = c.before.before in
     let read = asked.before in
     let bytes = read.before.before.before.args.file.now in
-    rw (le-ltb (length bytes) shortestHeader read.before.if1.false, sym (asked.version-out.ensures ∙ ap badVersion read.number2.ensures) ∙ c.before.if2.false)
+    rw (le-ltb (length bytes) shortest_header read.before.if1.false, sym (asked.version-out.ensures ∙ ap bad_version read.number2.ensures) ∙ c.before.if2.false)
     c.header-why.ensures
 
 pub file-why-spec : {M : Type 1} → statement M

@@ -1,7 +1,7 @@
 -- `system::lists_why` takes the tests of `whyOf`: 1, then the stretch. Assumes nothing.
 use mathlib.Core.Path.{sym, ◌∙◌}
 use borrow.Author.Tests.{eq-eqb, ne_eqb}
-use Rattle.advice.specs.System.{whyOf}
+use Rattle.advice.specs.System.{why_of}
 use borrow.Author.Rules.{rules}
 use Rattle.advice.proofs.system.lists_why.Statement.{statement}
 use Rattle.advice.proofs.system.lists_why.Tie as tie
@@ -10,7 +10,7 @@ because-requires : tie.Need-because-requires
 because-requires c κs = search rules
 
 returns : tie.Need-returns
-unfolding whyOf
+unfolding why_of
 returns c =
     let at_test = c.before in
     let start = at_test.before.before.before.before in
@@ -23,7 +23,7 @@ because-requires-2 : tie.Need-because-requires-2
 because-requires-2 c κs = search rules
 
 returns-2 : tie.Need-returns-2
-unfolding whyOf
+unfolding why_of
 returns-2 c =
     let asked = c.before.before in
     let at_test = asked.before in
@@ -38,7 +38,7 @@ rated-why-requires c κs =
     (sym asked.stretch-out.ensures ∙ c.if2.false, (start.requires.0, start.requires.1))
 
 returns-3 : tie.Need-returns-3
-unfolding whyOf
+unfolding why_of
 returns-3 c =
     let asked = c.before.before in
     let at_test = asked.before in

@@ -6,8 +6,8 @@ use lib.ListN.{length}
 use borrow.Author.Tests.{eq-eqb, ne_eqb}
 use Rattle.rules.proofs.Accepted.{in-stretch}
 use Rattle.advice.specs.Words.{because}
-use Rattle.advice.specs.System.{aboveWhy, rangeWhy, ratedWhy}
-use Rattle.advice.specs.Causes.{tooHeavy}
+use Rattle.advice.specs.System.{above_why, range_why, rated_why}
+use Rattle.advice.specs.Causes.{too_heavy}
 use borrow.Author.Rules.{rules}
 use Rattle.advice.proofs.system.rated_why.Statement.{statement}
 use Rattle.advice.proofs.system.rated_why.Tie as tie
@@ -27,7 +27,7 @@ above-why-requires : tie.Need-above-why-requires
 above-why-requires c κs = search rules
 
 returns : tie.Need-returns
-unfolding ratedWhy
+unfolding rated_why
 returns c =
     let unit = c.before in
     let at_test = unit.before.before in
@@ -35,7 +35,7 @@ returns c =
     let given = start.args in
     rw (eq-eqb given.number 4 at_test.if1.true)
     (c.above-why.ensures
-    ∙ ap (λ u. aboveWhy u given.system.a given.system.b given.survival.now given.switchboards.now) (unit.whole.ensures ∙ unit.before.is-decimal.ensures))
+    ∙ ap (λ u. above_why u given.system.a given.system.b given.survival.now given.switchboards.now) (unit.whole.ensures ∙ unit.before.is-decimal.ensures))
 
 weight-from-requires : tie.Need-weight-from-requires
 weight-from-requires c κs =
@@ -47,13 +47,13 @@ because-requires : tie.Need-because-requires
 because-requires c κs = search rules
 
 returns-2 : tie.Need-returns-2
-unfolding ratedWhy
+unfolding rated_why
 returns-2 c =
     let weighed = c.before.before in
     let at_test = weighed.before in
     let start = at_test.before.before.before.before in
     rw (ne_eqb start.args.number 4 at_test.if1.false, eq-eqb start.args.number 5 c.before.if2.true)
-    (c.because.ensures ∙ ap (λ w. because tooHeavy w 0 0 0) weighed.weight-from.ensures)
+    (c.because.ensures ∙ ap (λ w. because too_heavy w 0 0 0) weighed.weight-from.ensures)
 
 sub-range-why : tie.Need-overflow-sub-range-why
 sub-range-why c =
@@ -66,7 +66,7 @@ range-why-requires : tie.Need-range-why-requires
 range-why-requires c κs = search rules
 
 returns-3 : tie.Need-returns-3
-unfolding ratedWhy
+unfolding rated_why
 returns-3 c =
     let at_last = c.before.before in
     let weighed = at_last.before in
@@ -74,7 +74,7 @@ returns-3 c =
     let start = at_test.before.before.before.before in
     let given = start.args in
     rw (ne_eqb given.number 4 at_test.if1.false, ne_eqb given.number 5 at_last.if2.false)
-    (c.range-why.ensures ∙ ap (λ w. rangeWhy given.system.rule (given.system.b - (given.system.a - 1)) w) weighed.weight-from.ensures)
+    (c.range-why.ensures ∙ ap (λ w. range_why given.system.rule (given.system.b - (given.system.a - 1)) w) weighed.weight-from.ensures)
 
 pub rated-why-spec : {M : Type 1} → statement M
 rated-why-spec =

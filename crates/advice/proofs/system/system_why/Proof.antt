@@ -2,9 +2,9 @@
 use mathlib.Core.Path.{sym, ◌∙◌}
 use native.Mathlib.Omega.{arith}
 use lib.Seq.{length-take-le}
-use Rattle.rules.specs.File.{deckIn}
+use Rattle.rules.specs.File.{deck_in}
 use Rattle.deck.proofs.Kept.{few-fans, few-boards, lent-survival, lent-weights, lent-numbers}
-use Rattle.advice.specs.System.{whyOf, systemWhy}
+use Rattle.advice.specs.System.{why_of, system_why}
 use borrow.Author.Rules.{rules}
 use Rattle.advice.proofs.system.system_why.Statement.{statement}
 use Rattle.advice.proofs.system.system_why.Tie as tie
@@ -58,7 +58,7 @@ lists-why-requires c κs =
     (sym weights ∙ fans, (omega (arith, fans, few-fans h), omega (arith, boards, few-boards h)))
 
 returns : tie.Need-returns
-unfolding systemWhy deckIn
+unfolding system_why deck_in
 returns c =
     let system = c.before.before.before.before in
     let read = system.before.before.before in
@@ -68,7 +68,7 @@ returns c =
     let weights = lent-weights h system.before.before.weights-in.ensures in
     let numbers = lent-numbers h system.before.board-survival-in.ensures in
     c.lists-why.ensures
-    ∙ (λ i. whyOf (h.says.version i) (system.system-in.ensures i) start.args.number (survival i) (weights i) (numbers i))
+    ∙ (λ i. why_of (h.says.version i) (system.system-in.ensures i) start.args.number (survival i) (weights i) (numbers i))
 
 pub system-why-spec : {M : Type 1} → statement M
 system-why-spec =

@@ -3,7 +3,7 @@ use mathlib.Core.Path.{◌≡◌, refl}
 use Prim.Native.Nat.{◌-◌, ◌≤◌}
 use native.Mathlib.Omega.{arith}
 use borrow.Author.Rules.{rules}
-use Rattle.advice.specs.System.{aboveFrom}
+use Rattle.advice.specs.System.{above_from}
 use Rattle.advice.proofs.Scanning.{Searched, none-searched, one-searched, found, not_found}
 use Rattle.advice.proofs.why.above_from.Statement.{statement}
 use Rattle.advice.proofs.why.above_from.Tie as tie

@@ -7,7 +7,7 @@ use borrow.Author.Tests.{not-true, not-false}
 use Rattle.rules.specs.Below.{within}
 use Rattle.rules.specs.Refusal.{ranged}
 use Rattle.rules.proofs.EachKind.{within-true}
-use Rattle.advice.specs.System.{lackingRule}
+use Rattle.advice.specs.System.{lacking_rule}
 use borrow.Author.Rules.{rules}
 use Rattle.advice.proofs.why.near_why.Statement.{statement}
 use Rattle.advice.proofs.why.near_why.Tie as tie
@@ -52,7 +52,7 @@ returns-2 c =
     let second = given.second in
     rw (
       not-false (within 1 first second) (sym test.before.outside.ensures ∙ test.if1.false),
-      not-true (ranged (lackingRule (second - first + 1) second) given.n 0 []) (sym range.range-out.ensures ∙ c.before.if2.true),
+      not-true (ranged (lacking_rule (second - first + 1) second) given.n 0 []) (sym range.range-out.ensures ∙ c.before.if2.true),
     ) c.because2.ensures
 
 because-requires-3 : tie.Need-because-requires-3
@@ -67,7 +67,7 @@ returns-3 c =
     let second = given.second in
     rw (
       not-false (within 1 first second) (sym test.before.outside.ensures ∙ test.if1.false),
-      not-false (ranged (lackingRule (second - first + 1) second) given.n 0 []) (sym range.range-out.ensures ∙ c.before.if2.false),
+      not-false (ranged (lacking_rule (second - first + 1) second) given.n 0 []) (sym range.range-out.ensures ∙ c.before.if2.false),
     ) c.because3.ensures
 
 pub near-why-spec : {M : Type 1} → statement M

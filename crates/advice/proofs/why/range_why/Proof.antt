@@ -1,6 +1,6 @@
 -- `why::range_why` meets its contract: each arm is the row of its kind, and what is left are the kinds of failed ones in a row. Assumes nothing.
 use borrow.Author.Tests.{ne_eqb}
-use Rattle.advice.specs.System.{rangeWhy}
+use Rattle.advice.specs.System.{range_why}
 use borrow.Author.Rules.{rules}
 use Rattle.advice.proofs.why.range_why.Statement.{statement}
 use Rattle.advice.proofs.why.range_why.Tie as tie
@@ -27,31 +27,31 @@ one-why-requires-2 : tie.Need-one-why-requires-2
 one-why-requires-2 c κs = search rules
 
 returns : tie.Need-returns
-unfolding rangeWhy
+unfolding range_why
 returns c = rw c.before.match.keys1 c.one-why.ensures
 
 returns-2 : tie.Need-returns-2
-unfolding rangeWhy
+unfolding range_why
 returns-2 c = rw c.before.match.keys2 c.weight-why.ensures
 
 returns-3 : tie.Need-returns-3
-unfolding rangeWhy
+unfolding range_why
 returns-3 c = rw c.before.match.keys3 c.because.ensures
 
 returns-4 : tie.Need-returns-4
-unfolding rangeWhy
+unfolding range_why
 returns-4 c = rw c.before.match.keys4 c.near-why.ensures
 
 returns-5 : tie.Need-returns-5
-unfolding rangeWhy
+unfolding range_why
 returns-5 c = rw c.before.match.keys5 c.ring-why.ensures
 
 returns-6 : tie.Need-returns-6
-unfolding rangeWhy
+unfolding range_why
 returns-6 c = rw c.before.match.keys6 c.because2.ensures
 
 returns-7 : tie.Need-returns-7
-unfolding rangeWhy
+unfolding range_why
 returns-7 c =
     let kind = c.before.before.args.rule.kind in
     let none8 = c.before.match.rest in

@@ -7,22 +7,22 @@ use native.Mathlib.Omega.{arith}
 use native.Mathlib.Numerals.{add-one}
 use lib.ListN.{length, get_or, take, length-set}
 use lib.Seq.{take-suc-set}
-use Rattle.rules.specs.Below.{listBelow}
+use Rattle.rules.specs.Below.{list_below}
 use Rattle.rules.specs.State.{number_of}
-use Rattle.rules.specs.Boards.{boardDown, lost, behind}
+use Rattle.rules.specs.Boards.{board_down, lost, behind}
 use Rattle.rules.specs.Refusal.{most}
 use borrow.Author.Rules.{rules}
 use Rattle.boards.proofs.fans.behind.Statement.{statement}
 use Rattle.boards.proofs.fans.behind.Tie as tie
 
 abbrev invariant-loop : tie.invariant-loop
-invariant-loop survival boards out numbers₀ i₀ numbers i = (i ≤ length survival) × (length numbers ≡ most) × (take i numbers ≡ listBelow i (λ k. cond (lost boards out (suc k)) 0 (number_of survival (suc k))))
+invariant-loop survival boards out numbers₀ i₀ numbers i = (i ≤ length survival) × (length numbers ≡ most) × (take i numbers ≡ list_below i (λ k. cond (lost boards out (suc k)) 0 (number_of survival (suc k))))
 
 abbrev decreases-loop : tie.decreases-loop
 decreases-loop survival boards out numbers₀ i₀ numbers i = length survival - i
 
 loop-holds : tie.Need-loop-init invariant-loop decreases-loop
-unfolding listBelow
+unfolding list_below
 loop-holds c = (omega arith, refl, refl)
 
 board-of-requires : tie.Need-board-of-requires invariant-loop decreases-loop
@@ -55,14 +55,14 @@ loop-less : tie.Need-loop-smaller invariant-loop decreases-loop
 loop-less c = omega arith
 
 loop-again : tie.Need-loop-preserved invariant-loop decreases-loop
-unfolding listBelow number_of
+unfolding list_below number_of
 loop-again c =
     let judged = c.before.before in
     let found = judged.before in
     let at = found.before.before in
     let x = at.before.before.before.args in
     let l = at.loop in
-    let lost = judged.board-down.ensures ∙ ap (boardDown x.out) found.board-of.ensures in
+    let lost = judged.board-down.ensures ∙ ap (board_down x.out) found.board-of.ensures in
     let number = c.left.ensures ∙ ap (λ b. cond b 0 (get_or x.survival.now l.i 0)) lost in (
       omega arith,
       length-set l.numbers l.i _ ∙ l.invariant.1,

@@ -8,7 +8,7 @@ use native.Mathlib.Omega.{arith}
 use native.Mathlib.Decide.{dec_lt}
 use lib.ListN.{length, get_or, get_or-eq_default}
 use borrow.Author.Count.{below_more}
-use Rattle.rules.specs.Boards.{boardDown}
+use Rattle.rules.specs.Boards.{board_down}
 use Rattle.boards.proofs.Working.{either}
 use Rattle.boards.proofs.fans.felt.Statement.{statement}
 use Rattle.boards.proofs.fans.felt.Tie as tie
@@ -22,7 +22,7 @@ inside boards i some = go (dec_lt i (length boards))
     go (no l) = absurd (omega (arith, get_or-eq_default boards 0 {n = i} (omega arith)))
 
 abbrev invariant-loop : tie.invariant-loop
-invariant-loop boards set₀ i₀ set i = (i ≤ length boards) × ((k : ℕ) → k < i → 1 ≤ get_or boards k 0 → boardDown set (get_or boards k 0) ≡ true)
+invariant-loop boards set₀ i₀ set i = (i ≤ length boards) × ((k : ℕ) → k < i → 1 ≤ get_or boards k 0 → board_down set (get_or boards k 0) ≡ true)
 
 abbrev decreases-loop : tie.decreases-loop
 decreases-loop boards set₀ i₀ set i = length boards - i

@@ -1,26 +1,26 @@
 -- `tables::checksum` meets its contract: the sum is what the cells passed come to, modulo 2^64. Assumes nothing.
 use Rattle.std.proofs.Common.{◌≡◌, ℕ, ◌+◌, ◌-◌, ◌*◌, ◌%◌, ◌^◌, ◌≤◌, List, length, get_or, sym, refl, ap, ◌∙◌, add-one, arith, rules}
 use native.Mathlib.Nat.{add-mod}
-use Rattle.rules.specs.Below.{sumBelow}
-use Rattle.casefile.specs.Tables.{weighedSum}
+use Rattle.rules.specs.Below.{sum_below}
+use Rattle.casefile.specs.Tables.{weighed_sum}
 use Rattle.casefile.proofs.tables.checksum.Statement.{statement}
 use Rattle.casefile.proofs.tables.checksum.Tie as tie
 
-none : (cells : List ℕ) → 0 ≡ weighedSum cells 0 % 2 ^ 64
-unfolding sumBelow
+none : (cells : List ℕ) → 0 ≡ weighed_sum cells 0 % 2 ^ 64
+unfolding sum_below
 none cells = refl
 
-next : (cells : List ℕ) (i s t : ℕ) → s ≡ weighedSum cells i % 2 ^ 64 → t ≡ (i + 1) * get_or cells i 0 % 2 ^ 64
-    → (s + t) % 2 ^ 64 ≡ weighedSum cells (i + 1) % 2 ^ 64
-unfolding sumBelow
+next : (cells : List ℕ) (i s t : ℕ) → s ≡ weighed_sum cells i % 2 ^ 64 → t ≡ (i + 1) * get_or cells i 0 % 2 ^ 64
+    → (s + t) % 2 ^ 64 ≡ weighed_sum cells (i + 1) % 2 ^ 64
+unfolding sum_below
 next cells i s t p q =
     ap (λ x. (x + t) % 2 ^ 64) p
-    ∙ ap (λ y. (weighedSum cells i % 2 ^ 64 + y) % 2 ^ 64) q
-    ∙ sym (add-mod (weighedSum cells i) ((i + 1) * get_or cells i 0) (2 ^ 64))
-    ∙ ap (λ k. weighedSum cells k % 2 ^ 64) (sym (add-one i))
+    ∙ ap (λ y. (weighed_sum cells i % 2 ^ 64 + y) % 2 ^ 64) q
+    ∙ sym (add-mod (weighed_sum cells i) ((i + 1) * get_or cells i 0) (2 ^ 64))
+    ∙ ap (λ k. weighed_sum cells k % 2 ^ 64) (sym (add-one i))
 
 abbrev invariant-loop : tie.invariant-loop
-invariant-loop cells sum₀ i₀ sum i = (i ≤ length cells) × (sum ≡ weighedSum cells i % 2 ^ 64)
+invariant-loop cells sum₀ i₀ sum i = (i ≤ length cells) × (sum ≡ weighed_sum cells i % 2 ^ 64)
 
 abbrev decreases-loop : tie.decreases-loop
 decreases-loop cells sum₀ i₀ sum i = length cells - i

@@ -1,29 +1,29 @@
 -- `tables::rubbish` meets its contract: the table so far has the numbers after the seed in its first k cells. Assumes nothing.
 use Rattle.std.proofs.Common.{◌≡◌, ℕ, ◌+◌, ◌-◌, ◌*◌, ◌%◌, ◌^◌, length, sym, refl, ap, ◌∙◌, add-one, arith, length-set, rules}
 use native.Mathlib.Nat.{mod-add-mod}
-use Rattle.casefile.specs.Tables.{factor, step, rubbishAt, rubbishIn}
+use Rattle.casefile.specs.Tables.{factor, step, rubbish_at, rubbish_in}
 use Rattle.casefile.specs.Begins.{Begins}
 use Rattle.casefile.proofs.Beginning.{begins-none, begins-more, begins-all}
 use Rattle.casefile.proofs.tables.rubbish.Statement.{statement}
 use Rattle.casefile.proofs.tables.rubbish.Tie as tie
 
-first : (seed : ℕ) → seed ≡ rubbishAt seed 0
-unfolding rubbishAt
+first : (seed : ℕ) → seed ≡ rubbish_at seed 0
+unfolding rubbish_at
 first seed = refl
 
-next : (seed k x y z : ℕ) → x ≡ rubbishAt seed k → y ≡ x * factor % 2 ^ 64 → z ≡ (y + step) % 2 ^ 64
-    → z ≡ rubbishAt seed (k + 1)
-unfolding rubbishAt
+next : (seed k x y z : ℕ) → x ≡ rubbish_at seed k → y ≡ x * factor % 2 ^ 64 → z ≡ (y + step) % 2 ^ 64
+    → z ≡ rubbish_at seed (k + 1)
+unfolding rubbish_at
 next seed k x y z p q r =
     r
     ∙ ap (λ v. (v + step) % 2 ^ 64) q
     ∙ mod-add-mod (x * factor) (2 ^ 64) step
     ∙ ap (λ v. (v * factor + step) % 2 ^ 64) p
-    ∙ ap (rubbishAt seed) (sym (add-one k))
+    ∙ ap (rubbish_at seed) (sym (add-one k))
 
 abbrev invariant-loop : tie.invariant-loop
 invariant-loop seed cells₀ x₀ k₀ cells x k =
-    (x ≡ rubbishAt seed k) × Begins (rubbishIn seed) cells₀ cells k
+    (x ≡ rubbish_at seed k) × Begins (rubbish_in seed) cells₀ cells k
 
 abbrev decreases-loop : tie.decreases-loop
 decreases-loop seed cells₀ x₀ k₀ cells x k = length cells - k
@@ -55,7 +55,7 @@ loop-again c =
     let start = at-loop.before.before in
     let l = at-loop.loop in
     let seed = start.args.seed in
-    let e : c.wrapping-add-u64.result ≡ rubbishAt seed (l.k + 1) =
+    let e : c.wrapping-add-u64.result ≡ rubbish_at seed (l.k + 1) =
     next seed l.k l.x c.before.times.result _ l.invariant.0 c.before.times.ensures c.wrapping-add-u64.ensures in
     (e, begins-more l.invariant.1 _ c.before.before.loop-test.true e)
 

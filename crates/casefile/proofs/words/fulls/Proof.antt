@@ -1,6 +1,6 @@
 -- `words::fulls` meets its contract: the list so far has the words in its first k places. Assumes nothing.
 use Rattle.std.proofs.Common.{◌-◌, length, arith, length-set, rules}
-use Rattle.casefile.specs.Words.{wordsFrom}
+use Rattle.casefile.specs.Words.{words_from}
 use Rattle.casefile.specs.Begins.{Begins}
 use Rattle.casefile.proofs.Beginning.{begins-none, begins-more, begins-all}
 use Rattle.casefile.proofs.words.fulls.Statement.{statement}
@@ -8,7 +8,7 @@ use Rattle.casefile.proofs.words.fulls.Tie as tie
 
 abbrev invariant-loop : tie.invariant-loop
 invariant-loop bytes at into₀ k₀ into k =
-    Begins (wordsFrom bytes at) into₀ into k
+    Begins (words_from bytes at) into₀ into k
 
 abbrev decreases-loop : tie.decreases-loop
 decreases-loop bytes at into₀ k₀ into k = length into - k

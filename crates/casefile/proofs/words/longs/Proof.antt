@@ -1,6 +1,6 @@
 -- `words::longs` meets its contract: the list so far has the words in its first k places. Assumes nothing.
 use Rattle.std.proofs.Common.{◌-◌, ◌%◌, length, ap, arith, length-set, rules}
-use Rattle.casefile.specs.Words.{lowWords, longLimit}
+use Rattle.casefile.specs.Words.{low_words, long_limit}
 use Rattle.casefile.specs.Begins.{Begins}
 use Rattle.casefile.proofs.Beginning.{begins-none, begins-more, begins-all}
 use Rattle.casefile.proofs.words.longs.Statement.{statement}
@@ -8,7 +8,7 @@ use Rattle.casefile.proofs.words.longs.Tie as tie
 
 abbrev invariant-loop : tie.invariant-loop
 invariant-loop bytes at into₀ k₀ into k =
-    Begins (lowWords longLimit bytes at) into₀ into k
+    Begins (low_words long_limit bytes at) into₀ into k
 
 abbrev decreases-loop : tie.decreases-loop
 decreases-loop bytes at into₀ k₀ into k = length into - k
@@ -39,7 +39,7 @@ loop-less c = simp length-set (omega arith)
 
 loop-again : tie.Need-loop-preserved invariant-loop decreases-loop
 loop-again c =
-    begins-more c.before.before.loop.invariant _ c.before.loop-test.true (ap (λ x. x % longLimit) c.word.ensures)
+    begins-more c.before.before.loop.invariant _ c.before.loop-test.true (ap (λ x. x % long_limit) c.word.ensures)
 
 same_length : tie.Need-same-length invariant-loop decreases-loop
 same_length c = c.before.loop.invariant.kept

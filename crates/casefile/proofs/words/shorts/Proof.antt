@@ -1,6 +1,6 @@
 -- `words::shorts` meets its contract: the list so far has the words in its first k places. Assumes nothing.
 use Rattle.std.proofs.Common.{◌-◌, ◌%◌, length, ap, arith, length-set, rules}
-use Rattle.casefile.specs.Words.{lowWords, shortLimit}
+use Rattle.casefile.specs.Words.{low_words, short_limit}
 use Rattle.casefile.specs.Begins.{Begins}
 use Rattle.casefile.proofs.Beginning.{begins-none, begins-more, begins-all}
 use Rattle.casefile.proofs.words.shorts.Statement.{statement}
@@ -8,7 +8,7 @@ use Rattle.casefile.proofs.words.shorts.Tie as tie
 
 abbrev invariant-loop : tie.invariant-loop
 invariant-loop bytes at into₀ k₀ into k =
-    Begins (lowWords shortLimit bytes at) into₀ into k
+    Begins (low_words short_limit bytes at) into₀ into k
 
 abbrev decreases-loop : tie.decreases-loop
 decreases-loop bytes at into₀ k₀ into k = length into - k
@@ -39,7 +39,7 @@ loop-less c = simp length-set (omega arith)
 
 loop-again : tie.Need-loop-preserved invariant-loop decreases-loop
 loop-again c =
-    begins-more c.before.before.loop.invariant _ c.before.loop-test.true (ap (λ x. x % shortLimit) c.word.ensures)
+    begins-more c.before.before.loop.invariant _ c.before.loop-test.true (ap (λ x. x % short_limit) c.word.ensures)
 
 same_length : tie.Need-same-length invariant-loop decreases-loop
 same_length c = c.before.loop.invariant.kept

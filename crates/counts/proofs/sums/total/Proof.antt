@@ -3,7 +3,7 @@ use mathlib.Core.Path.{◌≡◌, refl}
 use Prim.Native.Nat.{◌+◌, ◌-◌, ◌≤◌}
 use native.Mathlib.Omega.{arith}
 use lib.ListN.{get_or}
-use Rattle.rules.specs.Below.{sumBelow}
+use Rattle.rules.specs.Below.{sum_below}
 use Rattle.counts.specs.Sums.{Summable}
 use Rattle.bins.proofs.Filling.{sum_step}
 use borrow.Author.Rules.{rules}
@@ -11,13 +11,13 @@ use Rattle.counts.proofs.sums.total.Statement.{statement}
 use Rattle.counts.proofs.sums.total.Tie as tie
 
 abbrev invariant-loop : tie.invariant-loop
-invariant-loop k from table sum₀ s₀ sum s = (s ≤ k) × Summable k from table × (sum ≡ sumBelow s (λ s. get_or table (from + s) 0))
+invariant-loop k from table sum₀ s₀ sum s = (s ≤ k) × Summable k from table × (sum ≡ sum_below s (λ s. get_or table (from + s) 0))
 
 abbrev decreases-loop : tie.decreases-loop
 decreases-loop k from table sum₀ s₀ sum s = k - s
 
 loop-holds : tie.Need-loop-init invariant-loop decreases-loop
-unfolding sumBelow
+unfolding sum_below
 loop-holds c = (search rules, search rules, refl)
 
 cell-requires : tie.Need-cell-requires invariant-loop decreases-loop

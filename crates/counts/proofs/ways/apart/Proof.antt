@@ -2,7 +2,7 @@
 use Prim.Native.Nat.{◌≤◌}
 use native.Mathlib.Nat.{mul-le-mul}
 use native.Mathlib.Omega.{arith}
-use Rattle.counts.specs.Ways.{apartOf}
+use Rattle.counts.specs.Ways.{apart_of}
 use borrow.Author.Rules.{rules}
 use Rattle.counts.proofs.ways.apart.Statement.{statement}
 use Rattle.counts.proofs.ways.apart.Tie as tie
@@ -17,7 +17,7 @@ left-requires c κs =
     (p.size, omega (arith, mul-le-mul few p.owes), p.folded)
 
 returns : tie.Need-returns
-unfolding apartOf
+unfolding apart_of
 returns c = rw c.before.rest.ensures at c.left.ensures
 
 pub apart-spec : {M : Type 1} → statement M

@@ -4,14 +4,14 @@ use Prim.Native.Nat.{◌+◌, ◌*◌, ◌^◌, ◌<◌}
 use native.Mathlib.Nat.{mul-le-mul}
 use native.Mathlib.Omega.{arith}
 use borrow.Author.Tests.{ne_eqb}
-use Rattle.counts.specs.Ways.{ringOf}
+use Rattle.counts.specs.Ways.{ring_of}
 use Rattle.counts.proofs.Apart.{ring-fits}
 use borrow.Author.Rules.{rules}
 use Rattle.counts.proofs.ways.ring.Statement.{statement}
 use Rattle.counts.proofs.ways.ring.Tie as tie
 
 returns : tie.Need-returns
-unfolding ringOf
+unfolding ring_of
 returns c = rw c.if1.true
 
 left-requires : tie.Need-left-requires
@@ -31,8 +31,8 @@ left-requires-2 c κs =
 -- both terms are the ring's count, which fits
 both : (c : tie.After-left2)
     → (let a = c.before.before.before.args in
-    (c.before.left.result + a.owed * c.left2.result ≡ ringOf a.owed a.n a.j) × (ringOf a.owed a.n a.j < 2 ^ 64))
-unfolding ringOf
+    (c.before.left.result + a.owed * c.left2.result ≡ ring_of a.owed a.n a.j) × (ring_of a.owed a.n a.j < 2 ^ 64))
+unfolding ring_of
 both c =
     let a = c.before.before.before.args in (
       rw (ne_eqb _ _ c.before.before.if1.false, c.before.left.ensures, c.left2.ensures),

@@ -1,6 +1,6 @@
 -- `lines::list_front` meets its contract: what is printed for the front is printed for the input. Assumes nothing.
 use Rattle.printing.proofs.Printed.{whole-worded}
-use Rattle.decklist.specs.Lines.{listText}
+use Rattle.decklist.specs.Lines.{list_text}
 use borrow.Author.Rules.{rules}
 use Rattle.decklist.proofs.lines.list_front.Statement.{statement}
 use Rattle.decklist.proofs.lines.list_front.Tie as tie
@@ -18,7 +18,7 @@ returns : tie.Need-returns
 returns c =
     let front = c.before.before.before.before in
     let start = front.before.before in
-    whole-worded start.args.words (listText start.args.percent start.args.words) front.front_of.ensures c.before.before.put-file.ensures
+    whole-worded start.args.words (list_text start.args.percent start.args.words) front.front_of.ensures c.before.before.put-file.ensures
 
 pub list-front-spec : {M : Type 1} → statement M
 list-front-spec = tie.close (tie.spec front-of-requires put-file-requires same_length returns)

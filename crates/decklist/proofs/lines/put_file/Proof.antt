@@ -3,7 +3,7 @@ use native.Mathlib.Omega.{arith}
 use Rattle.text.proofs.Adding.{added_more}
 use Rattle.deck.proofs.Outcome.{opened-headed}
 use Rattle.printing.proofs.Printed.{refused-worded, body-worded}
-use Rattle.decklist.specs.Lines.{headText, listText}
+use Rattle.decklist.specs.Lines.{head_text, list_text}
 use Rattle.decklist.proofs.Lengths.{head-short}
 use borrow.Author.Rules.{rules}
 use Rattle.decklist.proofs.lines.put_file.Statement.{statement}
@@ -23,7 +23,7 @@ returns c =
     let at_test = c.before.before.before.before in
     let opened = at_test.before.before in
     let start = opened.before.before.before in
-    refused-worded start.args.words (listText start.args.percent start.args.words) opened.«open».ensures at_test.if1.true c.before.before.put-worded-file.ensures
+    refused-worded start.args.words (list_text start.args.percent start.args.words) opened.«open».ensures at_test.if1.true c.before.before.put-worded-file.ensures
 
 put-head-requires : tie.Need-put-head-requires
 put-head-requires c κs = search rules
@@ -50,7 +50,7 @@ returns-2 c =
     let opened = at_test.before.before in
     let start = opened.before.before.before in
     let says = (opened-headed opened.«open».ensures at_test.if1.false).says in
-    body-worded start.args.words (listText start.args.percent start.args.words) opened.«open».ensures at_test.if1.false
+    body-worded start.args.words (list_text start.args.percent start.args.words) opened.«open».ensures at_test.if1.false
     (added_more (rw (says.fans, says.systems) at headed.put-head.ensures) c.before.before.put-systems.ensures)
 
 pub put-file-spec : {M : Type 1} → statement M

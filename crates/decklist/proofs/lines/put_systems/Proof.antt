@@ -4,17 +4,17 @@ use mathlib.Core.Path.{ap}
 use Prim.Native.Nat.{◌+◌, ◌-◌}
 use native.Mathlib.Omega.{arith}
 use Rattle.rules.specs.State.{unit_of}
-use Rattle.rules.specs.File.{mostSystems, versionIn, answer_in}
+use Rattle.rules.specs.File.{most_systems, version_in, answer_in}
 use Rattle.deck.proofs.Kept.{few-systems}
-use Rattle.printing.specs.Lines.{linesText}
+use Rattle.printing.specs.Lines.{lines_text}
 use Rattle.printing.proofs.Lined.{Lined, no_lines, room-left, one_more, all_lines}
-use Rattle.decklist.specs.Lines.{lineRoom, whyIn, systemLine}
+use Rattle.decklist.specs.Lines.{line_room, why_in, system_line}
 use Rattle.decklist.proofs.Lengths.{line-short}
 use Rattle.decklist.proofs.lines.put_systems.Statement.{statement}
 use Rattle.decklist.proofs.lines.put_systems.Tie as tie
 
 abbrev invariant-loop : tie.invariant-loop
-invariant-loop percent words file head out₀ at end₀ s₀ out end s = Lined head.systems (systemLine percent words file) out₀ at out end s
+invariant-loop percent words file head out₀ at end₀ s₀ out end s = Lined head.systems (system_line percent words file) out₀ at out end s
 
 abbrev decreases-loop : tie.decreases-loop
 decreases-loop percent words file head out₀ at end₀ s₀ out end s = head.systems - s
@@ -28,9 +28,9 @@ put-system-requires c κs =
     let start = in-loop.before.before.before in
     let bytes = start.args.file.now in
     let headed = start.requires.0 in
-    let u = unit_of (versionIn bytes) in (
+    let u = unit_of (version_in bytes) in (
       record { headed = headed; place = c.before.if1.true },
-      room-left in-loop.loop.invariant lineRoom mostSystems (λ s. line-short start.args.percent start.args.words u (s + 1) (whyIn bytes s) (answer_in bytes s)) c.before.if1.true (few-systems headed)
+      room-left in-loop.loop.invariant line_room most_systems (λ s. line-short start.args.percent start.args.words u (s + 1) (why_in bytes s) (answer_in bytes s)) c.before.if1.true (few-systems headed)
           start.requires.1,
     )
 

@@ -8,19 +8,19 @@ use lib.ListN.{length}
 use borrow.Author.Rules.{rules}
 use Rattle.text.specs.Added.{Added}
 use Rattle.text.proofs.Adding.{none-added, added_more}
-use Rattle.deckmend.specs.Lines.{changesText}
+use Rattle.deckmend.specs.Lines.{changes_text}
 use Rattle.deckmend.proofs.Lengths.{changes-short}
 use Rattle.deckmend.proofs.mending.put_changes.Statement.{statement}
 use Rattle.deckmend.proofs.mending.put_changes.Tie as tie
 
 abbrev invariant-loop : tie.invariant-loop
-invariant-loop list changed out₀ end₀ i₀ out end i = (i ≤ changed) × (length out ≡ length out₀) × Added (changesText i list) out₀ 0 out end
+invariant-loop list changed out₀ end₀ i₀ out end i = (i ≤ changed) × (length out ≡ length out₀) × Added (changes_text i list) out₀ 0 out end
 
 abbrev decreases-loop : tie.decreases-loop
 decreases-loop list changed out₀ end₀ i₀ out end i = changed - i
 
 loop-holds : tie.Need-loop-init invariant-loop decreases-loop
-unfolding changesText
+unfolding changes_text
 loop-holds c = (omega arith, refl, none-added c.before.before.args.out.now 0)
 
 mul_at : tie.Need-overflow-mul-at invariant-loop decreases-loop
@@ -80,7 +80,7 @@ loop-less : tie.Need-loop-smaller invariant-loop decreases-loop
 loop-less c = omega arith
 
 loop-again : tie.Need-loop-preserved invariant-loop decreases-loop
-unfolding changesText
+unfolding changes_text
 loop-again c =
     let known4 = c.before.before.before.before in
     let at-loop = known4.before.before.before.before in

@@ -3,19 +3,19 @@
 use mathlib.Core.Path.{sym}
 use Prim.Native.Nat.{◌-◌}
 use native.Mathlib.Omega.{arith}
-use Rattle.rules.specs.Refusal.{mostBoards}
-use Rattle.rules.specs.File.{deckIn}
+use Rattle.rules.specs.Refusal.{most_boards}
+use Rattle.rules.specs.File.{deck_in}
 use Rattle.deck.proofs.Kept.{few-boards}
 use Rattle.printing.proofs.Lined.{Lined, no_lines, room-left, one_more, all_lines}
-use Rattle.wording.specs.Lines.{boardRoom}
-use Rattle.deckshow.specs.Lines.{boardLine}
+use Rattle.wording.specs.Lines.{board_room}
+use Rattle.deckshow.specs.Lines.{board_line}
 use Rattle.deckshow.proofs.Lengths.{board-line}
 use Rattle.deckshow.proofs.Shown.{boards-shown}
 use Rattle.deckshow.proofs.showing.put_boards.Statement.{statement}
 use Rattle.deckshow.proofs.showing.put_boards.Tie as tie
 
 abbrev invariant-loop : tie.invariant-loop
-invariant-loop file head out₀ at end₀ i₀ out end i = Lined head.boards (boardLine (deckIn file)) out₀ at out end i
+invariant-loop file head out₀ at end₀ i₀ out end i = Lined head.boards (board_line (deck_in file)) out₀ at out end i
 
 abbrev decreases-loop : tie.decreases-loop
 decreases-loop file head out₀ at end₀ i₀ out end i = head.boards - i
@@ -31,7 +31,7 @@ put-board-requires c κs =
       headed,
       (
         c.before.if1.true,
-        room-left in-loop.loop.invariant boardRoom mostBoards (board-line (deckIn start.args.file.now)) c.before.if1.true (few-boards headed) start.requires.1,
+        room-left in-loop.loop.invariant board_room most_boards (board-line (deck_in start.args.file.now)) c.before.if1.true (few-boards headed) start.requires.1,
       ),
     )
 

@@ -1,6 +1,6 @@
 -- `showing::put_deck` meets its contract: the lines of the version, the boards, the fans and the systems fit one after another. Assumes nothing.
 use native.Mathlib.Omega.{arith}
-use Rattle.rules.specs.File.{deckIn}
+use Rattle.rules.specs.File.{deck_in}
 use Rattle.text.proofs.Adding.{added_more}
 use Rattle.deckshow.proofs.Lengths.{version-short}
 use Rattle.deckshow.proofs.Shown.{boards-short, fans-short}
@@ -44,7 +44,7 @@ same_length : tie.Need-same-length
 same_length c = search rules
 
 returns : tie.Need-returns
-unfolding deckIn
+unfolding deck_in
 returns c =
     let last = c.before.before.before in
     let three = last.before.before.before in

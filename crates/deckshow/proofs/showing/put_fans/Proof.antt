@@ -3,19 +3,19 @@
 use mathlib.Core.Path.{sym}
 use Prim.Native.Nat.{◌-◌}
 use native.Mathlib.Omega.{arith}
-use Rattle.rules.specs.File.{mostFans}
-use Rattle.rules.specs.File.{deckIn}
+use Rattle.rules.specs.File.{most_fans}
+use Rattle.rules.specs.File.{deck_in}
 use Rattle.deck.proofs.Kept.{few-fans}
 use Rattle.printing.proofs.Lined.{Lined, no_lines, room-left, one_more, all_lines}
-use Rattle.wording.specs.Lines.{fanRoom}
-use Rattle.deckshow.specs.Lines.{fanLine}
+use Rattle.wording.specs.Lines.{fan_room}
+use Rattle.deckshow.specs.Lines.{fan_line}
 use Rattle.deckshow.proofs.Lengths.{fan-line}
 use Rattle.deckshow.proofs.Shown.{fans-shown}
 use Rattle.deckshow.proofs.showing.put_fans.Statement.{statement}
 use Rattle.deckshow.proofs.showing.put_fans.Tie as tie
 
 abbrev invariant-loop : tie.invariant-loop
-invariant-loop file head out₀ at end₀ i₀ out end i = Lined head.fans (fanLine (deckIn file)) out₀ at out end i
+invariant-loop file head out₀ at end₀ i₀ out end i = Lined head.fans (fan_line (deck_in file)) out₀ at out end i
 
 abbrev decreases-loop : tie.decreases-loop
 decreases-loop file head out₀ at end₀ i₀ out end i = head.fans - i
@@ -31,7 +31,7 @@ put-fan-requires c κs =
       headed,
       (
         c.before.if1.true,
-        room-left in-loop.loop.invariant fanRoom mostFans (fan-line (deckIn start.args.file.now)) c.before.if1.true (few-fans headed) start.requires.1,
+        room-left in-loop.loop.invariant fan_room most_fans (fan-line (deck_in start.args.file.now)) c.before.if1.true (few-fans headed) start.requires.1,
       ),
     )
 

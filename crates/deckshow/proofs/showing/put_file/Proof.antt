@@ -1,7 +1,7 @@
 -- `showing::put_file` meets its contract, on a refusal and on none. Assumes nothing.
 use Rattle.deck.proofs.Outcome.{opened-headed}
 use Rattle.printing.proofs.Printed.{refused-printed, body-printed}
-use Rattle.deckshow.specs.Lines.{showText}
+use Rattle.deckshow.specs.Lines.{show_text}
 use borrow.Author.Rules.{rules}
 use Rattle.deckshow.proofs.showing.put_file.Statement.{statement}
 use Rattle.deckshow.proofs.showing.put_file.Tie as tie
@@ -18,7 +18,7 @@ same_length c = search rules
 returns : tie.Need-returns
 returns c =
     let at_test = c.before.before.before.before in
-    refused-printed showText at_test.before.before.«open».ensures at_test.if1.true c.before.before.put-refused-file.ensures
+    refused-printed show_text at_test.before.before.«open».ensures at_test.if1.true c.before.before.put-refused-file.ensures
 
 put-deck-requires : tie.Need-put-deck-requires
 put-deck-requires c κs =
@@ -33,7 +33,7 @@ returns-2 : tie.Need-returns-2
 returns-2 c =
     let last = c.before.before.before in
     let at_test = last.before.before in
-    body-printed showText at_test.before.before.«open».ensures at_test.if1.false c.before.before.put-deck.ensures
+    body-printed show_text at_test.before.before.«open».ensures at_test.if1.false c.before.before.put-deck.ensures
 
 pub put-file-spec : {M : Type 1} → statement M
 put-file-spec =

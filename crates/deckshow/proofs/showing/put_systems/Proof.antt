@@ -3,19 +3,19 @@
 use mathlib.Core.Path.{sym}
 use Prim.Native.Nat.{◌-◌}
 use native.Mathlib.Omega.{arith}
-use Rattle.rules.specs.File.{mostSystems}
-use Rattle.rules.specs.File.{deckIn}
+use Rattle.rules.specs.File.{most_systems}
+use Rattle.rules.specs.File.{deck_in}
 use Rattle.deck.proofs.Kept.{few-systems}
 use Rattle.printing.proofs.Lined.{Lined, no_lines, room-left, one_more, all_lines}
-use Rattle.wording.specs.Lines.{systemRoom}
-use Rattle.deckshow.specs.Lines.{systemLine}
+use Rattle.wording.specs.Lines.{system_room}
+use Rattle.deckshow.specs.Lines.{system_line}
 use Rattle.deckshow.proofs.Lengths.{system-line}
 use Rattle.deckshow.proofs.Shown.{systems-shown}
 use Rattle.deckshow.proofs.showing.put_systems.Statement.{statement}
 use Rattle.deckshow.proofs.showing.put_systems.Tie as tie
 
 abbrev invariant-loop : tie.invariant-loop
-invariant-loop file head out₀ at end₀ s₀ out end s = Lined head.systems (systemLine (deckIn file)) out₀ at out end s
+invariant-loop file head out₀ at end₀ s₀ out end s = Lined head.systems (system_line (deck_in file)) out₀ at out end s
 
 abbrev decreases-loop : tie.decreases-loop
 decreases-loop file head out₀ at end₀ s₀ out end s = head.systems - s
@@ -29,7 +29,7 @@ put-system-requires c κs =
     let start = in-loop.before.before.before in
     let headed = start.requires.0 in (
       record { headed = headed; place = c.before.if1.true },
-      room-left in-loop.loop.invariant systemRoom mostSystems (system-line (deckIn start.args.file.now)) c.before.if1.true (few-systems headed) start.requires.1,
+      room-left in-loop.loop.invariant system_room most_systems (system-line (deck_in start.args.file.now)) c.before.if1.true (few-systems headed) start.requires.1,
     )
 
 add-s : tie.Need-overflow-add-s invariant-loop decreases-loop

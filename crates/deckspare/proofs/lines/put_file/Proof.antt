@@ -3,7 +3,7 @@ use mathlib.Core.Path.{ap, ◌∙◌}
 use Rattle.grammar.specs.Numbers.{parts}
 use Rattle.deck.proofs.Outcome.{opened-headed}
 use Rattle.printing.proofs.Printed.{refused-printed, body-printed}
-use Rattle.deckspare.specs.Lines.{listText}
+use Rattle.deckspare.specs.Lines.{list_text}
 use borrow.Author.Rules.{rules}
 use Rattle.deckspare.proofs.lines.put_file.Statement.{statement}
 use Rattle.deckspare.proofs.lines.put_file.Tie as tie
@@ -22,7 +22,7 @@ returns c =
     let at_test = c.before.before.before.before in
     let opened = at_test.before.before in
     let start = opened.before.before.before.before in
-    refused-printed (listText start.args.word.now start.args.wanted) at_test.before.before.«open».ensures at_test.if1.true c.before.before.put-refused-file.ensures
+    refused-printed (list_text start.args.word.now start.args.wanted) at_test.before.before.«open».ensures at_test.if1.true c.before.before.put-refused-file.ensures
 
 parts-requires : tie.Need-parts-requires
 parts-requires c κs = search rules
@@ -45,7 +45,7 @@ returns-2 c =
     let wanted = opened.before.before.before.before.args.wanted in
     let version = (opened-headed opened.«open».ensures at_test.if1.false).says.version in
     let p = counted.parts.ensures ∙ ap (λ v. parts v word) version in
-    body-printed (listText word wanted) opened.«open».ensures at_test.if1.false (rw p at c.before.before.put-systems.ensures)
+    body-printed (list_text word wanted) opened.«open».ensures at_test.if1.false (rw p at c.before.before.put-systems.ensures)
 
 pub put-file-spec : {M : Type 1} → statement M
 put-file-spec =

@@ -4,10 +4,10 @@ use mathlib.Core.Path.{◌≡◌, sym, ◌∙◌}
 use mathlib.Core.List.{[]}
 use native.Mathlib.Omega.{arith}
 use lib.Seq.{length-take-le}
-use Rattle.rules.specs.Asked.{Asked, questionOf, asked_of}
-use Rattle.rules.specs.File.{deckIn, systemIn, askedBy}
+use Rattle.rules.specs.Asked.{Asked, question_of, asked_of}
+use Rattle.rules.specs.File.{deck_in, system_in, asked_by}
 use Rattle.deck.proofs.Kept.{few-fans, few-boards, few-systems, lent-survival, lent-weights, lent-numbers}
-use Rattle.spare_lines.specs.System.{systemText}
+use Rattle.spare_lines.specs.System.{system_text}
 use Rattle.deckspare.proofs.lines.put_system.Statement.{statement}
 use Rattle.deckspare.proofs.lines.put_system.Tie as tie
 
@@ -61,7 +61,7 @@ same_length : tie.Need-same-length
 same_length c = search rules
 
 returns : tie.Need-returns
-unfolding deckIn
+unfolding deck_in
 returns c =
     let put = c.before.before in
     let read = put.before.before.before in
@@ -75,8 +75,8 @@ returns c =
     let numbers = lent-numbers h all.before.board-survival-in.ensures in
     let version = h.says.version in
     let system = all.system-in.ensures in
-    let same : _ ≡ systemText job (askedBy (deckIn (entry first).args.file.now) (systemIn (entry first).args.file.now job.s))
-    = λ i. systemText job (asked_of (questionOf (version i) (system i).rule (system i).a (system i).b) (survival i) (weights i) [] (boards i) (numbers i)) in
+    let same : _ ≡ system_text job (asked_by (deck_in (entry first).args.file.now) (system_in (entry first).args.file.now job.s))
+    = λ i. system_text job (asked_of (question_of (version i) (system i).rule (system i).a (system i).b) (survival i) (weights i) [] (boards i) (numbers i)) in
     rw (← same) put.put-asked.ensures
 
 pub put-system-spec : {M : Type 1} → statement M

@@ -2,17 +2,17 @@
 -- left. Assumes nothing.
 use Prim.Native.Nat.{◌-◌}
 use native.Mathlib.Omega.{arith}
-use Rattle.rules.specs.File.{mostSystems, deckIn, systemIn, askedBy}
+use Rattle.rules.specs.File.{most_systems, deck_in, system_in, asked_by}
 use Rattle.deck.proofs.Kept.{few-systems}
 use Rattle.printing.proofs.Lined.{Lined, no_lines, room-left, one_more, all_lines}
-use Rattle.spare_lines.specs.System.{systemRoom}
+use Rattle.spare_lines.specs.System.{system_room}
 use Rattle.spare_lines.proofs.Whole.{system-short}
-use Rattle.deckspare.specs.Lines.{job_of, systemLines}
+use Rattle.deckspare.specs.Lines.{job_of, system_lines}
 use Rattle.deckspare.proofs.lines.put_systems.Statement.{statement}
 use Rattle.deckspare.proofs.lines.put_systems.Tie as tie
 
 abbrev invariant-loop : tie.invariant-loop
-invariant-loop file head p wanted out₀ end₀ s₀ out end s = Lined head.systems (λ i. systemLines file (job_of p wanted i)) out₀ 0 out end s
+invariant-loop file head p wanted out₀ end₀ s₀ out end s = Lined head.systems (λ i. system_lines file (job_of p wanted i)) out₀ 0 out end s
 
 abbrev decreases-loop : tie.decreases-loop
 decreases-loop file head p wanted out₀ end₀ s₀ out end s = head.systems - s
@@ -27,7 +27,7 @@ put-system-requires c κs =
     let bytes = start.args.file.now in
     let headed = start.requires.0 in (
       record { headed = headed; place = c.before.if1.true },
-      room-left in-loop.loop.invariant systemRoom mostSystems (λ i. system-short (job_of start.args.p start.args.wanted i) (askedBy (deckIn bytes) (systemIn bytes i))) c.before.if1.true (few-systems headed) (omega (arith, start.requires.1)),
+      room-left in-loop.loop.invariant system_room most_systems (λ i. system-short (job_of start.args.p start.args.wanted i) (asked_by (deck_in bytes) (system_in bytes i))) c.before.if1.true (few-systems headed) (omega (arith, start.requires.1)),
     )
 
 add-s : tie.Need-overflow-add-s invariant-loop decreases-loop

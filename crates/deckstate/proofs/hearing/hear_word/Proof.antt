@@ -1,7 +1,7 @@
 -- `hearing::hear_word` meets its contract, test by test. Assumes nothing.
 use mathlib.Core.Path.{sym, ap, ◌∙◌}
 use borrow.Author.Tests.{eq-eqb, ne_eqb}
-use Rattle.deckstate.specs.Words.{boardHeard, heard}
+use Rattle.deckstate.specs.Words.{board_heard, heard}
 use borrow.Author.Rules.{rules}
 use Rattle.deckstate.proofs.hearing.hear_word.Statement.{statement}
 use Rattle.deckstate.proofs.hearing.hear_word.Tie as tie
@@ -23,7 +23,7 @@ returns-2 c =
     let listened = due.before in
     let x = listened.before.before.before.before.args in
     rw (eq-eqb _ 0 listened.if1.false, due.if2.true)
-    (c.board-heard.ensures ∙ ap (λ number. boardHeard x.g x.boards.now x.at number x.said.state) c.before.number_of_lem.ensures)
+    (c.board-heard.ensures ∙ ap (λ number. board_heard x.g x.boards.now x.at number x.said.state) c.before.number_of_lem.ensures)
 
 slice-aggregate-same : tie.Need-slice-aggregate-same
 slice-aggregate-same c = search rules

@@ -5,13 +5,13 @@ use native.Mathlib.Omega.{arith}
 use lib.ListN.{length, length-replicate}
 use Rattle.options.specs.Words.{Sound}
 use Rattle.deckstate.specs.declared.hearing.Hearing.{Hearing}
-use Rattle.deckstate.specs.Words.{longestWord}
+use Rattle.deckstate.specs.Words.{longest_word}
 use borrow.Author.Rules.{rules}
 use Rattle.deckstate.proofs.hearing.hear_words.Statement.{statement}
 use Rattle.deckstate.proofs.hearing.hear_words.Tie as tie
 
 abbrev invariant-loop : tie.invariant-loop
-invariant-loop n g boards count word₀ hearing₀ at₀ i₀ word hearing at i = (1 ≤ i) × (hearing.heard < i) × Sound hearing.asked × (length word ≡ longestWord)
+invariant-loop n g boards count word₀ hearing₀ at₀ i₀ word hearing at i = (1 ≤ i) × (hearing.heard < i) × Sound hearing.asked × (length word ≡ longest_word)
 
 abbrev decreases-loop : tie.decreases-loop
 decreases-loop n g boards count word₀ hearing₀ at₀ i₀ word hearing at i = count - i
@@ -23,7 +23,7 @@ silence-requires : tie.Need-silence-requires invariant-loop decreases-loop
 silence-requires c κs = search rules
 
 loop-holds : tie.Need-loop-init invariant-loop decreases-loop
-loop-holds c = (omega arith, omega (arith, ap (λ (h : Hearing). h.heard) c.silence.ensures.0), c.silence.ensures.1, length-replicate {A = ℕ} longestWord 0)
+loop-holds c = (omega arith, omega (arith, ap (λ (h : Hearing). h.heard) c.silence.ensures.0), c.silence.ensures.1, length-replicate {A = ℕ} longest_word 0)
 
 slice-aggregate-arg : tie.Need-slice-aggregate-arg invariant-loop decreases-loop
 slice-aggregate-arg c = sym c.before.before.loop.invariant.3

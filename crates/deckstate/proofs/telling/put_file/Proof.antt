@@ -2,7 +2,7 @@
 use native.Mathlib.Omega.{arith}
 use Rattle.deck.proofs.Outcome.{opened-headed}
 use Rattle.printing.proofs.Printed.{refused-printed, body-printed}
-use Rattle.deckstate.specs.Lines.{statesText}
+use Rattle.deckstate.specs.Lines.{states_text}
 use borrow.Author.Rules.{rules}
 use Rattle.deckstate.proofs.telling.put_file.Statement.{statement}
 use Rattle.deckstate.proofs.telling.put_file.Tie as tie
@@ -17,7 +17,7 @@ returns : tie.Need-returns
 returns c =
     let at_test = c.before.before.before.before in
     let start = at_test.before.before.before.before in
-    refused-printed (statesText start.args.state) start.requires.0 at_test.if1.true c.before.before.put-refused-file.ensures
+    refused-printed (states_text start.args.state) start.requires.0 at_test.if1.true c.before.before.put-refused-file.ensures
 
 put-systems-requires : tie.Need-put-systems-requires
 put-systems-requires c κs =
@@ -33,7 +33,7 @@ returns-2 c =
     let last = c.before.before.before in
     let at_test = last.before.before in
     let start = at_test.before.before.before.before in
-    body-printed (statesText start.args.state) start.requires.0 at_test.if1.false c.before.before.put-systems.ensures
+    body-printed (states_text start.args.state) start.requires.0 at_test.if1.false c.before.before.put-systems.ensures
 
 pub put-file-spec : {M : Type 1} → statement M
 put-file-spec =

@@ -2,17 +2,17 @@
 -- left. Assumes nothing.
 use Prim.Native.Nat.{◌+◌, ◌-◌}
 use native.Mathlib.Omega.{arith}
-use Rattle.rules.specs.File.{mostSystems}
+use Rattle.rules.specs.File.{most_systems}
 use Rattle.deck.proofs.Kept.{few-systems}
-use Rattle.states.specs.States.{verdictIn}
+use Rattle.states.specs.States.{verdict_in}
 use Rattle.printing.proofs.Lined.{Lined, no_lines, room-left, one_more, all_lines}
-use Rattle.deckstate.specs.Lines.{lineRoom, systemLine}
+use Rattle.deckstate.specs.Lines.{line_room, system_line}
 use Rattle.deckstate.proofs.Lengths.{line-short}
 use Rattle.deckstate.proofs.telling.put_systems.Statement.{statement}
 use Rattle.deckstate.proofs.telling.put_systems.Tie as tie
 
 abbrev invariant-loop : tie.invariant-loop
-invariant-loop file head state out₀ end₀ s₀ out end s = Lined head.systems (systemLine state file) out₀ 0 out end s
+invariant-loop file head state out₀ end₀ s₀ out end s = Lined head.systems (system_line state file) out₀ 0 out end s
 
 abbrev decreases-loop : tie.decreases-loop
 decreases-loop file head state out₀ end₀ s₀ out end s = head.systems - s
@@ -26,7 +26,7 @@ put-system-requires c κs =
     let start = in-loop.before.before.before in
     let headed = start.requires.0 in (
       record { headed = headed; place = c.before.if1.true },
-      room-left in-loop.loop.invariant lineRoom mostSystems (λ s. line-short (s + 1) (verdictIn start.args.file.now s start.args.state)) c.before.if1.true (few-systems headed) (omega (arith, start.requires.1)),
+      room-left in-loop.loop.invariant line_room most_systems (λ s. line-short (s + 1) (verdict_in start.args.file.now s start.args.state)) c.before.if1.true (few-systems headed) (omega (arith, start.requires.1)),
     )
 
 add-s : tie.Need-overflow-add-s invariant-loop decreases-loop

@@ -2,16 +2,16 @@
 -- left. Assumes nothing.
 use Prim.Native.Nat.{◌-◌}
 use native.Mathlib.Omega.{arith}
-use Rattle.rules.specs.File.{mostFans}
+use Rattle.rules.specs.File.{most_fans}
 use Rattle.deck.proofs.Kept.{few-fans}
 use Rattle.printing.proofs.Lined.{Lined, no_lines, room-left, one_more, all_lines}
-use Rattle.deckworth.specs.Lines.{lineRoom, fanLine}
+use Rattle.deckworth.specs.Lines.{line_room, fan_line}
 use Rattle.deckworth.proofs.Lengths.{fan-short}
 use Rattle.deckworth.proofs.lines.put_fans.Statement.{statement}
 use Rattle.deckworth.proofs.lines.put_fans.Tie as tie
 
 abbrev invariant-loop : tie.invariant-loop
-invariant-loop words file head s out₀ at end₀ i₀ out end i = Lined head.fans (fanLine words file s) out₀ at out end i
+invariant-loop words file head s out₀ at end₀ i₀ out end i = Lined head.fans (fan_line words file s) out₀ at out end i
 
 abbrev decreases-loop : tie.decreases-loop
 decreases-loop words file head s out₀ at end₀ i₀ out end i = head.fans - i
@@ -27,7 +27,7 @@ put-fan-requires c κs =
       placed,
       (
         c.before.if1.true,
-        room-left in-loop.loop.invariant lineRoom mostFans (fan-short start.args.words start.args.file.now start.args.s) c.before.if1.true (few-fans placed.headed) start.requires.1,
+        room-left in-loop.loop.invariant line_room most_fans (fan-short start.args.words start.args.file.now start.args.s) c.before.if1.true (few-fans placed.headed) start.requires.1,
       ),
     )
 

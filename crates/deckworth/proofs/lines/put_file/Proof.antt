@@ -1,7 +1,7 @@
 -- `lines::put_file` meets its contract, on a refusal and on none. Assumes nothing.
 use Rattle.deck.proofs.Outcome.{opened-headed}
 use Rattle.printing.proofs.Printed.{refused-worded, print-worded}
-use Rattle.deckworth.specs.Lines.{listText}
+use Rattle.deckworth.specs.Lines.{list_text}
 use Rattle.deckworth.proofs.Halves.{in-first, two-same}
 use borrow.Author.Rules.{rules}
 use Rattle.deckworth.proofs.lines.put_file.Statement.{statement}
@@ -23,7 +23,7 @@ returns c =
     let opened = at_test.before.before in
     let start = opened.before.before.before.before in
     let words = start.args.words in
-    in-first start.args.more.now (refused-worded words (listText words) opened.«open».ensures at_test.if1.true put.put-worded-file.ensures)
+    in-first start.args.more.now (refused-worded words (list_text words) opened.«open».ensures at_test.if1.true put.put-worded-file.ensures)
 
 put-systems-requires : tie.Need-put-systems-requires
 put-systems-requires c κs =
@@ -45,7 +45,7 @@ returns-2 c =
     let opened = at_test.before.before in
     let start = opened.before.before.before.before in
     let words = start.args.words in
-    two-same (print-worded words (listText words) opened.«open».ensures at_test.if1.false) put.put-systems.ensures
+    two-same (print-worded words (list_text words) opened.«open».ensures at_test.if1.false) put.put-systems.ensures
 
 pub put-file-spec : {M : Type 1} → statement M
 put-file-spec =

@@ -4,13 +4,13 @@ use Prim.Native.Nat.{◌+◌, ◌-◌}
 use native.Mathlib.Omega.{arith}
 use Rattle.deck.proofs.Kept.{few-systems}
 use Rattle.printing.proofs.Lined.{Lined, no_lines, room-left, one_more, all_lines}
-use Rattle.deckworth.specs.Lines.{fansText, fansRoom, half}
+use Rattle.deckworth.specs.Lines.{fans_text, fans_room, half}
 use Rattle.deckworth.proofs.Lengths.{fans-short}
 use Rattle.deckworth.proofs.lines.put_some.Statement.{statement}
 use Rattle.deckworth.proofs.lines.put_some.Tie as tie
 
 abbrev invariant-loop : tie.invariant-loop
-invariant-loop words file head from count out₀ end₀ k₀ out end k = Lined count (λ j. fansText words file (from + j)) out₀ 0 out end k
+invariant-loop words file head from count out₀ end₀ k₀ out end k = Lined count (λ j. fans_text words file (from + j)) out₀ 0 out end k
 
 abbrev decreases-loop : tie.decreases-loop
 decreases-loop words file head from count out₀ end₀ k₀ out end k = count - k
@@ -30,7 +30,7 @@ put-fans-requires c κs =
     let start = at-loop.before.before.before in
     let headed = start.requires.0 in (
       record { headed = headed; place = omega (arith, at_test.loop-test.true, start.requires.1.0.0) },
-      room-left at-loop.loop.invariant fansRoom half (λ k. fans-short start.args.words headed (start.args.from + k)) at_test.loop-test.true start.requires.1.0.1 (omega (arith, start.requires.1.1)),
+      room-left at-loop.loop.invariant fans_room half (λ k. fans-short start.args.words headed (start.args.from + k)) at_test.loop-test.true start.requires.1.0.1 (omega (arith, start.requires.1.1)),
     )
 
 add-k : tie.Need-overflow-add-k invariant-loop decreases-loop

@@ -2,8 +2,8 @@
 use mathlib.Core.Path.{ap, sym, ◌∙◌}
 use native.Mathlib.Omega.{arith}
 use Rattle.deck.proofs.Kept.{few-systems}
-use Rattle.printing.specs.Lines.{linesText}
-use Rattle.deckworth.specs.Lines.{fansText, InTwo}
+use Rattle.printing.specs.Lines.{lines_text}
+use Rattle.deckworth.specs.Lines.{fans_text, InTwo}
 use Rattle.deckworth.proofs.Halves.{in-first, in_both, from_first, halves}
 use borrow.Author.Rules.{rules}
 use Rattle.deckworth.proofs.lines.put_systems.Statement.{statement}

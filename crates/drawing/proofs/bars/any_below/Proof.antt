@@ -2,15 +2,15 @@
 use Prim.Native.Nat.{◌-◌, ◌≤◌}
 use native.Mathlib.Omega.{arith}
 use borrow.Author.Rules.{rules}
-use Rattle.drawn.specs.Drawn.{mostDrawn}
+use Rattle.drawn.specs.Drawn.{most_drawn}
 use Rattle.drawing.proofs.bars.any_below.Statement.{statement}
 use Rattle.drawing.proofs.bars.any_below.Tie as tie
 
 abbrev invariant-loop : tie.invariant-loop
-invariant-loop far ends i₀ i = i ≤ mostDrawn
+invariant-loop far ends i₀ i = i ≤ most_drawn
 
 abbrev decreases-loop : tie.decreases-loop
-decreases-loop far ends i₀ i = mostDrawn - i
+decreases-loop far ends i₀ i = most_drawn - i
 
 loop-holds : tie.Need-loop-init invariant-loop decreases-loop
 loop-holds c = omega arith

@@ -4,15 +4,15 @@ use Prim.Native.Nat.{◌-◌, ◌≤◌}
 use native.Mathlib.Omega.{arith}
 use lib.ListN.{length}
 use borrow.Author.Rules.{rules}
-use Rattle.drawn.specs.Drawn.{mostDrawn}
+use Rattle.drawn.specs.Drawn.{most_drawn}
 use Rattle.drawing.proofs.bars.put_ends.Statement.{statement}
 use Rattle.drawing.proofs.bars.put_ends.Tie as tie
 
 abbrev invariant-loop : tie.invariant-loop
-invariant-loop shift largest line out₀ at ends end₀ i₀ out end i = (i ≤ mostDrawn) × (length out ≡ length out₀) × (end ≤ length out)
+invariant-loop shift largest line out₀ at ends end₀ i₀ out end i = (i ≤ most_drawn) × (length out ≡ length out₀) × (end ≤ length out)
 
 abbrev decreases-loop : tie.decreases-loop
-decreases-loop shift largest line out₀ at ends end₀ i₀ out end i = mostDrawn - i
+decreases-loop shift largest line out₀ at ends end₀ i₀ out end i = most_drawn - i
 
 loop-holds : tie.Need-loop-init invariant-loop decreases-loop
 loop-holds c = (omega arith, refl, omega arith)

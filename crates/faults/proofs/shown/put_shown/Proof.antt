@@ -7,7 +7,7 @@ use lib.ListN.{length, take, length-map}
 use lib.Seq.{length-take-le}
 use borrow.Author.Tests.{eq-eqb, ne_eqb, lt-ltb, le-ltb}
 use Rattle.text.proofs.Adding.{put-added, added_more}
-use Rattle.faults.specs.Told.{plain, mostShown, shown}
+use Rattle.faults.specs.Told.{plain, most_shown, shown}
 use borrow.Author.Rules.{rules}
 use Rattle.faults.proofs.shown.put_shown.Statement.{statement}
 use Rattle.faults.proofs.shown.put_shown.Tie as tie
@@ -35,13 +35,13 @@ slice-aggregate-put-plain : tie.Need-slice-aggregate-put-plain
 slice-aggregate-put-plain c =
     let else1 = c.before.before in
     let start = else1.before.before.before in
-    sym (length-take-le mostShown start.args.word.now (omega arith))
+    sym (length-take-le most_shown start.args.word.now (omega arith))
 
 put-plain-requires : tie.Need-put-plain-requires
 put-plain-requires c κs =
     let else1 = c.before.before.before in
     let start = else1.before.before.before in
-    let size = length-take-le mostShown start.args.word.now (omega arith) in omega (arith, start.requires, size)
+    let size = length-take-le most_shown start.args.word.now (omega arith) in omega (arith, start.requires, size)
 
 slice-aggregate-put-2 : tie.Need-slice-aggregate-put-2
 slice-aggregate-put-2 c = search rules
@@ -54,9 +54,9 @@ put-requires-2 c κs =
     let next = then2.if2 in
     let told = after-put-plain.put-plain in
     let word = start.args.word.now in
-    let size = length-take-le mostShown word (omega (arith, next.true)) in
-    let ends : told.result ≡ start.args.at + length (map plain (take mostShown word)) = told.ensures.ends in
-    omega (arith, start.requires, told.auto, size, length-map (take mostShown word) plain)
+    let size = length-take-le most_shown word (omega (arith, next.true)) in
+    let ends : told.result ≡ start.args.at + length (map plain (take most_shown word)) = told.ensures.ends in
+    omega (arith, start.requires, told.auto, size, length-map (take most_shown word) plain)
 
 same-length-2 : tie.Need-same-length-2
 same-length-2 c = search rules
@@ -74,8 +74,8 @@ returns-2 c =
     let put2 = c.before.before.put2 in
     let told = after-put-plain.put-plain in
     let word = start.args.word.now in
-    let size = length-take-le mostShown word (omega (arith, next.true)) in
-    let room = length-map (take mostShown word) plain in
+    let size = length-take-le most_shown word (omega (arith, next.true)) in
+    let room = length-map (take most_shown word) plain in
     rw (ne_eqb _ 0 first.false, lt-ltb _ _ next.true)
     (added_more told.ensures (put-added (omega (arith, start.requires, told.auto, told.ensures.ends, size, room)) put2.ensures))
 

@@ -1,6 +1,6 @@
 -- `wanted::put_name` meets its contract: the lines of the text are the table's rows, which computing shows. Assumes nothing.
-use Rattle.grammar.specs.Words.{linesOn}
-use Rattle.faults.specs.Wanted.{byName}
+use Rattle.grammar.specs.Words.{lines_on}
+use Rattle.faults.specs.Wanted.{by_name}
 use Rattle.faults.proofs.Tables.{name-short, fits}
 use borrow.Author.Rules.{rules}
 use Rattle.faults.proofs.wanted.put_name.Statement.{statement}
@@ -10,14 +10,14 @@ slice-aggregate-put-line : tie.Need-slice-aggregate-put-line
 slice-aggregate-put-line c = search rules
 
 put-line-requires : tie.Need-put-line-requires
-unfolding linesOn byName
+unfolding lines_on by_name
 put-line-requires c κs = fits _ _ (name-short c.before.before.before.args.name) c.before.before.before.requires
 
 same_length : tie.Need-same-length
 same_length c = search rules
 
 returns : tie.Need-returns
-unfolding linesOn byName
+unfolding lines_on by_name
 returns c = c.before.before.put-line.ensures
 
 pub put-name-spec : {M : Type 1} → statement M

@@ -1,7 +1,7 @@
 -- `wanted::put_wanted` meets its contract: the words fit, and the numbers behind them. Assumes nothing.
 use native.Mathlib.Omega.{arith}
 use Rattle.text.proofs.Adding.{added_more}
-use Rattle.faults.specs.Wanted.{wantedText}
+use Rattle.faults.specs.Wanted.{wanted_text}
 use Rattle.faults.proofs.Tables.{words-short}
 use borrow.Author.Rules.{rules}
 use Rattle.faults.proofs.wanted.put_wanted.Statement.{statement}
@@ -21,7 +21,7 @@ same_length : tie.Need-same-length
 same_length c = search rules
 
 returns : tie.Need-returns
-unfolding wantedText
+unfolding wanted_text
 returns c =
     let after-put-numbers = c.before.before in
     let after-put-words = after-put-numbers.before.before.before.before in

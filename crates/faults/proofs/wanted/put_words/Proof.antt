@@ -5,7 +5,7 @@ use native.Mathlib.Omega.{arith}
 use borrow.Author.Tests.{lt-ltb, le-ltb}
 use Rattle.text.proofs.Adding.{none-added}
 use Rattle.grammar.specs.Grammar.{taken}
-use Rattle.faults.specs.Wanted.{byPlace}
+use Rattle.faults.specs.Wanted.{by_place}
 use borrow.Author.Rules.{rules}
 use Rattle.faults.proofs.wanted.put_words.Statement.{statement}
 use Rattle.faults.proofs.wanted.put_words.Tie as tie
@@ -20,7 +20,7 @@ returns : tie.Need-returns
 returns c = rw (le-ltb _ _ c.before.before.before.before.if1.true) c.before.before.put-name.ensures
 
 returns-2 : tie.Need-returns-2
-unfolding byPlace
+unfolding by_place
 returns-2 c =
     let a = c.before.before.before.args in
     let e : a.wanted - taken ≡ 0 = omega arith in

@@ -28,7 +28,7 @@ step-requires c κs =
     let d = c.before in
     let pre = (start d).requires in
     rw d.before.at-hand.ensures
-    (record { survival = rw d.chance.ensures (pre.list.units _); rest = c.failure.ensures; left = pre.works-small; right = pre.fails-small })
+    (record { survival = rw d.chance.ensures (pre.list.units _); rest = c.failure.ensures; left = pre.works_small; right = pre.fails_small })
 
 add-write : tie.Need-overflow-add-write
 add-write c = search rules

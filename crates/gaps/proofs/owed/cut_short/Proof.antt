@@ -1,7 +1,7 @@
 -- `cut_short` takes the test of what the clean ones make up for. Assumes nothing.
 use borrow.Author.Rules.{rules}
 use mathlib.Core.Path.{sym, ap, ◌∙◌}
-use Rattle.memory.specs.Owed.{owedWorks}
+use Rattle.memory.specs.Owed.{owed_works}
 use Rattle.gaps.proofs.owed.cut_short.Statement.{statement}
 use Rattle.gaps.proofs.owed.cut_short.Tie as tie
 
@@ -19,7 +19,7 @@ read-requires c κs = search rules
 
 returns : tie.Need-returns
 returns c =
-    let e = sym (c.before.before.works.ensures ∙ ap owedWorks c.before.before.before.worked-many.ensures) ∙ c.before.if1.true in
+    let e = sym (c.before.before.works.ensures ∙ ap owed_works c.before.before.before.worked-many.ensures) ∙ c.before.if1.true in
     record { low = rw e c.read.ensures.low; high = rw e c.read.ensures.high }
 
 end-value-requires : tie.Need-end-value-requires
@@ -27,7 +27,7 @@ end-value-requires c κs = search rules
 
 returns-2 : tie.Need-returns-2
 returns-2 c =
-    let e = sym (c.before.before.works.ensures ∙ ap owedWorks c.before.before.before.worked-many.ensures) ∙ c.before.if1.false in
+    let e = sym (c.before.before.works.ensures ∙ ap owed_works c.before.before.before.worked-many.ensures) ∙ c.before.if1.false in
     record { low = rw e c.end-value.ensures.low; high = rw e c.end-value.ensures.high }
 
 pub cut-short-spec : {M : Type 1} → statement M

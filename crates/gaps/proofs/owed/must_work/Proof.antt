@@ -2,7 +2,7 @@
 use mathlib.Core.Path.{ap, ◌∙◌}
 use native.Mathlib.Omega.{arith}
 use borrow.Author.Rules.{rules}
-use Rattle.memory.specs.Owed.{owedWorked}
+use Rattle.memory.specs.Owed.{owed_worked}
 use Rattle.memory.proofs.Moves.{owed-worked-before}
 use Rattle.gaps.proofs.Paying.{due-must, due-more, due-place}
 use Rattle.gaps.proofs.owed.must_work.Statement.{statement}
@@ -21,7 +21,7 @@ worked-requires : tie.Need-worked-requires
 worked-requires c κs = search rules
 
 at-hand-requires : tie.Need-at-hand-requires
-at-hand-requires c κs = ap (λ m. m.owed) (c.worked.ensures ∙ ap owedWorked c.before.before2.ensures ∙ owed-worked-before _)
+at-hand-requires c κs = ap (λ m. m.owed) (c.worked.ensures ∙ ap owed_worked c.before.before2.ensures ∙ owed-worked-before _)
 
 chance-requires : tie.Need-chance-requires
 chance-requires c κs = search rules

@@ -90,7 +90,7 @@ loop-again c =
     let chance = after-chance.chance in
     let deal = after-deal.deal in (
       omega (arith, test.true),
-      shared-more loop.invariant.1 (omega (arith, test.true, pre.size)) (rw chance.ensures at deal.ensures.of-p) (rw chance.ensures at deal.ensures.of-q)
+      shared-more loop.invariant.1 (omega (arith, test.true, pre.size)) (rw chance.ensures at deal.ensures.of_p) (rw chance.ensures at deal.ensures.of_q)
           c.before.before.write-shares.ensures,
     )
 

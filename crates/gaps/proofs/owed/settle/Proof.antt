@@ -8,7 +8,7 @@ use Rattle.memory.specs.Owed.{owed}
 use Rattle.rules.specs.Refusal.{most}
 use Rattle.places.specs.Cells.{Kept, Written}
 use Rattle.places.specs.Map.{half}
-use Rattle.gaps.specs.Gaps.{Shared, settledValue}
+use Rattle.gaps.specs.Gaps.{Shared, settled_value}
 use Rattle.places.proofs.Cells.{kept-none, kept_trans, row-none, row_more, written-more, room-kept, workable-kept}
 use Rattle.units.specs.Step.{whole}
 use Rattle.gaps.proofs.Sharing.{shared-put, shared-written}
@@ -18,7 +18,7 @@ use Rattle.gaps.proofs.owed.settle.Tie as tie
 
 abbrev invariant-loop : tie.invariant-loop
 invariant-loop decimal r survival table₀ last hand₀ ends₀ i₀ table hand ends i =
-    (i ≤ last) × Back (whole decimal) r 0 0 0 survival i hand ends × Written (settledValue (whole decimal) r survival) (i + 1) half table₀ table
+    (i ≤ last) × Back (whole decimal) r 0 0 0 survival i hand ends × Written (settled_value (whole decimal) r survival) (i + 1) half table₀ table
 
 abbrev decreases-loop : tie.decreases-loop
 decreases-loop decimal r survival table₀ last hand₀ ends₀ i₀ table hand ends i = last - i
@@ -74,7 +74,7 @@ loop-holds c =
     let l = bounded w in
     let x = (start l).args in
     let value = end-valued (whole x.decimal) x.r x.survival.now (owed 0 0) (omega (arith, (start l).pre.two)) ended.before.works.ensures ended.end-value.ensures in
-    let row = row_more {f = settledValue (whole x.decimal) x.r x.survival.now} {off = half} w.write.ensures refl (omega arith) value row-none in
+    let row = row_more {f = settled_value (whole x.decimal) x.r x.survival.now} {off = half} w.write.ensures refl (omega arith) value row-none in
     (omega arith, back-first value, record { row = row; other = λ up k l o. refl; kept = kept-none })
 
 must-work-requires : tie.Need-must-work-requires invariant-loop decreases-loop

@@ -4,8 +4,8 @@ use mathlib.Core.List.{[]}
 use Prim.Native.Nat.{◌-◌, ◌≤◌}
 use lib.ListN.{length, drop}
 use borrow.Author.Tests.{not-true, not-false}
-use Rattle.grammar.specs.Words.{wordsOn}
-use Rattle.grammar.specs.Line.{readLine, walk}
+use Rattle.grammar.specs.Words.{words_on}
+use Rattle.grammar.specs.Line.{read_line, walk}
 use Rattle.grammar.proofs.Whole.{start-few, goes-few, line-ends, line-stops, line-goes}
 use borrow.Author.Rules.{rules}
 use native.Mathlib.Omega.{arith}
@@ -13,7 +13,7 @@ use Rattle.grammar.proofs.line.read_line.Statement.{statement}
 use Rattle.grammar.proofs.line.read_line.Tie as tie
 
 abbrev invariant-loop : tie.invariant-loop
-invariant-loop table version begun line place₀ set₀ at₀ place set at = (at ≤ length line) × (place ≤ 63) × (readLine version begun line ≡ walk version place set (wordsOn [] (drop at line)))
+invariant-loop table version begun line place₀ set₀ at₀ place set at = (at ≤ length line) × (place ≤ 63) × (read_line version begun line ≡ walk version place set (words_on [] (drop at line)))
 
 abbrev decreases-loop : tie.decreases-loop
 decreases-loop table version begun line place₀ set₀ at₀ place set at = length line - at
@@ -22,7 +22,7 @@ start-of-requires : tie.Need-start-of-requires invariant-loop decreases-loop
 start-of-requires c κs = search rules
 
 loop-holds : tie.Need-loop-init invariant-loop decreases-loop
-unfolding readLine
+unfolding read_line
 loop-holds c = (omega arith, rw c.start_of_lem.ensures (start-few c.before.before.args.begun), rw c.start_of_lem.ensures)
 
 next-requires : tie.Need-next-requires invariant-loop decreases-loop

@@ -3,7 +3,7 @@ use mathlib.Core.Path.{sym, ap, ap₂, ◌∙◌}
 use Prim.Native.Nat.{◌+◌, ◌-◌}
 use lib.ListN.{length}
 use lib.Seq.{length-take-le}
-use Rattle.grammar.specs.Numbers.{joined, whole, decimalAt}
+use Rattle.grammar.specs.Numbers.{joined, whole, decimal_at}
 use Rattle.grammar.proofs.Parts.{rest_all, no-digits, many-digits, above-one, in-billionths}
 use borrow.Author.Rules.{rules}
 use native.Mathlib.Omega.{arith}
@@ -20,7 +20,7 @@ returns : tie.Need-returns
 returns c =
     let start = c.before.before.before in
     let point = c.before.point in
-    let word = start.args.word.now in (sym (ap (decimalAt word) (sym point.ensures.0) ∙ no-digits word point.result c.if1.true), omega arith)
+    let word = start.args.word.now in (sym (ap (decimal_at word) (sym point.ensures.0) ∙ no-digits word point.result c.if1.true), omega arith)
 
 add-from : tie.Need-overflow-add-from
 add-from c = omega (arith, c.if1.false)
@@ -33,7 +33,7 @@ returns-2 c =
     let start = c.before.before.before.before in
     let point = c.before.before.point in
     let test = c.before.if1 in
-    let word = start.args.word.now in (sym (ap (decimalAt word) (sym point.ensures.0) ∙ many-digits word point.result test.false c.if2.true), omega arith)
+    let word = start.args.word.now in (sym (ap (decimal_at word) (sym point.ensures.0) ∙ many-digits word point.result test.false c.if2.true), omega arith)
 
 slice-aggregate-whole : tie.Need-slice-aggregate-whole
 slice-aggregate-whole c =
@@ -73,7 +73,7 @@ returns-3 c =
     let whole2 = c.before.before.whole2 in
     let test = else1.if1 in
     let test2 = else2.if2 in
-    let word = start.args.word.now in let at = point.result in let is = joined-done.ensures ∙ ap₂ (λ b h. joined b h (length word - (at + 1))) whole-done.ensures.0 (whole2.ensures.0 ∙ ap whole (rest_all word (at + 1))) in (sym (ap (decimalAt word) (sym point.ensures.0) ∙ above-one word at test.false test2.false joined-done.result is c.if3.true), omega arith)
+    let word = start.args.word.now in let at = point.result in let is = joined-done.ensures ∙ ap₂ (λ b h. joined b h (length word - (at + 1))) whole-done.ensures.0 (whole2.ensures.0 ∙ ap whole (rest_all word (at + 1))) in (sym (ap (decimal_at word) (sym point.ensures.0) ∙ above-one word at test.false test2.false joined-done.result is c.if3.true), omega arith)
 
 returns-4 : tie.Need-returns-4
 returns-4 c =
@@ -88,7 +88,7 @@ returns-4 c =
     let whole2 = c.before.before.whole2 in
     let test = else1.if1 in
     let test2 = else2.if2 in
-    let word = start.args.word.now in let at = point.result in let is = joined-done.ensures ∙ ap₂ (λ b h. joined b h (length word - (at + 1))) whole-done.ensures.0 (whole2.ensures.0 ∙ ap whole (rest_all word (at + 1))) in (sym (ap (decimalAt word) (sym point.ensures.0) ∙ in-billionths word at test.false test2.false joined-done.result is c.if3.false), omega (arith, c.if3.false))
+    let word = start.args.word.now in let at = point.result in let is = joined-done.ensures ∙ ap₂ (λ b h. joined b h (length word - (at + 1))) whole-done.ensures.0 (whole2.ensures.0 ∙ ap whole (rest_all word (at + 1))) in (sym (ap (decimal_at word) (sym point.ensures.0) ∙ in-billionths word at test.false test2.false joined-done.result is c.if3.false), omega (arith, c.if3.false))
 
 pub fraction-spec : {M : Type 1} → statement M
 fraction-spec = tie.close (tie.spec point-requires sub-if1 returns add-from sub-digits returns-2 slice-aggregate-whole whole-requires sub-whole part-whole-start part-whole-end whole-requires-2 joined-requires returns-3 returns-4)

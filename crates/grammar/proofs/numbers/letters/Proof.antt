@@ -3,7 +3,7 @@ use mathlib.Core.Path.{◌≡◌, refl, sym, ◌∙◌}
 use Prim.Native.Nat.{◌-◌, ◌≤◌}
 use lib.ListN.{length, drop}
 use native.Mathlib.Numerals.{add-one}
-use Rattle.grammar.specs.Numbers.{lettersOn, lettersOf}
+use Rattle.grammar.specs.Numbers.{letters_on, letters_of}
 use Rattle.grammar.proofs.Reading.{letter-on, letters-end}
 use borrow.Author.Rules.{rules}
 use native.Mathlib.Omega.{arith}
@@ -11,7 +11,7 @@ use Rattle.grammar.proofs.numbers.letters.Statement.{statement}
 use Rattle.grammar.proofs.numbers.letters.Tie as tie
 
 abbrev invariant-loop : tie.invariant-loop
-invariant-loop word number₀ i₀ number i = (i ≤ length word) × (lettersOf word ≡ lettersOn number (drop i word))
+invariant-loop word number₀ i₀ number i = (i ≤ length word) × (letters_of word ≡ letters_on number (drop i word))
 
 abbrev decreases-loop : tie.decreases-loop
 decreases-loop word number₀ i₀ number i = length word - i

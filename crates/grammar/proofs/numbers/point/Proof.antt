@@ -3,14 +3,14 @@ use mathlib.Core.Path.{◌≡◌}
 use Prim.Native.Nat.{◌+◌, ◌-◌, ◌≤◌}
 use lib.ListN.{length, drop}
 use native.Mathlib.Numerals.{add-one}
-use Rattle.grammar.specs.Numbers.{pointIn}
+use Rattle.grammar.specs.Numbers.{point_in}
 use Rattle.grammar.proofs.Reading.{point-here, point-on, point-end}
 use native.Mathlib.Omega.{arith}
 use Rattle.grammar.proofs.numbers.point.Statement.{statement}
 use Rattle.grammar.proofs.numbers.point.Tie as tie
 
 abbrev invariant-loop : tie.invariant-loop
-invariant-loop word i₀ i = (i ≤ length word) × (pointIn word ≡ i + pointIn (drop i word))
+invariant-loop word i₀ i = (i ≤ length word) × (point_in word ≡ i + point_in (drop i word))
 
 abbrev decreases-loop : tie.decreases-loop
 decreases-loop word i₀ i = length word - i

@@ -4,7 +4,7 @@ use Prim.Native.Nat.{◌-◌, ◌≤◌}
 use lib.ListN.{length, drop}
 use native.Mathlib.Numerals.{add-one}
 use borrow.Author.Tests.{eq-eqb, not-true, not-false}
-use Rattle.grammar.specs.Numbers.{none, whole, digitsOn}
+use Rattle.grammar.specs.Numbers.{none, whole, digits_on}
 use Rattle.grammar.proofs.Reading.{whole-some, digit-on, digit-none, digits-end}
 use borrow.Author.Rules.{rules}
 use native.Mathlib.Omega.{arith}
@@ -12,7 +12,7 @@ use Rattle.grammar.proofs.numbers.whole.Statement.{statement}
 use Rattle.grammar.proofs.numbers.whole.Tie as tie
 
 abbrev invariant-loop : tie.invariant-loop
-invariant-loop word number₀ i₀ number i = (i ≤ length word) × (number ≤ none) × (whole word ≡ digitsOn number (drop i word))
+invariant-loop word number₀ i₀ number i = (i ≤ length word) × (number ≤ none) × (whole word ≡ digits_on number (drop i word))
 
 abbrev decreases-loop : tie.decreases-loop
 decreases-loop word number₀ i₀ number i = length word - i

@@ -5,7 +5,7 @@ use Prim.Native.Nat.{◌-◌, ◌≤◌}
 use Rattle.rules.specs.Below.{some}
 use Rattle.rules.proofs.Lowest.{nowhere-yet, passed, found, nowhere}
 use Rattle.grammar.specs.Grammar.{rows}
-use Rattle.grammar.specs.Line.{takes, rowFor}
+use Rattle.grammar.specs.Line.{takes, row_for}
 use native.Mathlib.Omega.{arith}
 use Rattle.grammar.proofs.table.row_for.Statement.{statement}
 use Rattle.grammar.proofs.table.row_for.Tie as tie
@@ -23,7 +23,7 @@ row-takes-requires : tie.Need-row-takes-requires invariant-loop decreases-loop
 row-takes-requires c κs = (c.before.before.before.requires, c.loop-test.true)
 
 returns : tie.Need-returns invariant-loop decreases-loop
-unfolding rowFor
+unfolding row_for
 returns c = (sym (found _ _ _ c.before.before.loop-test.true c.before.before.before.loop.invariant.1 (sym c.before.row-takes.ensures ∙ c.if1.true)), c.before.before.before.loop.invariant.0)
 
 add-i : tie.Need-overflow-add-i invariant-loop decreases-loop
@@ -36,7 +36,7 @@ loop-again : tie.Need-loop-preserved invariant-loop decreases-loop
 loop-again c = (omega (arith, c.before.before.loop-test.true), passed _ _ c.before.before.before.loop.invariant.1 (sym c.before.row-takes.ensures ∙ c.if1.false))
 
 returns-2 : tie.Need-returns-2 invariant-loop decreases-loop
-unfolding rowFor
+unfolding row_for
 returns-2 c = let l = c.before.loop in let e : l.i ≡ rows = omega (arith, l.invariant.0, c.loop-test.false) in (e ∙ sym (nowhere _ rows (rw e at l.invariant.1)), l.invariant.0)
 
 pub row-for-spec : {M : Type 1} → statement M

@@ -6,7 +6,7 @@ use lib.ListN.{length, get_or, drop}
 use native.Mathlib.Numerals.{add-one}
 use borrow.Author.Tests.{eq-eqb, ne_eqb}
 use lib.Dec.{eqb}
-use Rattle.grammar.specs.Words.{wordsOn}
+use Rattle.grammar.specs.Words.{words_on}
 use Rattle.grammar.specs.Words.{comment}
 use Rattle.grammar.specs.Stands.{part}
 use Rattle.grammar.proofs.Walking.{or-first, or-second, pass_on, at-comment, at-blank, at-end}
@@ -16,7 +16,7 @@ use Rattle.grammar.proofs.words.pass.Statement.{statement}
 use Rattle.grammar.proofs.words.pass.Tie as tie
 
 abbrev invariant-loop : tie.invariant-loop
-invariant-loop line at i₀ i = (at ≤ i) × (i ≤ length line) × (wordsOn [] (drop at line) ≡ wordsOn (part line at i) (drop i line))
+invariant-loop line at i₀ i = (at ≤ i) × (i ≤ length line) × (words_on [] (drop at line) ≡ words_on (part line at i) (drop i line))
 
 abbrev decreases-loop : tie.decreases-loop
 decreases-loop line at i₀ i = length line - i

@@ -5,7 +5,7 @@ use Prim.Native.Nat.{◌-◌, ◌≤◌}
 use lib.ListN.{length, drop}
 use native.Mathlib.Numerals.{add-one}
 use borrow.Author.Tests.{not-true, not-false}
-use Rattle.grammar.specs.Words.{wordsOn}
+use Rattle.grammar.specs.Words.{words_on}
 use Rattle.grammar.proofs.Walking.{skip-on}
 use borrow.Author.Rules.{rules}
 use native.Mathlib.Omega.{arith}
@@ -13,7 +13,7 @@ use Rattle.grammar.proofs.words.skip.Statement.{statement}
 use Rattle.grammar.proofs.words.skip.Tie as tie
 
 abbrev invariant-loop : tie.invariant-loop
-invariant-loop line at i₀ i = (at ≤ i) × (i ≤ length line) × (wordsOn [] (drop i line) ≡ wordsOn [] (drop at line))
+invariant-loop line at i₀ i = (at ≤ i) × (i ≤ length line) × (words_on [] (drop i line) ≡ words_on [] (drop at line))
 
 abbrev decreases-loop : tie.decreases-loop
 decreases-loop line at i₀ i = length line - i

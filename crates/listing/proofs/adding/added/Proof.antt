@@ -1,7 +1,7 @@
 -- `adding::added` meets its contract, thing by thing. Assumes nothing.
 use mathlib.Core.Path.{refl}
 use borrow.Author.Tests.{eq-eqb, ne_eqb}
-use Rattle.grammar.specs.Grammar.{aVersion, someFans, aBoard}
+use Rattle.grammar.specs.Grammar.{a_version, some_fans, a_board}
 use Rattle.grammar.specs.Text.{added}
 use native.Mathlib.Omega.{arith}
 use Rattle.listing.proofs.Holding.{step-as}
@@ -23,7 +23,7 @@ returns c =
       sane = record { counted = record { fans = sane.counted.fans; boards = sane.counted.boards; switchboards = sane.counted.switchboards; systems = sane.counted.systems }; room = sane.room };
       few = omega arith;
       holds = λ s h.
-          rw (eq-eqb _ aVersion c.if1.true)
+          rw (eq-eqb _ a_version c.if1.true)
           (record { lines = h.lines; version = refl; begun = h.begun; fans = h.fans; boards = h.boards; systems = h.systems; told = h.told });
     }
 
@@ -41,7 +41,7 @@ returns-2 c =
     let test = else1.if1 in
     let test2 = then2.if2 in
     let added-fans = c.before.before.added-fans in
-    step-as added-fans.ensures (λ s. rw (ne_eqb _ aVersion test.false, eq-eqb _ someFans test2.true))
+    step-as added-fans.ensures (λ s. rw (ne_eqb _ a_version test.false, eq-eqb _ some_fans test2.true))
 
 added-board-requires : tie.Need-added-board-requires
 added-board-requires c κs = search rules
@@ -59,7 +59,7 @@ returns-3 c =
     let test2 = else2.if2 in
     let test3 = then3.if3 in
     let added-board = c.before.before.added-board in
-    step-as added-board.ensures (λ s. rw (ne_eqb _ aVersion test.false, ne_eqb _ someFans test2.false, eq-eqb _ aBoard test3.true))
+    step-as added-board.ensures (λ s. rw (ne_eqb _ a_version test.false, ne_eqb _ some_fans test2.false, eq-eqb _ a_board test3.true))
 
 added-system-requires : tie.Need-added-system-requires
 added-system-requires c κs = search rules
@@ -77,7 +77,7 @@ returns-4 c =
     let test2 = else2.if2 in
     let test3 = else3.if3 in
     let added-system = c.before.before.added-system in
-    step-as added-system.ensures (λ s. rw (ne_eqb _ aVersion test.false, ne_eqb _ someFans test2.false, ne_eqb _ aBoard test3.false))
+    step-as added-system.ensures (λ s. rw (ne_eqb _ a_version test.false, ne_eqb _ some_fans test2.false, ne_eqb _ a_board test3.false))
 
 pub added-spec : {M : Type 1} → statement M
 added-spec =

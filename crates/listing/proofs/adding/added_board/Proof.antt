@@ -3,9 +3,9 @@ use mathlib.Core.Path.{◌∙◌}
 use Prim.Native.Nat.{◌+◌}
 use lib.ListN.{length, get_or, length-set}
 use native.Mathlib.Omega.{arith}
-use Rattle.rules.specs.Refusal.{mostBoards}
-use Rattle.grammar.specs.Text.{manyBoards}
-use Rattle.grammar.specs.Grammar.{ofParts}
+use Rattle.rules.specs.Refusal.{most_boards}
+use Rattle.grammar.specs.Text.{many_boards}
+use Rattle.grammar.specs.Grammar.{of_parts}
 use Rattle.typed_lists.proofs.Storing.{stored_more}
 use Rattle.listing.proofs.Holding.{none_left, some_left}
 use borrow.Author.Rules.{rules}
@@ -28,14 +28,14 @@ returns c =
     record {
       sane = tell.ensures.sane;
       few = tell.ensures.few;
-      holds = λ s h. none_left s h (length s.switchboards + 1) mostBoards manyBoards _ _ (omega (arith, h.boards.counted, test.true)) tell.ensures;
+      holds = λ s h. none_left s h (length s.switchboards + 1) most_boards many_boards _ _ (omega (arith, h.boards.counted, test.true)) tell.ensures;
     }
 
 array-read-switchboards : tie.Need-array-read-switchboards
 array-read-switchboards c = search rules
 
 cast-switchboards : tie.Need-overflow-cast-switchboards
-cast-switchboards c = omega (arith, c.before.before.before.before.requires.1.small ofParts)
+cast-switchboards c = omega (arith, c.before.before.before.before.requires.1.small of_parts)
 
 mul-switchboards : tie.Need-overflow-mul-switchboards
 mul-switchboards c = search rules
@@ -51,12 +51,12 @@ returns-2 c =
     let start = c.before.before.before.before in
     let x = start.args in
     let sane = start.requires.0 in
-    let long = length-set x.listing.switchboards x.listing.boards (get_or x.t3 ofParts 0) in
+    let long = length-set x.listing.switchboards x.listing.boards (get_or x.t3 of_parts 0) in
     record {
       sane = record { counted = record { fans = sane.counted.fans; boards = omega (arith, c.before.if1.false); switchboards = long ∙ sane.counted.switchboards; systems = sane.counted.systems }; room = sane.room };
       few = omega arith;
       holds = λ s h.
-          some_left s h (length s.switchboards + 1) mostBoards manyBoards _ _ (omega (arith, h.boards.counted, c.before.if1.false))
+          some_left s h (length s.switchboards + 1) most_boards many_boards _ _ (omega (arith, h.boards.counted, c.before.if1.false))
           (record {
             lines = h.lines;
             version = h.version;

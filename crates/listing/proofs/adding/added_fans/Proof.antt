@@ -2,9 +2,9 @@
 use native.Mathlib.Omega.{arith}
 use lib.ListN.{length, get_or}
 use Prim.Native.Nat.{◌+◌}
-use Rattle.rules.specs.File.{mostFans}
-use Rattle.grammar.specs.Text.{manyFans}
-use Rattle.grammar.specs.Grammar.{ofNumber, ofParts, ofWeight, ofBoard}
+use Rattle.rules.specs.File.{most_fans}
+use Rattle.grammar.specs.Text.{many_fans}
+use Rattle.grammar.specs.Grammar.{of_number, of_parts, of_weight, of_board}
 use Rattle.listing.proofs.Holding.{none_left, some_left}
 use borrow.Author.Rules.{rules}
 use Rattle.listing.proofs.adding.added_fans.Statement.{statement}
@@ -15,7 +15,7 @@ array-read-more c = search rules
 
 add-if1 : tie.Need-overflow-add-if1
 add-if1 c =
-    let start = c.before.before.before in omega (arith, start.requires.0.counted.fans.few, start.requires.1.small ofNumber)
+    let start = c.before.before.before in omega (arith, start.requires.0.counted.fans.few, start.requires.1.small of_number)
 
 tell-requires : tie.Need-tell-requires
 tell-requires c κs = search rules
@@ -33,26 +33,26 @@ returns c =
     record {
       sane = tell.ensures.sane;
       few = tell.ensures.few;
-      holds = λ s h. none_left s h (length s.survival + get_or x.t3 ofNumber 0) mostFans manyFans _ _ (omega (arith, h.fans.parts.counted, test.true)) tell.ensures;
+      holds = λ s h. none_left s h (length s.survival + get_or x.t3 of_number 0) most_fans many_fans _ _ (omega (arith, h.fans.parts.counted, test.true)) tell.ensures;
     }
 
 array-read-parts : tie.Need-array-read-parts
 array-read-parts c = search rules
 
 cast-parts : tie.Need-overflow-cast-parts
-cast-parts c = omega (arith, c.before.before.before.before.requires.1.small ofParts)
+cast-parts c = omega (arith, c.before.before.before.before.requires.1.small of_parts)
 
 array-read-weight : tie.Need-array-read-weight
 array-read-weight c = search rules
 
 cast-weight : tie.Need-overflow-cast-weight
-cast-weight c = omega (arith, c.before.before.before.before.requires.1.small ofWeight)
+cast-weight c = omega (arith, c.before.before.before.before.requires.1.small of_weight)
 
 array-read-board : tie.Need-array-read-board
 array-read-board c = search rules
 
 cast-board : tie.Need-overflow-cast-board
-cast-board c = omega (arith, c.before.before.before.before.requires.1.small ofBoard)
+cast-board c = omega (arith, c.before.before.before.before.requires.1.small of_board)
 
 plus-requires : tie.Need-plus-requires
 plus-requires c κs = search rules
@@ -67,7 +67,7 @@ returns-2 c =
       sane = record { counted = record { fans = more.lined sane.counted.fans; boards = sane.counted.boards; switchboards = sane.counted.switchboards; systems = sane.counted.systems }; room = sane.room };
       few = omega arith;
       holds = λ s h.
-          some_left s h (length s.survival + get_or start.args.t3 ofNumber 0) mostFans manyFans _ _ (omega (arith, h.fans.parts.counted, else1.if1.false))
+          some_left s h (length s.survival + get_or start.args.t3 of_number 0) most_fans many_fans _ _ (omega (arith, h.fans.parts.counted, else1.if1.false))
           (record {
             lines = h.lines;
             version = h.version;

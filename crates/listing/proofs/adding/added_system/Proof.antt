@@ -2,8 +2,8 @@
 use Prim.Native.Nat.{◌+◌}
 use lib.ListN.{length}
 use native.Mathlib.Omega.{arith}
-use Rattle.rules.specs.File.{mostSystems}
-use Rattle.grammar.specs.Text.{manySystems}
+use Rattle.rules.specs.File.{most_systems}
+use Rattle.grammar.specs.Text.{many_systems}
 use Rattle.listing.proofs.Holding.{none_left, some_left}
 use borrow.Author.Rules.{rules}
 use Rattle.listing.proofs.adding.added_system.Statement.{statement}
@@ -25,7 +25,7 @@ returns c =
     record {
       sane = tell.ensures.sane;
       few = tell.ensures.few;
-      holds = λ s h. none_left s h (length s.systems + 1) mostSystems manySystems _ _ (omega (arith, h.systems.count, test.true)) tell.ensures;
+      holds = λ s h. none_left s h (length s.systems + 1) most_systems many_systems _ _ (omega (arith, h.systems.count, test.true)) tell.ensures;
     }
 
 plus-requires : tie.Need-plus-requires
@@ -41,7 +41,7 @@ returns-2 c =
       sane = record { counted = record { fans = sane.counted.fans; boards = sane.counted.boards; switchboards = sane.counted.switchboards; systems = omega (arith, more.count, c.before.if1.false) }; room = sane.room };
       few = omega arith;
       holds = λ s h.
-          some_left s h (length s.systems + 1) mostSystems manySystems _ _ (omega (arith, h.systems.count, c.before.if1.false))
+          some_left s h (length s.systems + 1) most_systems many_systems _ _ (omega (arith, h.systems.count, c.before.if1.false))
           (record {
             lines = h.lines;
             version = h.version;

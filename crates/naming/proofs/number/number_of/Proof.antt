@@ -9,14 +9,14 @@ use borrow.Author.Rules.{rules}
 use borrow.Author.Tests.{not-true, not-false, lt-ltb, le-ltb}
 use Rattle.rules.specs.Below.{within}
 use Rattle.rules.proofs.EachKind.{within-true}
-use Rattle.naming.specs.Named.{longestNumber, spelled}
+use Rattle.naming.specs.Named.{longest_number, spelled}
 use Rattle.naming.proofs.Spelling.{digit-on, no_digit, digits-end, one_more, few-digits}
 use Rattle.naming.proofs.number.number_of.Statement.{statement}
 use Rattle.naming.proofs.number.number_of.Tie as tie
 
 abbrev invariant-loop : tie.invariant-loop
 invariant-loop word number₀ i₀ number i =
-    (i ≤ length word) × (number < 10 ^ i) × (length word ≤ longestNumber) × (spelled number (drop i word) ≡ spelled 0 word)
+    (i ≤ length word) × (number < 10 ^ i) × (length word ≤ longest_number) × (spelled number (drop i word) ≡ spelled 0 word)
 
 abbrev decreases-loop : tie.decreases-loop
 decreases-loop word number₀ i₀ number i = length word - i
@@ -42,7 +42,7 @@ returns-2 c =
     let passed = c.before.before.before in
     let word = passed.before.before.before.before.args.word.now in
     let other = not-true _ (sym c.before.outside.ensures ∙ c.if2.true) in
-    rw (le-ltb longestNumber (length word) l.invariant.2)
+    rw (le-ltb longest_number (length word) l.invariant.2)
     (sym (sym l.invariant.3 ∙ no_digit l.number word l.i (omega arith) other))
 
 -- what the second test leaves
@@ -93,7 +93,7 @@ returns-3 : tie.Need-returns-3 invariant-loop decreases-loop
 returns-3 c =
     let l = c.before.loop in
     let word = c.before.before.before.before.args.word.now in
-    rw (le-ltb longestNumber (length word) l.invariant.2) (sym (sym l.invariant.3 ∙ digits-end l.number word l.i (omega arith)))
+    rw (le-ltb longest_number (length word) l.invariant.2) (sym (sym l.invariant.3 ∙ digits-end l.number word l.i (omega arith)))
 
 pub number-of-spec : {M : Type 1} → statement M
 number-of-spec =

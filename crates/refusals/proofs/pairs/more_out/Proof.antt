@@ -6,13 +6,13 @@ use native.Mathlib.Omega.{arith}
 use lib.ListN.{length, drop}
 use borrow.Author.Rules.{rules}
 use borrow.Author.Tests.{not-true, not-false}
-use Rattle.rules.specs.Pairs.{pairsIn, inRange8, goodPair}
+use Rattle.rules.specs.Pairs.{pairs_in, in_range8, good_pair}
 use Rattle.rules.proofs.Further.{all-lost, all-next, all-last}
 use Rattle.refusals.proofs.pairs.more_out.Statement.{statement}
 use Rattle.refusals.proofs.pairs.more_out.Tie as tie
 
 abbrev invariant-loop : tie.invariant-loop
-invariant-loop n more i₀ i = (i ≤ length more + 1) × (inRange8 n (pairsIn (drop i more)) ≡ inRange8 n (pairsIn more))
+invariant-loop n more i₀ i = (i ≤ length more + 1) × (in_range8 n (pairs_in (drop i more)) ≡ in_range8 n (pairs_in more))
 
 abbrev decreases-loop : tie.decreases-loop
 decreases-loop n more i₀ i = length more + 1 - i
@@ -42,7 +42,7 @@ pair-out-requires : tie.Need-pair-out-requires invariant-loop decreases-loop
 pair-out-requires c κs = search rules
 
 returns : tie.Need-returns invariant-loop decreases-loop
-unfolding inRange8
+unfolding in_range8
 returns c =
     let in-loop = c.before.before.before.before in
     let at-loop = in-loop.before in
@@ -52,7 +52,7 @@ returns c =
     sym
     (ap not
     (sym loop.invariant.1
-    ∙ all-lost a.more.now loop.i (goodPair a.n) in-loop.loop-test.true
+    ∙ all-lost a.more.now loop.i (good_pair a.n) in-loop.loop-test.true
     (not-true _ (sym c.before.pair-out.ensures ∙ c.if1.true))))
 
 add-i : tie.Need-overflow-add-i invariant-loop decreases-loop
@@ -65,7 +65,7 @@ loop-less : tie.Need-loop-smaller invariant-loop decreases-loop
 loop-less c = omega arith
 
 loop-again : tie.Need-loop-preserved invariant-loop decreases-loop
-unfolding inRange8
+unfolding in_range8
 loop-again c =
     let in-loop = c.before.before.before.before in
     let at-loop = in-loop.before in
@@ -73,17 +73,17 @@ loop-again c =
     let loop = at-loop.loop in
     let a = start.args in (
       omega arith,
-      all-next a.more.now loop.i (goodPair a.n) in-loop.loop-test.true
+      all-next a.more.now loop.i (good_pair a.n) in-loop.loop-test.true
           (not-false _ (sym c.before.pair-out.ensures ∙ c.if1.false))
           ∙ loop.invariant.1,
     )
 
 returns-2 : tie.Need-returns-2 invariant-loop decreases-loop
-unfolding inRange8
+unfolding in_range8
 returns-2 c =
     let loop = c.before.loop in
     let a = c.before.before.before.args in
-    sym (ap not (sym loop.invariant.1 ∙ all-last a.more.now loop.i (goodPair a.n) c.loop-test.false))
+    sym (ap not (sym loop.invariant.1 ∙ all-last a.more.now loop.i (good_pair a.n) c.loop-test.false))
 
 pub more-out-spec : {M : Type 1} → statement M
 more-out-spec =

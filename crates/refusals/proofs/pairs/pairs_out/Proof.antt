@@ -6,28 +6,28 @@ use Prim.Native.Nat.{ℕ, ◌%◌, ◌≤◌, ◌<◌}
 use lib.ListN.{length}
 use borrow.Author.Rules.{rules}
 use borrow.Author.Tests.{eq-eqb, ne_eqb, lt-ltb, le-ltb, not-true, not-false}
-use Rattle.rules.specs.Pairs.{pair_of, pairsIn, all_of, goodPair, inRange8, mostMore}
-use Rattle.rules.specs.Refusal.{rangePairs}
+use Rattle.rules.specs.Pairs.{pair_of, pairs_in, all_of, good_pair, in_range8, most_more}
+use Rattle.rules.specs.Refusal.{range_pairs}
 use Rattle.refusals.proofs.pairs.pairs_out.Statement.{statement}
 use Rattle.refusals.proofs.pairs.pairs_out.Tie as tie
 
 module _ (first second n : ℕ) (more : List ℕ) where
-  half : (length more % 2 ≡ 0 → ⊥) → true ≡ not (rangePairs first second n more)
-  unfolding rangePairs
+  half : (length more % 2 ≡ 0 → ⊥) → true ≡ not (range_pairs first second n more)
+  unfolding range_pairs
   half h = rw (ne_eqb (length more % 2) 0 h)
 
   module _ (even : length more % 2 ≡ 0) where
-    many : mostMore < length more → true ≡ not (rangePairs first second n more)
-    unfolding rangePairs
-    many l = rw (eq-eqb (length more % 2) 0 even, lt-ltb mostMore (length more) l)
+    many : most_more < length more → true ≡ not (range_pairs first second n more)
+    unfolding range_pairs
+    many l = rw (eq-eqb (length more % 2) 0 even, lt-ltb most_more (length more) l)
 
-    first-bad : length more ≤ mostMore → goodPair n (pair_of first second) ≡ false → true ≡ not (rangePairs first second n more)
-    unfolding rangePairs inRange8 all_of
-    first-bad l e = rw (eq-eqb (length more % 2) 0 even, le-ltb mostMore (length more) l, e)
+    first-bad : length more ≤ most_more → good_pair n (pair_of first second) ≡ false → true ≡ not (range_pairs first second n more)
+    unfolding range_pairs in_range8 all_of
+    first-bad l e = rw (eq-eqb (length more % 2) 0 even, le-ltb most_more (length more) l, e)
 
-    further : length more ≤ mostMore → goodPair n (pair_of first second) ≡ true → {r : Bool} → r ≡ not (inRange8 n (pairsIn more)) → r ≡ not (rangePairs first second n more)
-    unfolding rangePairs inRange8 all_of
-    further l e h = rw (eq-eqb (length more % 2) 0 even, le-ltb mostMore (length more) l, e) h
+    further : length more ≤ most_more → good_pair n (pair_of first second) ≡ true → {r : Bool} → r ≡ not (in_range8 n (pairs_in more)) → r ≡ not (range_pairs first second n more)
+    unfolding range_pairs in_range8 all_of
+    further l e h = rw (eq-eqb (length more % 2) 0 even, le-ltb most_more (length more) l, e) h
 
 returns : tie.Need-returns
 returns c = half _ _ _ _ c.if1.true

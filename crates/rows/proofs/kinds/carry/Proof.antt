@@ -2,7 +2,7 @@
 use borrow.Author.Rules.{rules}
 use borrow.Author.Tests.{eq-eqb, ne_eqb}
 use Rattle.rules.specs.State.{number_of}
-use Rattle.rows.specs.Kinds.{carryOf}
+use Rattle.rows.specs.Kinds.{carry_of}
 use Rattle.rows.proofs.kinds.carry.Statement.{statement}
 use Rattle.rows.proofs.kinds.carry.Tie as tie
 
@@ -16,11 +16,11 @@ wide-requires : tie.Need-wide-requires
 wide-requires c κs = search rules
 
 returns : tie.Need-returns
-unfolding carryOf number_of
+unfolding carry_of number_of
 returns c = simp (eq-eqb _ _ c.before.before.if1.true) c.wide.ensures
 
 returns-2 : tie.Need-returns-2
-unfolding carryOf
+unfolding carry_of
 returns-2 c = simp (ne_eqb _ _ c.if1.false)
 
 pub carry-spec : {M : Type 1} → statement M

@@ -4,7 +4,7 @@ use Prim.Native.Nat.{suc, ◌+◌, ◌≤◌, ◌-◌}
 use mathlib.Core.Path.{◌≡◌, refl}
 use native.Mathlib.Omega.{arith}
 use native.Mathlib.Numerals.{add-one}
-use Rattle.rules.specs.Below.{sumBelow}
+use Rattle.rules.specs.Below.{sum_below}
 use Rattle.rows.specs.Kinds.{load_of}
 use Rattle.rows.proofs.Early.{load-le, load-more}
 use Rattle.rows.proofs.kinds.load.Statement.{statement}
@@ -17,11 +17,11 @@ abbrev decreases-loop : tie.decreases-loop
 decreases-loop rule weights n sum₀ i₀ sum i = n - i
 
 loop-holds : tie.Need-loop-init invariant-loop decreases-loop
-unfolding sumBelow
+unfolding sum_below
 loop-holds c = (omega arith, refl)
 
 carry-requires : tie.Need-carry-requires invariant-loop decreases-loop
-carry-requires c κs = λ two. omega (arith, c.before.before.before.requires.weights-length two)
+carry-requires c κs = λ two. omega (arith, c.before.before.before.requires.weights_length two)
 
 -- one component more
 more : (c : tie.After-carry invariant-loop decreases-loop) → let o = c.before.before in let a = o.before.before.args in
@@ -31,7 +31,7 @@ more c = rw (load-more, c.carry.ensures, c.before.before.loop.invariant.1)
 add-sum : tie.Need-overflow-add-sum invariant-loop decreases-loop
 add-sum c =
     let ok = c.before.before.before.before.requires in
-    omega (arith, more c, load-le ok (suc c.before.before.loop.i), ok.size-high)
+    omega (arith, more c, load-le ok (suc c.before.before.loop.i), ok.size_high)
 
 add-i : tie.Need-overflow-add-i invariant-loop decreases-loop
 add-i c = search rules

@@ -6,12 +6,12 @@ use native.Mathlib.Omega.{arith}
 use Rattle.units.specs.Step.{whole}
 use Rattle.places.specs.Cells.{Written}
 use Rattle.places.proofs.Cells.{room-kept, written_none, written-more}
-use Rattle.rows.specs.Level.{endsValue}
+use Rattle.rows.specs.Level.{ends_value}
 use Rattle.rows.proofs.row.start.Statement.{statement}
 use Rattle.rows.proofs.row.start.Tie as tie
 
 abbrev invariant-loop : tie.invariant-loop
-invariant-loop decimal rule limit table₀ m₀ table m = (m ≤ limit) × Written (endsValue (whole decimal) rule) m 0 table₀ table
+invariant-loop decimal rule limit table₀ m₀ table m = (m ≤ limit) × Written (ends_value (whole decimal) rule) m 0 table₀ table
 
 abbrev decreases-loop : tie.decreases-loop
 decreases-loop decimal rule limit table₀ m₀ table m = limit - m

@@ -10,7 +10,7 @@ use Rattle.units.specs.Step.{whole}
 use Rattle.places.specs.Cells.{Written}
 use Rattle.places.specs.Map.{half}
 use Rattle.places.proofs.Cells.{kept-none, side-near, written_none, written-more}
-use Rattle.rows.specs.Level.{sumsValue}
+use Rattle.rows.specs.Level.{sums_value}
 use Rattle.rows.proofs.Climbs.{Climb, read-place, write-place, climb-steady, climb-made}
 use Rattle.rows.proofs.Levels.{spare, level-climb, level-up, level-same}
 use Rattle.rows.proofs.row.turn.Statement.{statement}
@@ -20,7 +20,7 @@ abbrev invariant-loop : tie.invariant-loop
 invariant-loop decimal survival weights table₀ left next from carry reach width to odds m₀ table m =
     (m ≤ width)
     × ((rule : Rule) → Climb (whole decimal) rule survival weights left from table₀ odds.p.0 odds.q.0 carry width
-    → Written (sumsValue (whole decimal) rule survival weights (suc left)) m (half - from) table₀ table)
+    → Written (sums_value (whole decimal) rule survival weights (suc left)) m (half - from) table₀ table)
 
 abbrev decreases-loop : tie.decreases-loop
 decreases-loop decimal survival weights table₀ left next from carry reach width to odds m₀ table m = width - m
@@ -29,7 +29,7 @@ add-next : tie.Need-overflow-add-next invariant-loop decreases-loop
 add-next c = search rules
 
 carry-requires : tie.Need-carry-requires invariant-loop decreases-loop
-carry-requires c κs = let pre = c.before.before.before.requires in λ two. omega (arith, pre.1, pre.0.asked.accepted.weights-length two)
+carry-requires c κs = let pre = c.before.before.before.requires in λ two. omega (arith, pre.1, pre.0.asked.accepted.weights_length two)
 
 returns : tie.Need-returns invariant-loop decreases-loop
 returns c =

@@ -5,14 +5,14 @@ use native.Mathlib.Omega.{arith}
 use lib.ListN.{length, length-replicate}
 use lib.Seq.{length-take-le}
 use Rattle.ending.specs.Ending.{longest}
-use Rattle.shell.specs.Edges.{labelRoom}
+use Rattle.shell.specs.Edges.{label_room}
 use Rattle.season_stream.specs.Reading.{Sane}
 use borrow.Author.Rules.{rules}
 use Rattle.season.proofs.reading.read_stream.Statement.{statement}
 use Rattle.season.proofs.reading.read_stream.Tie as tie
 
 abbrev invariant-loop : tie.invariant-loop
-invariant-loop shown asked label₀ piece₀ reading₀ source₀ pieces₀ label piece reading source pieces = (pieces ≤ 1099511627776) × Sane reading × (length piece ≡ longest) × (source.end ≤ labelRoom)
+invariant-loop shown asked label₀ piece₀ reading₀ source₀ pieces₀ label piece reading source pieces = (pieces ≤ 1099511627776) × Sane reading × (length piece ≡ longest) × (source.end ≤ label_room)
 
 abbrev decreases-loop : tie.decreases-loop
 decreases-loop shown asked label₀ piece₀ reading₀ source₀ pieces₀ label piece reading source pieces = 1099511627776 - pieces

@@ -1,5 +1,5 @@
 -- `sources::read_more` meets its contract: what was read lies within the buffer, whichever input it came from. The measure is the turns left. Assumes nothing.
-use Rattle.shell.specs.Edges.{labelRoom}
+use Rattle.shell.specs.Edges.{label_room}
 use lib.ListN.{length}
 use Prim.Native.Nat.{◌-◌, ◌≤◌}
 use mathlib.Core.Path.{◌≡◌, refl}
@@ -9,7 +9,7 @@ use Rattle.shell.proofs.sources.read_more.Statement.{statement}
 use Rattle.shell.proofs.sources.read_more.Tie as tie
 
 abbrev invariant-loop : tie.invariant-loop
-invariant-loop program asked label₀ buffer₀ source₀ turns₀ label buffer source turns = (source.end ≤ labelRoom) × (length buffer ≡ length buffer₀)
+invariant-loop program asked label₀ buffer₀ source₀ turns₀ label buffer source turns = (source.end ≤ label_room) × (length buffer ≡ length buffer₀)
 
 abbrev decreases-loop : tie.decreases-loop
 decreases-loop program asked label₀ buffer₀ source₀ turns₀ label buffer source turns = 4294967296 - turns

@@ -1,5 +1,5 @@
 -- `starting::hear_all` meets its contract: what is asked stays within the table, word after word. The measure is the words left. Assumes nothing.
-use Rattle.options.specs.Words.{rowLength, mostOptions, Sound}
+use Rattle.options.specs.Words.{row_length, most_options, Sound}
 use lib.ListN.{length}
 use Prim.Native.Nat.{◌-◌, ◌*◌, ◌≤◌}
 use mathlib.Core.Path.{◌≡◌, sym, subst}
@@ -10,7 +10,7 @@ use Rattle.shell.proofs.starting.hear_all.Statement.{statement}
 use Rattle.shell.proofs.starting.hear_all.Tie as tie
 
 abbrev invariant-loop : tie.invariant-loop
-invariant-loop table most count word₀ asked₀ i₀ word asked i = (length table ≤ rowLength * mostOptions) × (1 ≤ i) × (length word ≡ 4096) × Sound asked
+invariant-loop table most count word₀ asked₀ i₀ word asked i = (length table ≤ row_length * most_options) × (1 ≤ i) × (length word ≡ 4096) × Sound asked
 
 abbrev decreases-loop : tie.decreases-loop
 decreases-loop table most count word₀ asked₀ i₀ word asked i = count - i

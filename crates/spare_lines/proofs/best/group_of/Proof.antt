@@ -6,7 +6,7 @@ use Prim.Native.Nat.{◌+◌, ◌-◌, ◌^◌, ◌≤◌, ◌<◌}
 use native.Mathlib.Omega.{arith}
 use lib.ListN.{get_or}
 use Rattle.rules.specs.State.{S}
-use Rattle.spare_lines.specs.Ranks.{leftIn}
+use Rattle.spare_lines.specs.Ranks.{left_in}
 use Rattle.spares.proofs.Highest.{highest-within}
 use Rattle.spare_lines.proofs.Grouping.{Passed, none_passed, one-passed, few-counted, all-passed}
 use Rattle.spare_lines.proofs.best.group_of.Statement.{statement}
@@ -38,7 +38,7 @@ highest-requires c κs = c.before.before.requires.0
 add-top : tie.Need-overflow-add-top invariant-loop decreases-loop
 add-top c =
     let s = entry c in
-    let top = highest-within S _ (leftIn s.args.t1) s.args.size (λ i l e. (s.pre.1.0.after i).0) in
+    let top = highest-within S _ (left_in s.args.t1) s.args.size (λ i l e. (s.pre.1.0.after i).0) in
     omega (arith, c.before.highest.ensures, top, s.pre.1.0.now)
 
 loop-holds : tie.Need-loop-init invariant-loop decreases-loop

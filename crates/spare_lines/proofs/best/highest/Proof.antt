@@ -6,12 +6,12 @@ use native.Mathlib.Omega.{arith}
 use native.Mathlib.Numerals.{add-one}
 use lib.ListN.{get_or}
 use Rattle.spares.specs.Highest.{highest}
-use Rattle.spare_lines.specs.Ranks.{leftIn}
+use Rattle.spare_lines.specs.Ranks.{left_in}
 use Rattle.spare_lines.proofs.best.highest.Statement.{statement}
 use Rattle.spare_lines.proofs.best.highest.Tie as tie
 
 abbrev invariant-loop : tie.invariant-loop
-invariant-loop size left low top₀ i₀ top i = (i ≤ size) × (top ≡ highest (λ j. get_or low j 0) (leftIn left) i)
+invariant-loop size left low top₀ i₀ top i = (i ≤ size) × (top ≡ highest (λ j. get_or low j 0) (left_in left) i)
 
 abbrev decreases-loop : tie.decreases-loop
 decreases-loop size left low top₀ i₀ top i = size - i

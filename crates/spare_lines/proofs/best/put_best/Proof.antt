@@ -5,14 +5,14 @@ use mathlib.Core.Path.{◌≡◌}
 use Prim.Native.Nat.{◌+◌, ◌-◌, ◌≤◌}
 use native.Mathlib.Omega.{arith}
 use Rattle.printing.proofs.Lined.{Lined, no_lines, one_more, all_lines}
-use Rattle.spare_lines.specs.Best.{rankedIn, roundText}
+use Rattle.spare_lines.specs.Best.{ranked_in, round_text}
 use Rattle.spare_lines.proofs.Rounds.{Standing, first-standing, next-round, named-most, round-fits, round_is}
 use Rattle.spare_lines.proofs.best.put_best.Statement.{statement}
 use Rattle.spare_lines.proofs.best.put_best.Tie as tie
 
 abbrev invariant-loop : tie.invariant-loop
 invariant-loop shown best places before out₀ at left₀ gone₀ end₀ r₀ out left gone end r =
-    Lined shown.size (roundText shown best (rankedIn shown.size places before)) out₀ at out end r × Standing (rankedIn shown.size places before) r left gone
+    Lined shown.size (round_text shown best (ranked_in shown.size places before)) out₀ at out end r × Standing (ranked_in shown.size places before) r left gone
 
 abbrev decreases-loop : tie.decreases-loop
 decreases-loop shown best places before out₀ at left₀ gone₀ end₀ r₀ out left gone end r = shown.size - r
@@ -38,7 +38,7 @@ named c =
     let at = c.before in
     let x = (entry at).args in
     let l = at.before.before.loop in
-    named-most (rankedIn x.shown.size x.places x.before) l.r l.invariant.1 c.Group-of.ensures
+    named-most (ranked_in x.shown.size x.places x.before) l.r l.invariant.1 c.Group-of.ensures
 
 add-put-round : tie.Need-overflow-add-put-round invariant-loop decreases-loop
 add-put-round c = omega (arith, named c, (entry c.before).pre.0.few)
@@ -68,7 +68,7 @@ loop-again c =
     let x = (entry at.before).args in
     let l = at.before.before.before.loop in
     let g = at.Group-of.ensures in
-    let k = rankedIn x.shown.size x.places x.before in (
+    let k = ranked_in x.shown.size x.places x.before in (
       one_more l.inv.0 at.before.if1.taken (omega (arith, put.auto)) (rw (round_is x.shown x.best x.places x.before l.r l.inv.1 g) at put.ensures),
       next-round k l.r l.inv.1 g,
     )

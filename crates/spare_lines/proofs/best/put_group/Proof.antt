@@ -7,15 +7,15 @@ use Prim.Native.Nat.{◌+◌, ◌-◌}
 use native.Mathlib.Omega.{arith}
 use lib.ListN.{get_or}
 use Rattle.printing.proofs.Lined.{Lined, no_lines, one_more, all_lines}
-use Rattle.spare_lines.specs.Lines.{endsOf}
-use Rattle.spare_lines.specs.Best.{placeIf}
+use Rattle.spare_lines.specs.Lines.{ends_of}
+use Rattle.spare_lines.specs.Best.{place_if}
 use Rattle.spare_lines.proofs.Rounds.{member-fits}
 use Rattle.spare_lines.proofs.best.put_group.Statement.{statement}
 use Rattle.spare_lines.proofs.best.put_group.Tie as tie
 
 abbrev invariant-loop : tie.invariant-loop
 invariant-loop shown rank group out₀ at low high alike end₀ i₀ out end i =
-    Lined shown.size (λ j. placeIf (get_or alike j false) shown rank group.count (shown.a + j) (endsOf (get_or low j 0) (get_or high j 0))) out₀ at out end i
+    Lined shown.size (λ j. place_if (get_or alike j false) shown rank group.count (shown.a + j) (ends_of (get_or low j 0) (get_or high j 0))) out₀ at out end i
 
 abbrev decreases-loop : tie.decreases-loop
 decreases-loop shown rank group out₀ at low high alike end₀ i₀ out end i = shown.size - i

@@ -3,7 +3,7 @@ use borrow.Author.Rules.{rules}
 use Prim.Native.Nat.{◌+◌, ◌≤◌}
 use native.Mathlib.Omega.{arith}
 use Rattle.text.specs.Decimal.{text}
-use Rattle.text.specs.Lines.{pairRoom}
+use Rattle.text.specs.Lines.{pair_room}
 use Rattle.text.proofs.Adding.{added_more, pair-reach}
 use Rattle.spare_lines.proofs.best.put_place.Statement.{statement}
 use Rattle.spare_lines.proofs.best.put_place.Tie as tie
@@ -15,10 +15,10 @@ entry c = let lent = c.before.before.before in lent.before.before
 abbrev ranked : tie.After-put-pair2 → tie.After-put-pair
 ranked c = let lent = c.before.before.before in lent.before.before.before
 
-first : (c : tie.After-put-pair) → c.put-pair.result ≤ (entry c).args.at + pairRoom (text "system ") (text " rank ")
+first : (c : tie.After-put-pair) → c.put-pair.result ≤ (entry c).args.at + pair_room (text "system ") (text " rank ")
 first c = let x = (entry c).args in pair-reach (text "system ") x.shown.s (text " rank ") x.rank c.put-pair.ensures
 
-second : (c : tie.After-put-pair2) → c.put-pair2.result ≤ (ranked c).put-pair.result + pairRoom (text " alike ") (text " fan ")
+second : (c : tie.After-put-pair2) → c.put-pair2.result ≤ (ranked c).put-pair.result + pair_room (text " alike ") (text " fan ")
 second c = let x = (entry (ranked c)).args in pair-reach (text " alike ") x.count (text " fan ") x.fan c.put-pair2.ensures
 
 slice-aggregate-put-pair : tie.Need-slice-aggregate-put-pair

@@ -2,15 +2,15 @@
 use Prim.Native.Nat.{◌-◌, ◌≤◌}
 use native.Mathlib.Omega.{arith}
 use borrow.Author.Rules.{rules}
-use Rattle.drawn.specs.Drawn.{mostDrawn}
+use Rattle.drawn.specs.Drawn.{most_drawn}
 use Rattle.telling.proofs.best.next_best.Statement.{statement}
 use Rattle.telling.proofs.best.next_best.Tie as tie
 
 abbrev invariant-loop : tie.invariant-loop
-invariant-loop worths passed best₀ i₀ best i = (best ≤ mostDrawn) × (i ≤ mostDrawn)
+invariant-loop worths passed best₀ i₀ best i = (best ≤ most_drawn) × (i ≤ most_drawn)
 
 abbrev decreases-loop : tie.decreases-loop
-decreases-loop worths passed best₀ i₀ best i = mostDrawn - i
+decreases-loop worths passed best₀ i₀ best i = most_drawn - i
 
 loop-holds : tie.Need-loop-init invariant-loop decreases-loop
 loop-holds c = (omega arith, omega arith)

@@ -2,15 +2,15 @@
 use Prim.Native.Nat.{◌-◌, ◌≤◌}
 use native.Mathlib.Omega.{arith}
 use borrow.Author.Rules.{rules}
-use Rattle.drawn.specs.Drawn.{mostDrawn}
+use Rattle.drawn.specs.Drawn.{most_drawn}
 use Rattle.telling.proofs.best.outside.Statement.{statement}
 use Rattle.telling.proofs.best.outside.Tie as tie
 
 abbrev invariant-loop : tie.invariant-loop
-invariant-loop shape passed₀ i₀ passed i = i ≤ mostDrawn
+invariant-loop shape passed₀ i₀ passed i = i ≤ most_drawn
 
 abbrev decreases-loop : tie.decreases-loop
-decreases-loop shape passed₀ i₀ passed i = mostDrawn - i
+decreases-loop shape passed₀ i₀ passed i = most_drawn - i
 
 loop-holds : tie.Need-loop-init invariant-loop decreases-loop
 loop-holds c = omega arith

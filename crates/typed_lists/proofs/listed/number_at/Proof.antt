@@ -4,8 +4,8 @@ use Prim.Native.Nat.{◌*◌, ◌/◌, ◌%◌, ◌<◌}
 use native.Mathlib.Omega.{arith}
 use lib.ListN.{drop}
 use lib.Seq.{get_or-drop}
-use Rattle.rules.specs.File.{perSystem}
-use Rattle.typed_lists.specs.Lists.{perListed}
+use Rattle.rules.specs.File.{per_system}
+use Rattle.typed_lists.specs.Lists.{per_listed}
 use Rattle.typed_lists.proofs.MoreSystems.{five-given, five-a, five-b, five-rule}
 use borrow.Author.Rules.{rules}
 use Rattle.typed_lists.proofs.listed.number_at.Statement.{statement}
@@ -36,28 +36,28 @@ returns : tie.Need-returns
 returns c =
     let x = c.before.before.before.args in
     let j = x.j in
-    let all = drop (j / perSystem * perListed) x.listed.now in
-    let at = get_or-drop (j / perSystem * perListed) x.listed.now in
-    let l : j % perSystem < perSystem = omega arith in
-    sym (five-given x.fans all (j % perSystem) l (λ e. c.before.if1.true (sym (at 5 0) ∙ e)) ∙ at (j % perSystem) 0)
+    let all = drop (j / per_system * per_listed) x.listed.now in
+    let at = get_or-drop (j / per_system * per_listed) x.listed.now in
+    let l : j % per_system < per_system = omega arith in
+    sym (five-given x.fans all (j % per_system) l (λ e. c.before.if1.true (sym (at 5 0) ∙ e)) ∙ at (j % per_system) 0)
 
 returns-2 : tie.Need-returns-2
 returns-2 c =
     let x = c.before.before.before.args in
     let j = x.j in
-    let all = drop (j / perSystem * perListed) x.listed.now in
-    let at = get_or-drop (j / perSystem * perListed) x.listed.now in
-    let l : j % perSystem < perSystem = omega arith in
-    sym (five-a x.fans all (j % perSystem) l (at 5 0 ∙ c.before.if1.false) c.if2.true)
+    let all = drop (j / per_system * per_listed) x.listed.now in
+    let at = get_or-drop (j / per_system * per_listed) x.listed.now in
+    let l : j % per_system < per_system = omega arith in
+    sym (five-a x.fans all (j % per_system) l (at 5 0 ∙ c.before.if1.false) c.if2.true)
 
 returns-3 : tie.Need-returns-3
 returns-3 c =
     let x = c.before.before.before.before.args in
     let j = x.j in
-    let all = drop (j / perSystem * perListed) x.listed.now in
-    let at = get_or-drop (j / perSystem * perListed) x.listed.now in
-    let l : j % perSystem < perSystem = omega arith in
-    sym (five-b x.fans all (j % perSystem) l (at 5 0 ∙ c.before.before.if1.false) c.if3.true)
+    let all = drop (j / per_system * per_listed) x.listed.now in
+    let at = get_or-drop (j / per_system * per_listed) x.listed.now in
+    let l : j % per_system < per_system = omega arith in
+    sym (five-b x.fans all (j % per_system) l (at 5 0 ∙ c.before.before.if1.false) c.if3.true)
 
 add-result-2 : tie.Need-overflow-add-result-2
 add-result-2 c = search rules
@@ -77,10 +77,10 @@ returns-4 c =
     let test3 = c.before.if3 in
     let x = start.args in
     let j = x.j in
-    let all = drop (j / perSystem * perListed) x.listed.now in
-    let at = get_or-drop (j / perSystem * perListed) x.listed.now in
-    let l : j % perSystem < perSystem = omega arith in
-    sym (five-rule x.fans all (j % perSystem) l (at 5 0 ∙ test.false) test2.false test3.false ∙ at (j % perSystem) 0)
+    let all = drop (j / per_system * per_listed) x.listed.now in
+    let at = get_or-drop (j / per_system * per_listed) x.listed.now in
+    let l : j % per_system < per_system = omega arith in
+    sym (five-rule x.fans all (j % per_system) l (at 5 0 ∙ test.false) test2.false test3.false ∙ at (j % per_system) 0)
 
 pub number-at-spec : {M : Type 1} → statement M
 number-at-spec =

@@ -5,8 +5,8 @@ use Prim.Native.Nat.{ℕ, ◌-◌, ◌*◌, ◌≤◌}
 use native.Mathlib.Omega.{arith}
 use lib.ListN.{take}
 use lib.Seq.{take_all}
-use Rattle.rules.specs.File.{mostSystems, perSystem}
-use Rattle.grammar.specs.Text.{numbersOf}
+use Rattle.rules.specs.File.{most_systems, per_system}
+use Rattle.grammar.specs.Text.{numbers_of}
 use Rattle.typed_lists.specs.Lists.{Stored, Ruled}
 use Rattle.typed_lists.proofs.Storing.{stored_next}
 use Rattle.typed_lists.proofs.MoreSystems.{typed_at, count-fives}
@@ -15,11 +15,11 @@ use Rattle.typed_lists.proofs.listed.numbers.Tie as tie
 
 abbrev invariant-loop : tie.invariant-loop
 invariant-loop systems fans listed all₀ j₀ all j =
-    (j ≤ systems.count * perSystem)
-    × ((l : List (List ℕ)) → Ruled systems l → Stored (mostSystems * perSystem) j all (take j (numbersOf fans l)))
+    (j ≤ systems.count * per_system)
+    × ((l : List (List ℕ)) → Ruled systems l → Stored (most_systems * per_system) j all (take j (numbers_of fans l)))
 
 abbrev decreases-loop : tie.decreases-loop
-decreases-loop systems fans listed all₀ j₀ all j = systems.count * perSystem - j
+decreases-loop systems fans listed all₀ j₀ all j = systems.count * per_system - j
 
 loop-holds : tie.Need-loop-init invariant-loop decreases-loop
 loop-holds c = (omega arith, λ l h. record { long = refl; few = omega arith; counted = refl; stands = refl })
@@ -63,7 +63,7 @@ loop-again c =
       λ l h.
           let t = then1.if1.true in
           let x = start.args in
-          stored_next (numbersOf x.fans l) (at-loop.loop.invariant.1 l h) _
+          stored_next (numbers_of x.fans l) (at-loop.loop.invariant.1 l h) _
           (omega (arith, start.requires, t))
           (omega (arith, count-fives h x.fans, t))
           (c.number_at.ensures ∙ typed_at h x.fans _ t),
@@ -73,8 +73,8 @@ returns : tie.Need-returns invariant-loop decreases-loop
 returns c = λ l h.
     let o = c.before.before.loop in
     let x = c.before.before.before.before.args in
-    let e : o.j ≡ x.systems.count * perSystem = omega (arith, o.invariant.0, c.if1.false) in
-    let all = take_all (x.systems.count * perSystem) (numbersOf x.fans l) (omega (arith, count-fives h x.fans)) in
+    let e : o.j ≡ x.systems.count * per_system = omega (arith, o.invariant.0, c.if1.false) in
+    let all = take_all (x.systems.count * per_system) (numbers_of x.fans l) (omega (arith, count-fives h x.fans)) in
     rw all at (rw e at (o.invariant.1 l h))
 
 pub numbers-spec : {M : Type 1} → statement M

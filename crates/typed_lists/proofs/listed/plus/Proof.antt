@@ -4,25 +4,25 @@ use mathlib.Core.List.{List, ◌++◌}
 use Prim.Native.Nat.{ℕ, ◌+◌, ◌-◌, ◌*◌, ◌≤◌}
 use native.Mathlib.Omega.{arith}
 use lib.ListN.{take}
-use Rattle.rules.specs.File.{mostSystems}
-use Rattle.typed_lists.specs.Lists.{Stored, perListed, sixOf, sixes}
+use Rattle.rules.specs.File.{most_systems}
+use Rattle.typed_lists.specs.Lists.{Stored, per_listed, six_of, sixes}
 use Rattle.typed_lists.proofs.MoreSystems.{six-small, six-none, six-more, one_more}
 use Rattle.typed_lists.proofs.listed.plus.Statement.{statement}
 use Rattle.typed_lists.proofs.listed.plus.Tie as tie
 
 abbrev invariant-loop : tie.invariant-loop
 invariant-loop systems set at numbers₀ k₀ numbers k =
-    (k ≤ perListed)
-    × ((list : List ℕ) → Stored (mostSystems * perListed) at numbers₀ list → Stored (mostSystems * perListed) (at + k) numbers (list ++ take k (sixOf set)))
+    (k ≤ per_listed)
+    × ((list : List ℕ) → Stored (most_systems * per_listed) at numbers₀ list → Stored (most_systems * per_listed) (at + k) numbers (list ++ take k (six_of set)))
 
 abbrev decreases-loop : tie.decreases-loop
-decreases-loop systems set at numbers₀ k₀ numbers k = perListed - k
+decreases-loop systems set at numbers₀ k₀ numbers k = per_listed - k
 
 mul_at : tie.Need-overflow-mul-at invariant-loop decreases-loop
 mul_at c = omega (arith, c.before.requires.0)
 
 loop-holds : tie.Need-loop-init invariant-loop decreases-loop
-loop-holds c = (omega arith, λ list f. six-none (mostSystems * perListed) _ list c.before.before.args.t2 f)
+loop-holds c = (omega arith, λ list f. six-none (most_systems * per_listed) _ list c.before.before.args.t2 f)
 
 mul-numbers : tie.Need-overflow-mul-numbers invariant-loop decreases-loop
 mul-numbers c = omega arith
@@ -53,7 +53,7 @@ loop-again c =
     let start = c.before.before.before.before in
     let turn = c.before.loop in (
       omega arith,
-      λ list f. six-more (mostSystems * perListed) _ list start.args.t2 (turn.invariant.1 list f) c.loop-test.true (omega (arith, start.requires.0)),
+      λ list f. six-more (most_systems * per_listed) _ list start.args.t2 (turn.invariant.1 list f) c.loop-test.true (omega (arith, start.requires.0)),
     )
 
 add-t17 : tie.Need-overflow-add-t17 invariant-loop decreases-loop
@@ -65,7 +65,7 @@ add-t17 c =
 returns : tie.Need-returns invariant-loop decreases-loop
 returns c =
     let l = c.before.before.loop in
-    let e : l.k ≡ perListed = omega (arith, l.invariant.0, c.before.loop-test.false) in
+    let e : l.k ≡ per_listed = omega (arith, l.invariant.0, c.before.loop-test.false) in
     record { count = refl; ruled = λ systems h. one_more _ h (rw e at (l.invariant.1 (sixes systems) h.numbers)) }
 
 pub plus-spec : {M : Type 1} → statement M

@@ -10,7 +10,7 @@ share-requires-2 : tie.Need-share-requires-2
 share-requires-2 c κs = let pre = c.before.requires in (pre.unit, omega (arith, pre.rest))
 
 returns : tie.Need-returns
-returns c = record { of-p = c.before.share.ensures; of-q = rw c.before.before.requires.rest at c.share2.ensures }
+returns c = record { of_p = c.before.share.ensures; of_q = rw c.before.before.requires.rest at c.share2.ensures }
 
 pub deal-spec : {M : Type 1} → statement M
 deal-spec = tie.close (tie.spec share-requires share-requires-2 returns)

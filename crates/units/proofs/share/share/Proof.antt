@@ -2,7 +2,7 @@
 use Prim.Native.Nat.{◌*◌, ◌-◌}
 use native.Mathlib.Omega.{arith}
 use Rattle.units.specs.Share.{digit}
-use Rattle.units.proofs.Making.{Quotient, upperParts, quotient, rest-less, made}
+use Rattle.units.proofs.Making.{Quotient, upper_parts, quotient, rest-less, made}
 use Rattle.units.proofs.share.share.Statement.{statement}
 use Rattle.units.proofs.share.share.Tie as tie
 
@@ -17,8 +17,8 @@ upper : (c : tie.After-over) → Quotient c.before.args.unit c.before.args.x dig
 upper c = quotient c.before.requires.0 digit (omega (arith, c.before.requires.1)) c.over.ensures
 
 lower : (c : tie.After-over2) → let a = c.before.before.args in
-    Quotient a.unit (a.x * digit - c.before.over.result * a.unit) upperParts c.over2.result
-lower c = quotient c.before.before.requires.0 upperParts (omega (arith, rest-less (upper c.before))) c.over2.ensures
+    Quotient a.unit (a.x * digit - c.before.over.result * a.unit) upper_parts c.over2.result
+lower c = quotient c.before.before.requires.0 upper_parts (omega (arith, rest-less (upper c.before))) c.over2.ensures
 
 mul_left : tie.Need-overflow-mul-left
 mul_left c = omega (arith, c.before.requires.1, c.before.requires.0.most)

@@ -4,7 +4,7 @@ use mathlib.Core.Path.{◌≡◌, ap, ◌∙◌}
 use native.Mathlib.Omega.{arith}
 use native.Mathlib.Nat.{mul-div-mul_right}
 use borrow.Author.Rules.{rules}
-use Rattle.units.specs.Share.{shareParts, wordParts}
+use Rattle.units.specs.Share.{share_parts, word_parts}
 use Rattle.units.proofs.share.times.Statement.{statement}
 use Rattle.units.proofs.share.times.Tie as tie
 
@@ -18,7 +18,7 @@ returns : tie.Need-returns
 returns c =
     let a = c.before.args in
     let e : a.share * (a.x * 4) ≡ a.share * a.x * 4 = omega arith in
-    c.upper-half.ensures ∙ ap (λ y. y / wordParts) e ∙ mul-div-mul_right (a.share * a.x) shareParts (omega arith)
+    c.upper-half.ensures ∙ ap (λ y. y / word_parts) e ∙ mul-div-mul_right (a.share * a.x) share_parts (omega arith)
 
 pub times-spec : {M : Type 1} → statement M
 times-spec = tie.close (tie.spec mul-upper-half upper-half-requires returns)

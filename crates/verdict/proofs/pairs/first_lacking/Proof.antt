@@ -5,13 +5,13 @@ use Prim.Native.Nat.{◌-◌, ◌≤◌}
 use native.Mathlib.Omega.{arith}
 use borrow.Author.Rules.{rules}
 use Rattle.rules.specs.Below.{some}
-use Rattle.rules.specs.Pairs.{pairsOf, any_of, lackingFrom}
+use Rattle.rules.specs.Pairs.{pairs_of, any_of, lacking_from}
 use Rattle.rules.proofs.Lowest.{nowhere-yet, passed, found, nowhere}
 use Rattle.verdict.proofs.pairs.first_lacking.Statement.{statement}
 use Rattle.verdict.proofs.pairs.first_lacking.Tie as tie
 
 abbrev invariant-loop : tie.invariant-loop
-invariant-loop k r more n w a₀ a = (a ≤ n) × (some (λ s. any_of (lackingFrom n w s) (pairsOf k r more)) a ≡ false)
+invariant-loop k r more n w a₀ a = (a ≤ n) × (some (λ s. any_of (lacking_from n w s) (pairs_of k r more)) a ≡ false)
 
 abbrev decreases-loop : tie.decreases-loop
 decreases-loop k r more n w a₀ a = n - a

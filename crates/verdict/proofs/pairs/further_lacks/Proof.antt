@@ -5,7 +5,7 @@ use Prim.Native.Nat.{◌+◌, ◌-◌, ◌≤◌}
 use native.Mathlib.Omega.{arith}
 use lib.ListN.{length, drop}
 use borrow.Author.Rules.{rules}
-use Rattle.rules.specs.Pairs.{pairsIn, any_of, lackingFrom}
+use Rattle.rules.specs.Pairs.{pairs_in, any_of, lacking_from}
 use Rattle.verdict.specs.Pairs.{From}
 use Rattle.rules.proofs.Further.{pairs-step, any_found, any_next, any_last}
 use Rattle.verdict.proofs.InRange.{alone, rest}
@@ -15,8 +15,8 @@ use Rattle.verdict.proofs.pairs.further_lacks.Tie as tie
 abbrev invariant-loop : tie.invariant-loop
 invariant-loop more n a w i₀ i =
     (i ≤ length more + 1)
-    × (any_of (lackingFrom n w a) (pairsIn (drop i more)) ≡ any_of (lackingFrom n w a) (pairsIn more))
-    × From n w a (pairsIn (drop i more))
+    × (any_of (lacking_from n w a) (pairs_in (drop i more)) ≡ any_of (lacking_from n w a) (pairs_in more))
+    × From n w a (pairs_in (drop i more))
 
 abbrev decreases-loop : tie.decreases-loop
 decreases-loop more n a w i₀ i = length more + 1 - i
@@ -58,7 +58,7 @@ returns c =
     let a = start.args in
     sym
     (sym loop.invariant.1
-    ∙ any_found a.more.now loop.i (lackingFrom a.n a.w a.a) in-loop.loop-test.true
+    ∙ any_found a.more.now loop.i (lacking_from a.n a.w a.a) in-loop.loop-test.true
     (sym c.before.lacks.ensures ∙ c.if1.true))
 
 add-i : tie.Need-overflow-add-i invariant-loop decreases-loop
@@ -79,7 +79,7 @@ loop-again c =
     let a = start.args in
     let more = in-loop.loop-test.true in (
       omega arith,
-      any_next a.more.now loop.i (lackingFrom a.n a.w a.a) more (sym c.before.lacks.ensures ∙ c.if1.false) ∙ loop.invariant.1,
+      any_next a.more.now loop.i (lacking_from a.n a.w a.a) more (sym c.before.lacks.ensures ∙ c.if1.false) ∙ loop.invariant.1,
       rest (rw (pairs-step a.more.now loop.i more) at loop.invariant.2),
     )
 
@@ -87,7 +87,7 @@ returns-2 : tie.Need-returns-2 invariant-loop decreases-loop
 returns-2 c =
     let loop = c.before.loop in
     let a = c.before.before.before.args in
-    sym (sym loop.invariant.1 ∙ any_last a.more.now loop.i (lackingFrom a.n a.w a.a) c.loop-test.false)
+    sym (sym loop.invariant.1 ∙ any_last a.more.now loop.i (lacking_from a.n a.w a.a) c.loop-test.false)
 
 pub further-lacks-spec : {M : Type 1} → statement M
 further-lacks-spec =

@@ -6,7 +6,7 @@ use native.Mathlib.Omega.{arith}
 use lib.Dec.{ltb}
 use borrow.Author.Tests.{lt-ltb, le-ltb}
 use Rattle.rules.specs.Pairs.{pair_of}
-use Rattle.rules.specs.State.{heldIn, window}
+use Rattle.rules.specs.State.{held_in, window}
 use Rattle.rules.proofs.Windows.{held-le}
 use Rattle.rules.proofs.Pairs.{Good}
 use Rattle.verdict.specs.Pairs.{From}

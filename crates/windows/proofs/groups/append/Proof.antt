@@ -2,7 +2,7 @@
 use native.Mathlib.Omega.{arith}
 use lib.ListN.{length-set}
 use Prim.Native.Nat.{◌+◌}
-use Rattle.windows.specs.Groups.{countAt}
+use Rattle.windows.specs.Groups.{count_at}
 use Rattle.windows.proofs.Stores.{two}
 use borrow.Author.Rules.{rules}
 use Rattle.windows.proofs.groups.append.Statement.{statement}
@@ -44,7 +44,7 @@ returns : tie.Need-returns
 returns c =
     let p = c.before.requires in
     let a = c.before.args in
-    let s = two a.table.now (a.at + 1 + countAt a.table.now a.at) a.x a.at _ p.low (omega (arith, p.low)) (λ e. omega arith) p.room in
+    let s = two a.table.now (a.at + 1 + count_at a.table.now a.at) a.x a.at _ p.low (omega (arith, p.low)) (λ e. omega arith) p.room in
     record { count = s.second; here = s.first; other = λ k h g. s.other k g h; kept = s.kept }
 
 pub append-spec : {M : Type 1} → statement M

@@ -2,13 +2,13 @@
 use borrow.Author.Rules.{rules}
 use Prim.Native.Nat.{◌<◌, ◌≤◌}
 use native.Mathlib.Omega.{arith}
-use Rattle.windows.specs.Groups.{countAt, entry_at}
+use Rattle.windows.specs.Groups.{count_at, entry_at}
 use Rattle.windows.proofs.Lists.{entry-last}
 use Rattle.windows.proofs.groups.below.Statement.{statement}
 use Rattle.windows.proofs.groups.below.Tie as tie
 
 abbrev invariant-loop : tie.invariant-loop
-invariant-loop at reach table c₀ c = (c ≤ countAt table at) × (c < countAt table at → reach ≤ entry_at table at c)
+invariant-loop at reach table c₀ c = (c ≤ count_at table at) × (c < count_at table at → reach ≤ entry_at table at c)
 
 abbrev decreases-loop : tie.decreases-loop
 decreases-loop at reach table c₀ c = c

@@ -4,15 +4,15 @@ use mathlib.Core.Path.{◌≡◌, refl, sym, ◌∙◌}
 use Prim.Native.Nat.{◌+◌, ◌-◌, ◌≤◌}
 use native.Mathlib.Omega.{arith}
 use lib.ListN.{length, drop}
-use Rattle.rules.specs.Memory.{longest, lackingLast}
-use Rattle.rules.specs.Pairs.{pairsIn, any_of, longestWindow}
+use Rattle.rules.specs.Memory.{longest, lacking_last}
+use Rattle.rules.specs.Pairs.{pairs_in, any_of, longest_window}
 use Rattle.rules.proofs.Further.{any_found, any_next, any_last}
 use Rattle.windows.proofs.Asking.{short-next, lacks-first, lacks-further}
 use Rattle.windows.proofs.pairs.lacks.Statement.{statement}
 use Rattle.windows.proofs.pairs.lacks.Tie as tie
 
 abbrev invariant-loop : tie.invariant-loop
-invariant-loop first second more m i₀ i = (i ≤ length more + 1) × (longest (pairsIn (drop i more)) ≤ longestWindow) × (any_of (lackingLast m.bits) (pairsIn (drop i more)) ≡ any_of (lackingLast m.bits) (pairsIn more))
+invariant-loop first second more m i₀ i = (i ≤ length more + 1) × (longest (pairs_in (drop i more)) ≤ longest_window) × (any_of (lacking_last m.bits) (pairs_in (drop i more)) ≡ any_of (lacking_last m.bits) (pairs_in more))
 
 abbrev decreases-loop : tie.decreases-loop
 decreases-loop first second more m i₀ i = length more + 1 - i

@@ -5,13 +5,13 @@ use Prim.Native.Nat.{◌+◌, ◌-◌, ◌≤◌, max}
 use native.Mathlib.Omega.{arith}
 use lib.ListN.{length, drop}
 use Rattle.rules.specs.Memory.{longest}
-use Rattle.rules.specs.Pairs.{pairsIn}
+use Rattle.rules.specs.Pairs.{pairs_in}
 use Rattle.windows.proofs.Asking.{longest-next, longest-last}
 use Rattle.windows.proofs.pairs.longest.Statement.{statement}
 use Rattle.windows.proofs.pairs.longest.Tie as tie
 
 abbrev invariant-loop : tie.invariant-loop
-invariant-loop second more r₀ i₀ r i = (i ≤ length more + 1) × (max r (longest (pairsIn (drop i more))) ≡ max r₀ (longest (pairsIn more)))
+invariant-loop second more r₀ i₀ r i = (i ≤ length more + 1) × (max r (longest (pairs_in (drop i more))) ≡ max r₀ (longest (pairs_in more)))
 
 abbrev decreases-loop : tie.decreases-loop
 decreases-loop second more r₀ i₀ r i = length more + 1 - i

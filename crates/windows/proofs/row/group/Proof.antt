@@ -4,7 +4,7 @@ use mathlib.Core.Path.{◌≡◌}
 use Prim.Native.Nat.{◌-◌, ◌≤◌}
 use native.Mathlib.Omega.{arith}
 use Rattle.units.specs.Step.{whole}
-use Rattle.windows.specs.Groups.{listAt, countAt}
+use Rattle.windows.specs.Groups.{list_at, count_at}
 use Rattle.windows.specs.Row.{Partly}
 use Rattle.windows.proofs.Working.{partly_none, entry-same, ready-still, partly_more}
 use Rattle.windows.proofs.row.group.Statement.{statement}
@@ -12,8 +12,8 @@ use Rattle.windows.proofs.row.group.Tie as tie
 
 abbrev invariant-loop : tie.invariant-loop
 invariant-loop decimal must worse p oldest from table₀ at count j₀ table j =
-    (j ≤ count) × (at ≡ listAt must worse) × (count ≡ countAt table₀ (listAt must worse))
-    × Partly (whole decimal) must worse (listAt must worse) p.0 oldest from j table₀ table
+    (j ≤ count) × (at ≡ list_at must worse) × (count ≡ count_at table₀ (list_at must worse))
+    × Partly (whole decimal) must worse (list_at must worse) p.0 oldest from j table₀ table
 
 abbrev decreases-loop : tie.decreases-loop
 decreases-loop decimal must worse p oldest from table₀ at count j₀ table j = count - j
@@ -90,7 +90,7 @@ returns c =
     let at = c.before in
     let v = at.loop.invariant in
     let x = (start at).args in
-    let e : at.loop.j ≡ countAt x.table.now (listAt x.must x.worse) = omega (arith, v.2) in
+    let e : at.loop.j ≡ count_at x.table.now (list_at x.must x.worse) = omega (arith, v.2) in
     rw e at v.3
 
 pub group-spec : {M : Type 1} → statement M

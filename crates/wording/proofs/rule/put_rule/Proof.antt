@@ -1,6 +1,6 @@
 -- `rule::put_rule` meets its contract: each arm puts its kind's row. Assumes nothing.
 use Prim.Native.Nat.{◌≤◌}
-use Rattle.wording.specs.Rule.{ruleText}
+use Rattle.wording.specs.Rule.{rule_text}
 use Rattle.wording.proofs.Rows.{past, other-kind}
 use borrow.Author.Rules.{rules}
 use Rattle.wording.proofs.rule.put_rule.Statement.{statement}
@@ -97,7 +97,7 @@ same_length : tie.Need-same-length
 same_length c = search rules
 
 returns : tie.Need-returns
-unfolding ruleText
+unfolding rule_text
 returns c =
     let after-put-alone = c.before.before in
     let at-match-keys1 = after-put-alone.before.before.before.before in
@@ -107,7 +107,7 @@ same-length-2 : tie.Need-same-length-2
 same-length-2 c = search rules
 
 returns-2 : tie.Need-returns-2
-unfolding ruleText
+unfolding rule_text
 returns-2 c =
     let after-put-alone2 = c.before.before in
     let at-match-keys2 = after-put-alone2.before.before.before.before in
@@ -117,7 +117,7 @@ same-length-3 : tie.Need-same-length-3
 same-length-3 c = search rules
 
 returns-3 : tie.Need-returns-3
-unfolding ruleText
+unfolding rule_text
 returns-3 c =
     let after-put-two-arg3 = c.before.before.before.before in
     let at-match-keys3 = after-put-two-arg3.before.before.before in
@@ -127,7 +127,7 @@ same-length-4 : tie.Need-same-length-4
 same-length-4 c = search rules
 
 returns-4 : tie.Need-returns-4
-unfolding ruleText
+unfolding rule_text
 returns-4 c =
     let after-put-alone3 = c.before.before in
     let at-match-keys4 = after-put-alone3.before.before.before.before in
@@ -137,7 +137,7 @@ same-length-5 : tie.Need-same-length-5
 same-length-5 c = search rules
 
 returns-5 : tie.Need-returns-5
-unfolding ruleText
+unfolding rule_text
 returns-5 c =
     let after-put-alone4 = c.before.before in
     let at-match-keys5 = after-put-alone4.before.before.before.before in
@@ -147,7 +147,7 @@ same-length-6 : tie.Need-same-length-6
 same-length-6 c = search rules
 
 returns-6 : tie.Need-returns-6
-unfolding ruleText
+unfolding rule_text
 returns-6 c =
     let after-put-two-arg7 = c.before.before.before.before in
     let at-match-keys6 = after-put-two-arg7.before.before.before in
@@ -157,7 +157,7 @@ same-length-7 : tie.Need-same-length-7
 same-length-7 c = search rules
 
 returns-7 : tie.Need-returns-7
-unfolding ruleText
+unfolding rule_text
 returns-7 c =
     let after-put-two-arg11 = c.before.before.before.before in
     let at-match-keys7 = after-put-two-arg11.before.before.before in
@@ -167,7 +167,7 @@ same-length-8 : tie.Need-same-length-8
 same-length-8 c = search rules
 
 returns-8 : tie.Need-returns-8
-unfolding ruleText
+unfolding rule_text
 returns-8 c =
     let after-put-two-arg15 = c.before.before.before.before in
     let at-match-keys8 = after-put-two-arg15.before.before.before in

@@ -1,7 +1,7 @@
 -- `Tally::plus` meets its contract, case by case: a range adds to what is answered, a refusal to its own number. Assumes nothing.
 use Prim.Native.Nat.{◌+◌}
 use native.Mathlib.Omega.{arith}
-use Rattle.totals.specs.Plus.{tallyPlus}
+use Rattle.totals.specs.Plus.{tally_plus}
 use borrow.Author.Rules.{rules}
 use Rattle.totals.proofs.tally.Tally.plus.Statement.{statement}
 use Rattle.totals.proofs.tally.Tally.plus.Tie as tie
@@ -38,7 +38,7 @@ plus-requires-3 : tie.Need-plus-requires-3
 plus-requires-3 c κs = search rules
 
 returns : tie.Need-returns
-unfolding tallyPlus
+unfolding tally_plus
 returns c =
     let after-answer = c.before.before.before.before in
     let after-refused = after-answer.before.before.before.before in
@@ -50,7 +50,7 @@ returns c =
     (λ i. record { answered = t.answered + 1; refused = t.refused; lowest = lowest i; widths = widths i })
 
 returns-2 : tie.Need-returns-2
-unfolding tallyPlus
+unfolding tally_plus
 returns-2 c =
     let after-widths = c.before.before.before.before in
     let start = after-widths.before.before.before in

@@ -15,7 +15,7 @@ times-requires c κs = let pre = c.before.before.requires.0 in omega (arith, pre
 returns : tie.Need-returns
 returns c =
     let pre = c.before.before.before.requires in
-    c.times.ensures ∙ must-down pre.0.unit pre.0.left (pre.1.of-p.is (sym c.before.before.by-shares.ensures ∙ c.before.if1.true))
+    c.times.ensures ∙ must-down pre.0.unit pre.0.left (pre.1.of_p.is (sym c.before.before.by-shares.ensures ∙ c.before.if1.true))
 
 round-down-requires : tie.Need-round-down-requires
 round-down-requires c κs = search rules

@@ -15,12 +15,12 @@ times-requires c κs = let pre = c.before.before.requires.0 in omega (arith, pre
 sub-result : tie.Need-overflow-sub-result
 sub-result c =
     let pre = c.before.before.before.requires in
-    rw c.times.ensures (must-least pre.0.unit pre.0.left pre.0.survival (pre.1.of-q.is (sym c.before.before.by-shares.ensures ∙ c.before.if1.true)))
+    rw c.times.ensures (must-least pre.0.unit pre.0.left pre.0.survival (pre.1.of_q.is (sym c.before.before.by-shares.ensures ∙ c.before.if1.true)))
 
 returns : tie.Need-returns
 returns c =
     let pre = c.before.before.before.requires in
-    rw c.times.ensures (must-up pre.0.unit pre.0.left pre.0.survival (pre.1.of-q.is (sym c.before.before.by-shares.ensures ∙ c.before.if1.true)))
+    rw c.times.ensures (must-up pre.0.unit pre.0.left pre.0.survival (pre.1.of_q.is (sym c.before.before.by-shares.ensures ∙ c.before.if1.true)))
 
 round-up-requires : tie.Need-round-up-requires
 round-up-requires c κs = search rules
