@@ -1,4 +1,6 @@
 // Refusals in words, and what to do about them.
+#![tactic(auto)]
+
 pub mod cause; // cause.rt: the causes by name
 pub mod file; // file.rt: why a file is refused
 pub mod system; // system.rt: why a system is refused

@@ -10,7 +10,7 @@ use rules::{Rule, kind};
 // A file's rule has no further pairs.
 const NO_MORE: [u64; 0] = [];
 
-#[derive(Drop)]
+#[derive(Clone, Copy)]
 pub struct Why {
     pub row: u64,
     pub a: u64,

@@ -1,4 +1,6 @@
 // A deck file's lists, each read from its place into an array of fixed length: what the file does not fill is zeros.
+#![tactic(auto)]
+
 ghost use Rattle.std.specs.Prelude.{◌≡◌, ◌+◌, ◌*◌, ◌≤◌, length};
 ghost use Rattle.rules.specs.Refusal.{most_boards};
 ghost use Rattle.rules.specs.File.{most_fans, survival_bytes, weight_bytes, system_bytes, numbers_from, system_at};

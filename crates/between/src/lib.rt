@@ -1,5 +1,7 @@
 // The chance of a file's system between two doubles: the one nearest below low and the one nearest above high, each
 // over the file's unit, or the refusal. For files of every version.
+#![tactic(auto)]
+
 ghost use Rattle.std.specs.Prelude.{false, true};
 ghost use Rattle.nearest.specs.Nearest.{Nearest};
 ghost use Rattle.nearest.specs.Raised.{Within};

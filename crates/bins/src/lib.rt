@@ -1,5 +1,7 @@
 // Kinds 4 and 5: v working components leave v + 1 bins for the failed ones, each of fewer than k. Row b of the working
 // table holds for j failed ones the ways to lay them into b bins, where b and j add up to n + 1 at most.
+#![tactic(auto)]
+
 ghost use Rattle.std.specs.Prelude.{◌≡◌, suc, ◌+◌, ◌-◌, ◌*◌, ◌≤◌, ◌<◌, length, get_or};
 ghost use Rattle.bins.specs.Bins.{Sized, Bins, Made, gone_at, Slides, Filled, Part, around_at, Around};
 ghost use Rattle.places.specs.Map.{bin_row};

@@ -1,4 +1,6 @@
 // Request 11: which versions have boards, what is read of their lists, and refusals 20 and 21.
+#![tactic(auto)]
+
 ghost use Rattle.std.specs.Prelude.{true, ◌≡◌, ◌-◌, ◌≤◌, length, take, drop};
 ghost use Rattle.rules.specs.Boards.{has_boards, boards_read};
 ghost use Rattle.rules.specs.Refusal.{some_above, bad_boards, misplaced};

@@ -1,6 +1,8 @@
 // Low and high behind boards, request 11: for each set of failed boards the figures with those fans' survival 0, and
 // the boards combined by the rounded step, board 1 last. A set's figures stand at its number, low ends in one array and
 // high ends in another.
+#![tactic(auto)]
+
 mod fans; // fans.rt: which fans a set of failed boards takes with it
 
 ghost use Rattle.std.specs.Prelude.{◌≡◌, ◌^◌, ◌≤◌, get_or};

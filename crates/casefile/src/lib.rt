@@ -1,5 +1,7 @@
 // Case files of the case-running programs: words of 64 bits, lowest byte first, and lent tables that are checked cell
 // by cell.
+#![tactic(auto)]
+
 pub mod cases; // cases.rt: what the cases of several programs share
 pub mod tables; // tables.rt: what a lent table holds before a call, and the checksum of what it holds after
 pub mod words; // words.rt: words read from a file's bytes

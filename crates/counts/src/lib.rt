@@ -1,4 +1,6 @@
 // Document 01's count table: "Entry j is the number of working states with exactly j failed, 0 included."
+#![tactic(auto)]
+
 mod lay; // lay.rt: kinds 2, 4 and 5, the working table and the entries that it holds
 mod sums; // sums.rt: kind 2, a row of sums for each number failed
 mod ways; // ways.rt: kinds 1, 3, 6 and 7, which Pascal's table answers

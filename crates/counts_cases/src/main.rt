@@ -2,6 +2,8 @@
 // first: the number of cases, then each case: kind, first, second, n, the cells of the working table, the cells of the
 // room for the counts, the seed of the rubbish in both, the number of weights, the weights. A case that is cut short
 // ends the run.
+#![tactic(auto)]
+
 mod lines; // lines.rt: the lines that are written
 
 ghost use Rattle.std.specs.Prelude.{◌≤◌, length};

@@ -1,5 +1,7 @@
 // The deck file of document 01: it is opened once, into its refusal or its head, and its numbers are read from the
 // bytes where they stand.
+#![tactic(auto)]
+
 ghost use Rattle.std.specs.Prelude.{◌≡◌, not, false, ◌+◌, ◌^◌, ◌≤◌, ◌<◌, eqb, length, get_or};
 ghost use Rattle.rules.specs.Refusal.{most_boards};
 ghost use Rattle.rules.specs.File.{most_fans, switchboards_offset, number_at, board_count_in, system_in, deck_in};
@@ -14,7 +16,7 @@ use layout::number;
 use rules::{System, limit, refusal};
 
 // A file's head: its version, and how many fans, systems and boards it has, n, m and g.
-#[derive(Drop)]
+#[derive(Clone, Copy)]
 pub struct Head {
     pub version: u64,
     pub fans: usize,
@@ -23,7 +25,7 @@ pub struct Head {
 }
 
 // What opening a file answers: refusal 0 and the file's head, or the refusal and a head of zeros.
-#[derive(Drop)]
+#[derive(Clone, Copy)]
 pub struct Opened {
     pub refusal: u64,
     pub head: Head,

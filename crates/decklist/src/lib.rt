@@ -1,4 +1,6 @@
 // Prints the systems of a deck file, a line each, or the file's refusal.
+#![tactic(auto)]
+
 mod lines; // lines.rt: the lines
 
 ghost use Rattle.std.specs.Prelude.{◌≤◌, length};

@@ -1,4 +1,6 @@
 // Makes the deck file that a text lists, or says what cannot be read of it.
+#![tactic(auto)]
+
 mod text; // text.rt: the loop over a text of any length
 
 ghost use Rattle.std.specs.Prelude.{◌+◌, ◌≤◌, ◌<◌, length};

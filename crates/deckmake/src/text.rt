@@ -17,7 +17,7 @@ const PIECE: usize = 65536;
 const MOST_PIECES: u64 = 1099511627776;
 
 // What was fed up to the input's end; or a read failed.
-#[derive(Drop)]
+#[derive(Clone, Copy)]
 pub struct Text {
     pub feeding: Feeding,
     pub failed: bool,

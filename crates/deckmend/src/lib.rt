@@ -1,5 +1,7 @@
 // Mends a deck file: the mended file goes to standard output or to the file that `-o` names, the list of what was
 // changed to standard error.
+#![tactic(auto)]
+
 mod mending; // mending.rt: both of them, put into buffers
 
 ghost use Rattle.std.specs.Prelude.{◌≤◌, ◌<◌, ◌^◌, length};

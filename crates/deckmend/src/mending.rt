@@ -21,7 +21,7 @@ const PER_CHANGE: usize = 3;
 const LIST: usize = 84;
 
 // How many bytes are for standard output, and how many for standard error.
-#[derive(Drop)]
+#[derive(Clone, Copy)]
 pub struct Told {
     pub size: usize,
     pub end: usize,

@@ -1,4 +1,6 @@
 // Draws a deck file as one page of HTML that needs nothing else.
+#![tactic(auto)]
+
 ghost use Rattle.std.specs.Prelude.{◌≤◌, length, ◌≡◌};
 ghost use Rattle.deck.specs.Outcome.{Headed};
 ghost use Rattle.forms.specs.Within.{Within};

@@ -1,4 +1,6 @@
 // Shows a deck file as the text that deckmake reads, or prints the file's refusal.
+#![tactic(auto)]
+
 mod showing; // showing.rt: the lines
 
 ghost use Rattle.std.specs.Prelude.{◌≤◌, length};

@@ -1,5 +1,7 @@
 // Prints what a spare gains in each fan's place of each system of a deck file, or the best places, or the best two for
 // two spares, a line each; or the file's refusal.
+#![tactic(auto)]
+
 mod lines; // lines.rt: the lines
 
 ghost use Rattle.std.specs.Prelude.{◌≡◌, ◌≤◌, length};

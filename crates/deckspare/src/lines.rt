@@ -16,7 +16,7 @@ use spare_lines::Job;
 pub const OUTPUT: usize = 446464;
 
 // What is asked for: so many of the best places, 0 for every place; or the best two places for two spares.
-#[derive(Drop)]
+#[derive(Clone, Copy)]
 pub struct Wanted {
     pub best: u64,
     pub two: bool,

@@ -17,7 +17,7 @@ pub const MOST_WORDS: u64 = 4294967296;
 
 // What the words so far say: the state of the deck; whether a board's number is due; and the number of the first wrong
 // word, 0 for none, with what was wanted and the most that it could have been.
-#[derive(Drop)]
+#[derive(Clone, Copy)]
 pub struct Said {
     pub state: u64,
     pub due: bool,
@@ -123,7 +123,7 @@ fn end_words(g: u64, count: u64, said: Said) -> Said
 }
 
 // What all words of the program so far ask for, how many of them are no options, and what those say.
-#[derive(Drop)]
+#[derive(Clone, Copy)]
 pub struct Hearing {
     pub asked: Asked,
     pub heard: u64,
@@ -178,7 +178,7 @@ fn listened(before: Hearing, next: Hearing, place: usize, at: usize) -> usize {
 }
 
 // What was heard, and the place of the last word that was listened to: the wrong one, where one is.
-#[derive(Drop)]
+#[derive(Clone, Copy)]
 pub struct AllHeard {
     pub hearing: Hearing,
     pub at: usize,

@@ -1,4 +1,6 @@
 // Says of each system of a deck file whether it works where the fans that the words name have failed.
+#![tactic(auto)]
+
 mod hearing; // hearing.rt: what the words say
 mod telling; // telling.rt: the lines
 

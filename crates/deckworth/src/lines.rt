@@ -17,7 +17,7 @@ pub const OUTPUT: usize = 331776;
 const HALF: usize = 16;
 
 // Where the lines end in each buffer.
-#[derive(Drop)]
+#[derive(Clone, Copy)]
 pub struct Ends {
     pub first: usize,
     pub second: usize,

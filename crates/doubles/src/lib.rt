@@ -1,5 +1,7 @@
 // A chance as a 64-bit float: out by a division by 2^30, in by a multiplication, both exact; and the whole numbers just
 // below and above.
+#![tactic(auto)]
+
 ghost use Rattle.std.specs.Prelude.{◌≡◌, ◌≤◌, true};
 ghost use Rattle.rules.specs.State.{S};
 ghost use Rattle.rules.specs.Doubles.{is_chance, whole_of, on_grid};

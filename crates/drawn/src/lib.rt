@@ -1,4 +1,6 @@
 // What is drawn of a system: its fans and windows, and what each fan is worth.
+#![tactic(auto)]
+
 ghost use Rattle.std.specs.Prelude.{◌≤◌};
 ghost use Rattle.rules.specs.State.{S};
 ghost use Rattle.drawn.specs.Drawn.{most_drawn, Drawable};
@@ -8,7 +10,7 @@ use text::lines;
 
 // The deck's fans, the stretch, how long the rule's windows are (0 where it has none), and whether the stretch is a
 // ring.
-#[derive(Drop)]
+#[derive(Clone, Copy)]
 pub struct Shape {
     pub fans: u64,
     pub from: u64,
@@ -18,7 +20,7 @@ pub struct Shape {
 }
 
 // The two ends of each fan's worth, the first fan's at 0; a fan outside the stretch has none, and 0 stands there.
-#[derive(Drop)]
+#[derive(Clone, Copy)]
 pub struct Worths {
     pub lower: [i64; limit::FANS],
     pub upper: [i64; limit::FANS],

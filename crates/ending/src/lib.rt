@@ -1,4 +1,6 @@
 // Where a file ends in a stream: how many bytes it asks for, by what is there of it.
+#![tactic(auto)]
+
 ghost use Rattle.std.specs.Prelude.{◌≡◌, ◌≤◌};
 ghost use Rattle.ending.specs.Ending.{asks, longest};
 

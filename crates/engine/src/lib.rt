@@ -1,6 +1,8 @@
 // The engine: low and high of a list that can be rated, worked in the lent table by the room of its kind.
 //
 // No room has an array of its own beside that table: rings work one lead, or one number of clean ones, at a time.
+#![tactic(auto)]
+
 ghost use Rattle.rules.specs.State.{beside_of};
 ghost use Rattle.rules.specs.Figure.{figure};
 ghost use Rattle.rules.specs.Accepted.{Ratable};

@@ -1,4 +1,6 @@
 // The figures that go out: low and high of a version 1 deck's system, each divided by 2^30, or the refusal.
+#![tactic(auto)]
+
 ghost use Rattle.std.specs.Prelude.{◌≤◌};
 ghost use Rattle.rules.specs.State.{S};
 ghost use Rattle.rules.specs.Within.{WithinUnit};
@@ -8,14 +10,14 @@ ghost use Rattle.export.specs.Outcome.{Both, Tells, Exported};
 use rules::Rating;
 
 // The two ends of a figure, as floats.
-#[derive(Drop)]
+#[derive(Clone, Copy)]
 pub struct Ends {
     pub low: f64,
     pub high: f64,
 }
 
 // A pair of floats, or the refusal with no floats.
-#[derive(Drop)]
+#[derive(Clone, Copy)]
 pub enum Chance {
     Range(Ends),
     Refused(u64),

@@ -1,4 +1,6 @@
 // The worth of a fan to a system of a file.
+#![tactic(auto)]
+
 ghost use Rattle.std.specs.Prelude.{[], ◌≡◌, replicate};
 ghost use Rattle.rules.specs.Asked.{question_of, asked_of};
 ghost use Rattle.rules.specs.Refusal.{cells};

@@ -1,4 +1,6 @@
 // The line that tells a fault of a typed text: its number, the word there, what was wanted.
+#![tactic(auto)]
+
 mod shown; // shown.rt: the word
 mod wanted; // wanted.rt: what was wanted
 

@@ -1,4 +1,6 @@
 // Low and high: the one rating call, and the same in a table that is lent and handed back clear.
+#![tactic(auto)]
+
 ghost use Rattle.rules.specs.Asked.{asked_of};
 ghost use Rattle.figures.specs.Outcome.{Answered, Rated};
 

@@ -2,6 +2,8 @@
 // the version, kind, first, second, a, b, the fan, room, seed, the number of survival numbers, the survival numbers,
 // the number of weights, the weights, how many numbers the further pairs have, these, the number of board numbers,
 // these, the number of boards, their survival numbers.
+#![tactic(auto)]
+
 pub mod line; // line.rt: the line of its answer
 pub mod size; // size.rt: how long it is
 
@@ -42,7 +44,7 @@ pub const MOST_CELLS: usize = 8000;
 
 // How many survival numbers, weights, numbers of further pairs, board numbers, boards, words and cells a case has, and
 // whether it is whole.
-#[derive(Drop)]
+#[derive(Clone, Copy)]
 pub struct Sizes {
     pub fans: usize,
     pub weights: usize,

@@ -8,7 +8,7 @@ use text::lines;
 const ENDS: usize = 55;
 
 // What a call answers.
-#[derive(Drop)]
+#[derive(Clone, Copy)]
 pub enum Answer {
     Rated(Rating),
     Weighed(Worth),

@@ -1,5 +1,7 @@
 // Runs the cases of standard input and writes an answer and the checksum of the lent table a line. All of the input is
 // words of 64 bits, lowest byte first: the number of cases, then each case. A case that is cut short ends the run.
+#![tactic(auto)]
+
 mod lists; // lists.rt: a case's lists
 
 ghost use Rattle.std.specs.Prelude.{◌+◌, ◌≤◌, length};

@@ -1,4 +1,6 @@
 // The two programs from a typed list to figures, each a call that answers the exit status.
+#![tactic(auto)]
+
 ghost use Rattle.shell.specs.Status.{Status};
 
 #[unsafe(no_mangle)]

@@ -1,5 +1,7 @@
 // Forms: texts with marks that numbers are filled in for. What the buffer has no room for is left out, as by
 // `text::put`.
+#![tactic(auto)]
+
 ghost use Rattle.std.specs.Prelude.{◌≡◌, [], ◌∷◌, suc, ◌^◌, ◌≤◌, ◌<◌, length};
 ghost use Rattle.forms.specs.Form.{mark_text, part_text, next_place, form_text, form_room, PutText};
 

@@ -1,4 +1,6 @@
 // The programs for a deck file, and for many, each a call that answers the exit status.
+#![tactic(auto)]
+
 ghost use Rattle.shell.specs.Status.{Status};
 
 #[unsafe(no_mangle)]

@@ -1,4 +1,6 @@
 // The gain of a spare in the place of one fan: low and high with it in place, less high and low as they are.
+#![tactic(auto)]
+
 ghost use Rattle.std.specs.Prelude.{◌≡◌};
 ghost use Rattle.rules.specs.Asked.{asked_of};
 ghost use Rattle.rules.specs.Refusal.{rating_refusal};

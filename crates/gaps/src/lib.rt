@@ -5,6 +5,8 @@
 // back as far as the components' end, what stands in the second half of the places serves every number of clean ones;
 // past it stand the shares of the components' numbers. The table is all that a ring uses: one number of clean ones at a
 // time.
+#![tactic(auto)]
+
 mod free; // free.rt: the memory that owes nothing, known for more and more components left
 mod owed; // owed.rt: memories that owe
 
@@ -18,7 +20,7 @@ use memory::owed::{Clean, Owed};
 use places::Ends;
 
 // The memory that owes nothing past so many clean ones, known with up to `left` components left.
-#[derive(Drop)]
+#[derive(Clone, Copy)]
 pub struct Known {
     pub free: Owed,
     pub left: usize,

@@ -16,14 +16,14 @@ const TAKEN: u64 = 64;
 const MOST_PLACE: u64 = 63;
 
 // Where a word leads, and what is set then.
-#[derive(Drop)]
+#[derive(Clone, Copy)]
 pub struct Stepped {
     pub place: u64,
     pub set: [u64; SETS],
 }
 
 // How a line ends: 0 where it has been read, else the fault; where the word stands; and what the line has set.
-#[derive(Drop)]
+#[derive(Clone, Copy)]
 pub struct Read {
     pub ended: u64,
     pub from: usize,

@@ -52,7 +52,7 @@ pub fn pass(line: &[u8], at: usize) -> usize
 }
 
 // Where a word stands: from one place up to another, which is the same one where there is no word.
-#[derive(Drop)]
+#[derive(Clone, Copy)]
 pub struct Span {
     pub from: usize,
     pub upto: usize,

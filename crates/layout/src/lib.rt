@@ -1,4 +1,6 @@
 // The layout of a deck file: where the header has each number, how long each part is and where it begins.
+#![tactic(auto)]
+
 pub mod number; // number.rt: numbers that bytes spell
 
 ghost use Rattle.std.specs.Prelude.{◌≡◌, ◌^◌, ◌≤◌, ◌<◌};

@@ -39,7 +39,7 @@ fn tell_board(before: Told, line: u64, board: u8, g: usize, out: &mut [u8]) -> T
 }
 
 // What was told, and for which line last.
-#[derive(Drop)]
+#[derive(Clone, Copy)]
 struct ToldLast {
     told: Told,
     line: u64,

@@ -1,4 +1,6 @@
 // What a typed text lists, line by line, its faults told into a lent buffer.
+#![tactic(auto)]
+
 mod adding; // adding.rt: what a line adds
 mod ending; // ending.rt: what is told at its end
 pub mod lines; // lines.rt: where its lines end
@@ -20,7 +22,7 @@ use typed_lists::told::Told;
 
 // The lines so far, the version, whether a thing stands there already, the fans, the boards' own survival numbers, the
 // systems, and the faults told.
-#[derive(Drop)]
+#[derive(Clone, Copy)]
 pub struct Listing {
     pub lines: u64,
     pub version: u64,
@@ -145,7 +147,7 @@ pub fn read_line(listing: Listing, line: &[u8], out: &mut [u8]) -> Listing
 }
 
 // What was read of a text: the listing then, and where its rest begins.
-#[derive(Drop)]
+#[derive(Clone, Copy)]
 pub struct Reached {
     pub listing: Listing,
     pub at: usize,

@@ -1,5 +1,7 @@
 // The loading computer's calls: a deck file's bytes and a system number in, its figures as one 64-bit number out; with
 // a fan, its worth, or the gain of a spare in its place.
+#![tactic(auto)]
+
 ghost use Rattle.std.specs.Prelude.{◌≡◌};
 ghost use Rattle.loading.specs.Outcome.{Answered, Parted, number_of, ends_after, Told, Gained};
 

@@ -1,5 +1,7 @@
 // What is made of a text, put into buffers: the deck file, and the warnings of its systems or the faults that were
 // told.
+#![tactic(auto)]
+
 ghost use Rattle.std.specs.Prelude.{◌+◌, ◌≤◌, length};
 ghost use Rattle.rules.specs.File.{most_systems};
 ghost use Rattle.text.specs.Added.{Added};
@@ -20,7 +22,7 @@ pub const SAID: usize = 8192;
 const PER_SYSTEM: usize = 5;
 
 // How many bytes are for standard output, and how many for standard error.
-#[derive(Drop)]
+#[derive(Clone, Copy)]
 pub struct Made {
     pub size: usize,
     pub end: usize,

@@ -19,10 +19,10 @@ unfolding times
 worked-many zero m = ap (owed m.clean) (omega arith)
 worked-many (suc k) m = rw (worked-many k m) (ap (owed m.clean) (omega arith))
 
-pub clean_after : (r k : ℕ) → times k (clean_worked r) (clean 0) ≡ clean_after r k
+pub clean_after_lem : (r k : ℕ) → times k (clean_worked r) (clean 0) ≡ clean_after r k
 unfolding times
-clean_after r zero = ap clean (omega arith)
-clean_after r (suc k) = rw (clean_after r k) (ap clean (omega arith))
+clean_after_lem r zero = ap clean (omega arith)
+clean_after_lem r (suc k) = rw (clean_after_lem r k) (ap clean (omega arith))
 
 -- the memory before, moved
 pub run-failed-before : (m : Run) → 0 < m.run → run_failed (run m.lead (m.run - 1)) ≡ m

@@ -5,14 +5,14 @@ ghost use Rattle.memory.specs.Owed.{owed, owed_worked, owed_failed, owed_works, 
 ghost use Rattle.memory.specs.Owed.{clean_failed};
 
 // "(x, g)": x clean ones before the first that failed, g still to work.
-#[derive(Drop)]
+#[derive(Clone, Copy)]
 pub struct Owed {
     pub clean: usize,
     pub owed: usize,
 }
 
 // "clean x": all components read have worked; x of them count.
-#[derive(Drop)]
+#[derive(Clone, Copy)]
 pub struct Clean {
     pub clean: usize,
 }

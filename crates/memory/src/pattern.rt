@@ -9,7 +9,7 @@ use rules::{Pair, limit};
 // As many ones as the longest window has components.
 const ONES: u64 = 1023;
 
-#[derive(Drop)]
+#[derive(Clone, Copy)]
 pub struct Pattern {
     pub bits: usize,
 }

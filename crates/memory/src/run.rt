@@ -3,14 +3,14 @@ ghost use Rattle.std.specs.Prelude.{◌≡◌, ◌+◌, ◌-◌, ◌^◌, ◌<�
 ghost use Rattle.memory.specs.Run.{run, lead, run_worked, run_failed, run_works, lead_worked, lead_failed, lead_works};
 
 // "(t, s)": t failed ones before the first that worked, s failed ones since the last that worked.
-#[derive(Drop)]
+#[derive(Clone, Copy)]
 pub struct Run {
     pub lead: usize,
     pub run: usize,
 }
 
 // "lead t": all t components read have failed.
-#[derive(Drop)]
+#[derive(Clone, Copy)]
 pub struct Lead {
     pub lead: usize,
 }

@@ -2,7 +2,7 @@
 ghost use Rattle.std.specs.Prelude.{◌≡◌, ◌+◌, ◌^◌, ◌<◌};
 ghost use Rattle.memory.specs.Sum.{sum, sum_worked, sum_failed, below_limit, sum_outside};
 
-#[derive(Drop)]
+#[derive(Clone, Copy)]
 pub struct Sum {
     pub sum: usize,
 }

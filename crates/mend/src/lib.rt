@@ -1,5 +1,7 @@
 // Mends a deck file, request 14 of document 02: the layout's header over the file's own body, what follows the last
 // system cut, and the list of the bytes that are changed.
+#![tactic(auto)]
+
 mod changes; // changes.rt: where two lists of bytes differ
 
 ghost use Rattle.std.specs.Prelude.{◌≡◌, ◌*◌, ◌≤◌, length, replicate};

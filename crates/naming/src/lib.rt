@@ -1,4 +1,6 @@
 // The fans that a word names: one by its number, some by a range as 3-7, or several of these with commas between them.
+#![tactic(auto)]
+
 pub mod number; // number.rt: a number, and where a byte stands
 
 ghost use Rattle.std.specs.Prelude.{◌≡◌, ◌≤◌, length};
@@ -10,7 +12,7 @@ const COMMA: u8 = 44;
 const MINUS: u8 = 45;
 
 // The state with the fans failed too that a word names so far; or a part of it names none.
-#[derive(Drop)]
+#[derive(Clone, Copy)]
 pub struct Named {
     pub wrong: bool,
     pub state: u64,

@@ -1,5 +1,7 @@
 // A fraction of a unit as a 64-bit float: the double nearest below it, or nearest above. Its 53 digits are worked out
 // as a whole number, and its power of two is its exponent's field, so that nothing is rounded but the whole number.
+#![tactic(auto)]
+
 ghost use Rattle.std.specs.Prelude.{◌≡◌, ◌*◌, ◌^◌, ◌<◌};
 ghost use Rattle.rules.specs.Figure.{rounded};
 ghost use Rattle.nearest.specs.Nearest.{Nearest};
@@ -15,7 +17,7 @@ const FIRST: u64 = 4503599627370496;
 const FIELD: u64 = 1022;
 
 // A number doubled until it is no less than the unit, and what the doublings leave of the field.
-#[derive(Drop)]
+#[derive(Clone, Copy)]
 struct Raised {
     near: u64,
     field: u64,

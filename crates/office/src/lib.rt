@@ -1,5 +1,7 @@
 // The office's calls for its C programs: the deck file's writer; a deck's chances as doubles, exactly or between the
 // nearest two; a rating asked in doubles.
+#![tactic(auto)]
+
 ghost use Rattle.std.specs.Prelude.{◌≡◌};
 ghost use Rattle.rules.specs.State.{rule_of};
 ghost use Rattle.rules.specs.Writing.{typed_of};

@@ -1,4 +1,6 @@
 // What a program is asked for by its words: options, by a table that it names, and operands.
+#![tactic(auto)]
+
 ghost use Rattle.std.specs.Prelude.{◌≡◌, cond, ◌≤◌, ◌<◌, ◌*◌, ◌+◌, eqb, length, get_or};
 ghost use Rattle.options.specs.Words.{row_length, most_options, rows_of, row_is, option_in, takes_word, is_option};
 ghost use Rattle.options.specs.Words.{nothing, decided, option_at, ended_at, with_operand, with_row, with_option};
@@ -35,7 +37,7 @@ pub const MISSING: u64 = 5;
 // Places are those of the program's words, from 1 on; 0 is none. What is to be done, and the place of the word that
 // says so; where each option was given, its word's place or its own where none belongs to it; one more than the option
 // that waits for its word; where `--` has ended the options; the operands.
-#[derive(Drop)]
+#[derive(Clone, Copy)]
 pub struct Asked {
     pub task: u64,
     pub at: usize,

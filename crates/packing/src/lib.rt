@@ -1,4 +1,6 @@
 // An answer as the one 64-bit number that C gets.
+#![tactic(auto)]
+
 ghost use Rattle.std.specs.Prelude.{◌≡◌, ◌<◌};
 ghost use Rattle.rules.specs.File.{half_word, packed_refusal, packed};
 ghost use Rattle.packing.specs.Packing.{Packable};

@@ -1,4 +1,6 @@
 // The page around the systems: its head, how it is read, its end, and the page of a refused file.
+#![tactic(auto)]
+
 ghost use Rattle.std.specs.Prelude.{◌≤◌, length};
 ghost use Rattle.forms.specs.Within.{Within};
 

@@ -1,5 +1,7 @@
 // What deckspare prints of a system for two spares, put into a buffer: the best two places.
 // How far it is with them is shown on a terminal meanwhile.
+#![tactic(auto)]
+
 mod progress; // progress.rt: how far it is
 
 ghost use Rattle.std.specs.Prelude.{[], ◌≡◌, ◌+◌, ◌≤◌, ◌<◌, length};
@@ -18,7 +20,7 @@ use rules::Question;
 use text::lines;
 
 // What is asked of a system beside its lists: its number, and the spares' survival number.
-#[derive(Drop)]
+#[derive(Clone, Copy)]
 pub struct Two {
     pub s: u64,
     pub p: u64,

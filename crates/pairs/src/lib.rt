@@ -1,5 +1,7 @@
 // Where two like spares go in a stretch: every pair of its places is rated once, and the first with the highest low is
 // kept.
+#![tactic(auto)]
+
 ghost use Rattle.std.specs.Prelude.{[], ◌≡◌, ◌+◌, ◌*◌, ◌<◌};
 ghost use Rattle.rules.specs.Asked.{asked_of, size_of};
 ghost use Rattle.rules.specs.Refusal.{most};
@@ -13,7 +15,7 @@ use swaps::Swap;
 
 // The best pair so far: its places, counted from 0, and the figures with a spare in both; and how many were rated, 0
 // where there is no pair yet.
-#[derive(Drop)]
+#[derive(Clone, Copy)]
 pub struct Best {
     pub first: usize,
     pub second: usize,

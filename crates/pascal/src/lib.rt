@@ -1,5 +1,7 @@
 // Document 01: "How many states have j failed at all comes from a fixed table of Pascal rows 0 to 64". Document 02:
 // "Keep entries up to half of each row, 1,089 in all".
+#![tactic(auto)]
+
 ghost use Rattle.std.specs.Prelude.{◌≡◌, true, ◌≤◌};
 ghost use Rattle.pascal.specs.Ways.{ways_of};
 ghost use Rattle.pascal.specs.Folded.{fold_of, folded_rule};

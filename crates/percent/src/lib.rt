@@ -1,4 +1,6 @@
 // Figures in percent, with six digits after the point: what is put for a range encloses what the range does.
+#![tactic(auto)]
+
 ghost use Rattle.std.specs.Prelude.{◌≡◌, ◌+◌, ◌≤◌, length};
 ghost use Rattle.rules.specs.State.{S};
 ghost use Rattle.units.specs.Step.{whole};

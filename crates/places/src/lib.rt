@@ -1,5 +1,7 @@
 // Places of the lent table: a place is two cells, the low end of a value and, FAR cells further, its high end. And the
 // table's cells set to 0.
+#![tactic(auto)]
+
 pub mod map; // map.rt: which of the table's cells hold what
 
 ghost use Rattle.std.specs.Prelude.{◌≡◌, Bool, cond, ◌++◌, ◌-◌, ◌<◌, ◌≤◌, min, length, get_or, drop, replicate};
@@ -15,7 +17,7 @@ use units::odds::Odds;
 use units::{Failure, FailureShare, Survival, SurvivalShare};
 
 // The two ends of a value.
-#[derive(Drop)]
+#[derive(Clone, Copy)]
 pub struct Ends {
     pub low: u64,
     pub high: u64,

@@ -1,5 +1,7 @@
 // The rating that the planning office asks for in floats: low of the whole numbers just below its chances, high of
 // those just above.
+#![tactic(auto)]
+
 ghost use Rattle.std.specs.Prelude.{◌≡◌, false, replicate};
 ghost use Rattle.rules.specs.Refusal.{cells};
 ghost use Rattle.rules.specs.Doubles.{no_chance, some_off, off_grid, planned_of, asked_in, planned_refusal, planned_rating};

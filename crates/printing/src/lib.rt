@@ -1,5 +1,7 @@
 // What the programs that print a deck file share: the file in a buffer that holds only the front of an input, the line
 // of a refused one, and how they end.
+#![tactic(auto)]
+
 ghost use Rattle.std.specs.Prelude.{◌+◌, ◌≤◌, length};
 ghost use Rattle.text.specs.Added.{Added};
 ghost use Rattle.text.specs.Decimal.{text};

@@ -1,4 +1,6 @@
 // The figures, the worth and the count table for C, in tables that C lends: what the benchmark times.
+#![tactic(auto)]
+
 ghost use Rattle.std.specs.Prelude.{◌≡◌};
 ghost use Rattle.ratings.specs.Outcome.{Timed, TimedWorth, counting_number, TimedCounts};
 ghost use Rattle.rules.specs.Asked.{question_of, asked_of};

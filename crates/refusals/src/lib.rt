@@ -1,4 +1,6 @@
 // The refusals that several calls share: 11, 1, 2, 5 and 6 of document 01's table; and 15, which asks for the kind too.
+#![tactic(auto)]
+
 mod pairs; // pairs.rt: kind 8's pairs
 
 ghost use Rattle.std.specs.Prelude.{not, ◌≡◌, ◌≤◌, length};

@@ -1,6 +1,8 @@
 // Kinds 1 to 3: low and high of a list, worked in two rows of the lent table, a place for each sum that can still come.
 // A row holds the values with so many components left; a component more is a row on the other side, out of the row on
 // this one.
+#![tactic(auto)]
+
 mod kinds; // kinds.rt: what kinds 1 to 3 differ in
 mod row; // row.rt: the rows
 
@@ -14,7 +16,7 @@ use places::map::HALF;
 use rules::Rule;
 
 // At `from` stand the values with `left` components left of the sums that can still come, `reach` of them at the most.
-#[derive(Drop)]
+#[derive(Clone, Copy)]
 struct Level {
     reach: usize,
     left: usize,

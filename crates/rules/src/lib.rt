@@ -1,12 +1,14 @@
 // The words that every call shares: a rule, a system of a deck, what each call answers, and the documents' numbers.
 // They hold no code.
+#![tactic(auto)]
+
 pub mod kind; // kind.rt: the kinds of a rule
 pub mod limit; // limit.rt: the most and the least of everything
 pub mod refusal; // refusal.rt: the refusal numbers
 pub mod version; // version.rt: the file's versions and their units
 
 // Document 01, "The seven verdicts": the rule carries two numbers, "first" and "second".
-#[derive(Drop)]
+#[derive(Clone, Copy)]
 pub struct Rule {
     pub kind: u64,
     pub first: u64,
@@ -14,7 +16,7 @@ pub struct Rule {
 }
 
 // Document 02, request 05, a pair of kind 8: of any r in a row at least k must work.
-#[derive(Drop)]
+#[derive(Clone, Copy)]
 pub struct Pair {
     pub k: u64,
     pub r: u64,
@@ -24,7 +26,7 @@ pub struct Pair {
 pub const NO_MORE: [u64; 0] = [];
 
 // A system of a deck: a rule over the fans from a to b.
-#[derive(Drop)]
+#[derive(Clone, Copy)]
 pub struct System {
     pub rule: Rule,
     pub a: u64,
@@ -32,7 +34,7 @@ pub struct System {
 }
 
 // What is asked of a rating beside its lists: the version, which says the unit, the rule, and the stretch from a to b.
-#[derive(Drop)]
+#[derive(Clone, Copy)]
 pub struct Question {
     pub version: u64,
     pub rule: Rule,
@@ -42,7 +44,7 @@ pub struct Question {
 
 // The verdict on one state. Where the system fails a place is named: the lowest component at which a failing window
 // starts, or 0 where the rule has no windows.
-#[derive(Drop)]
+#[derive(Clone, Copy)]
 pub enum Verdict {
     Works,
     Fails(u64),
@@ -50,35 +52,35 @@ pub enum Verdict {
 }
 
 // The figures of a list or a stretch.
-#[derive(Drop)]
+#[derive(Clone, Copy)]
 pub enum Rating {
     Range { low: u64, high: u64 },
     Refused(u64),
 }
 
 // A spare that is tried in the place of one fan, and its survival number.
-#[derive(Drop)]
+#[derive(Clone, Copy)]
 pub struct Spare {
     pub fan: u64,
     pub p: u64,
 }
 
 // The worth of one fan, or the gain of a spare in its place, in signed parts of the unit.
-#[derive(Drop)]
+#[derive(Clone, Copy)]
 pub enum Worth {
     Ends { lower: i64, upper: i64 },
     Refused(u64),
 }
 
 // Whether a count table was written.
-#[derive(Drop)]
+#[derive(Clone, Copy)]
 pub enum Counting {
     Counted,
     Refused(u64),
 }
 
 // Whether a deck file was written, and its length.
-#[derive(Drop)]
+#[derive(Clone, Copy)]
 pub enum Writing {
     Written(u64),
     Refused(u64),
@@ -86,7 +88,7 @@ pub enum Writing {
 
 // Whether a deck file was mended: how many bytes were written, how many of the file's were changed, and how many were
 // cut.
-#[derive(Drop)]
+#[derive(Clone, Copy)]
 pub enum Mending {
     Mended { size: u64, changed: u64, cut: u64 },
     Refused(u64),

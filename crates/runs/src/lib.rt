@@ -3,6 +3,8 @@
 // A component that works brings back the memory with no run, so of one lead only that memory is kept: its value with i
 // components left stands at place i. Each value comes of the earlier ones by one run taken back. The table is all that
 // a ring uses: one lead at a time, each written over the last.
+#![tactic(auto)]
+
 ghost use Rattle.std.specs.Prelude.{◌≡◌, suc, ◌-◌, min};
 ghost use Rattle.rules.specs.Memory.{row4, row5};
 ghost use Rattle.rules.specs.Figure.{figure_of};

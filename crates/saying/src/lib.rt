@@ -1,4 +1,6 @@
 // What a program says where its words ask for no work, put into a buffer.
+#![tactic(auto)]
+
 ghost use Rattle.std.specs.Prelude.{◌≡◌, ◌++◌, map, ◌+◌, ◌≤◌, length};
 ghost use Rattle.text.specs.Added.{Added};
 ghost use Rattle.saying.specs.Said.{name_room, synopsis_room, most_shown, remedy_room, answer_room};

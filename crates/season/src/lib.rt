@@ -1,4 +1,6 @@
 // Prints the totals of deck files, one after another.
+#![tactic(auto)]
+
 mod reading; // reading.rt: the loop over the stream
 
 ghost use Rattle.shell.specs.Status.{Status};

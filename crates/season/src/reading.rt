@@ -12,7 +12,7 @@ use shell::sources::{More, Source};
 use shell::{sources, writing};
 
 // What was read of the stream; or a read that failed, which was told.
-#[derive(Drop)]
+#[derive(Clone, Copy)]
 pub struct Got {
     pub reading: Reading,
     pub failed: bool,

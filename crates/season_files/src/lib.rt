@@ -1,4 +1,6 @@
 // A season's files: each added to the totals of those before it.
+#![tactic(auto)]
+
 ghost use Rattle.std.specs.Prelude.{◌≡◌};
 ghost use Rattle.rules.specs.File.{count_in};
 ghost use Rattle.deck.specs.Outcome.{Headed};

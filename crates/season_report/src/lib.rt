@@ -1,4 +1,6 @@
 // The season report: its lines, put into a buffer.
+#![tactic(auto)]
+
 ghost use Rattle.std.specs.Prelude.{◌+◌, ◌≤◌, length};
 ghost use Rattle.text.specs.Added.{Added};
 ghost use Rattle.rules.specs.Refusal.{last_kind};

@@ -1,5 +1,7 @@
 // A season's stream, fed in pieces of any size: each file is added to the totals when it is whole, and the report is on
 // all bytes that were fed.
+#![tactic(auto)]
+
 ghost use Rattle.std.specs.Prelude.{◌≡◌, [], ◌++◌, ◌+◌, ◌<◌, ◌≤◌, length, take};
 ghost use Rattle.ending.specs.Ending.{longest};
 ghost use Rattle.season_report.specs.Lines.{output_room};
@@ -13,7 +15,7 @@ use totals::Totals;
 
 // What has been read of a stream: the bytes of the file at hand, the files before it and their totals, and whether the
 // reading has ended, with bytes waiting or not.
-#[derive(Drop)]
+#[derive(Clone, Copy)]
 pub struct Reading {
     pub part: [u8; LONGEST],
     pub kept: usize,
@@ -24,7 +26,7 @@ pub struct Reading {
 }
 
 // What is told of a stream.
-#[derive(Drop)]
+#[derive(Clone, Copy)]
 pub struct Season {
     pub totals: Totals,
     pub waiting: bool,
@@ -191,7 +193,7 @@ fn one_if(b: bool) -> u64
 }
 
 // The report: where it ends, and whether it tells of a refused file.
-#[derive(Drop)]
+#[derive(Clone, Copy)]
 pub struct Report {
     pub end: usize,
     pub refused: bool,

@@ -1,5 +1,7 @@
 // What every program does at its edges: it looks at its words, reads its input and writes its output, or says on
 // standard error what failed.
+#![tactic(auto)]
+
 pub mod names; // names.rt: what a message names
 pub mod reading; // reading.rt: its input
 pub mod sources; // sources.rt: several inputs as one

@@ -9,7 +9,7 @@ use crate::taking::Taken;
 use libc::{STDERR_FILENO, STDIN_FILENO};
 
 // What reading gave: so many bytes at the buffer's front, up to the input's end or the buffer's; or a read that failed.
-#[derive(Drop)]
+#[derive(Clone, Copy)]
 pub enum Input {
     Filled(usize),
     Failed,
@@ -109,7 +109,7 @@ pub fn count_rest(fd: i32, label: &[u8]) -> Taken
 }
 
 // An input whose front is read into a buffer, and what follows a full one.
-#[derive(Drop)]
+#[derive(Clone, Copy)]
 pub struct Whole {
     pub front: Taken,
     pub rest: Taken,

@@ -9,7 +9,7 @@ use options::Asked;
 
 // The input that is open, by its descriptor; the place of the word behind the one that names it; and where its label
 // ends.
-#[derive(Drop)]
+#[derive(Clone, Copy)]
 pub struct Source {
     pub fd: i32,
     pub next: usize,
@@ -17,7 +17,7 @@ pub struct Source {
 }
 
 // What reading gave: so many bytes, none at the end of the last input; or what failed, which was told.
-#[derive(Drop)]
+#[derive(Clone, Copy)]
 pub struct More {
     pub source: Source,
     pub filled: usize,

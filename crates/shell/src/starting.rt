@@ -8,7 +8,7 @@ use crate::{reading, taking, writing};
 use options::Asked;
 
 // What a program is to do, with so many bytes of its input in a buffer; or it has ended, with its status.
-#[derive(Drop)]
+#[derive(Clone, Copy)]
 pub struct Begun {
     pub asked: Asked,
     pub filled: usize,

@@ -13,7 +13,7 @@ const ENDED: u64 = 1;
 
 const FAILED: u64 = 2;
 
-#[derive(Drop)]
+#[derive(Clone, Copy)]
 pub struct Taken {
     count: usize,
     state: u64,

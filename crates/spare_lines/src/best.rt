@@ -15,7 +15,7 @@ use spares::Places;
 use text::lines;
 
 // How the places of a stretch are named: the system's number, its first fan, how many there are, and the unit.
-#[derive(Drop)]
+#[derive(Clone, Copy)]
 pub struct Shown {
     pub s: u64,
     pub a: u64,
@@ -24,7 +24,7 @@ pub struct Shown {
 }
 
 // Of the places that were left, those that are alike with the best of them, how many these are, and the rest.
-#[derive(Drop)]
+#[derive(Clone, Copy)]
 struct Group {
     left: [bool; FANS],
     alike: [bool; FANS],

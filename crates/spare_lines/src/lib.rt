@@ -1,5 +1,7 @@
 // What deckspare prints of a system, put into a buffer: what a spare gains in each of its places, or the best of
 // them, or the best two for two spares.
+#![tactic(auto)]
+
 mod best; // best.rt: the best places
 
 ghost use Rattle.std.specs.Prelude.{[], ◌≡◌, ◌+◌, ◌≤◌, length};
@@ -18,7 +20,7 @@ use text::lines;
 
 // What is asked of a system beside its lists: its place in the file, counted from 0, the spare's survival number, and
 // how many of the best places are named, 0 for every place and its gain; or whether two spares go in together.
-#[derive(Drop)]
+#[derive(Clone, Copy)]
 pub struct Job {
     pub s: usize,
     pub p: u64,

@@ -1,4 +1,6 @@
 // Where a spare can go in a stretch: the figures as they are, and with the spare in each place.
+#![tactic(auto)]
+
 ghost use Rattle.std.specs.Prelude.{[], ◌≡◌, replicate};
 ghost use Rattle.rules.specs.Asked.{asked_of, low_of, high_of};
 ghost use Rattle.rules.specs.Refusal.{cells, figures_refusal};
@@ -10,7 +12,7 @@ use rules::{NO_MORE, Question};
 use swaps::Swap;
 
 // The figures with the spare in the place of each fan of the stretch, its first fan at 0.
-#[derive(Drop)]
+#[derive(Clone, Copy)]
 pub struct Places {
     pub low: [u64; FANS],
     pub high: [u64; FANS],

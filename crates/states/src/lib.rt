@@ -1,5 +1,7 @@
 // The verdict on a state of a deck, system by system: the fans that have failed, what a stretch sees of them, and the
 // place on the deck.
+#![tactic(auto)]
+
 ghost use Rattle.std.specs.Prelude.{[], cond, ◌||◌, ◌≡◌, ◌*◌, ◌^◌, ◌≤◌, ◌<◌, eqb, length};
 ghost use Rattle.rules.specs.State.{down};
 ghost use Rattle.rules.specs.Refusal.{most};

@@ -1,4 +1,6 @@
 // A stretch that is not refused: its low and high, worked where it stands; and a lent table cleared after an answer.
+#![tactic(auto)]
+
 ghost use Rattle.std.specs.Prelude.{◌≡◌, true, ◌≤◌, length};
 ghost use Rattle.rules.specs.Asked.{asked_of};
 ghost use Rattle.rules.specs.Refusal.{cells, figures_refusal};

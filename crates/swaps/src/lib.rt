@@ -1,5 +1,7 @@
 // Fans swapped for others: low and high of a stretch with a survival number in the place of one fan or of two, and what
 // two such ratings differ by.
+#![tactic(auto)]
+
 ghost use Rattle.std.specs.Prelude.{◌≡◌, true, ◌≤◌, length};
 ghost use Rattle.std.proofs.Math.IntN.{sub_ℕ};
 ghost use Rattle.rules.specs.declared.Worth.TheVariants.{Ends as Between};
@@ -16,7 +18,7 @@ use rules::limit::FANS;
 use rules::{Question, Worth};
 
 // A survival number, and the two fans of the list that get it; one fan twice where there is one.
-#[derive(Drop)]
+#[derive(Clone, Copy)]
 pub struct Swap {
     pub first: u64,
     pub second: u64,

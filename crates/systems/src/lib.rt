@@ -1,4 +1,6 @@
 // The figures of a system of a deck.
+#![tactic(auto)]
+
 ghost use Rattle.std.specs.Prelude.{[], ◌≡◌, replicate};
 ghost use Rattle.rules.specs.Asked.{question_of, asked_of};
 ghost use Rattle.rules.specs.Refusal.{cells};

@@ -1,4 +1,6 @@
 // Text put into a buffer that is written once: bytes, decimal numbers, and both. What does not fit is left out.
+#![tactic(auto)]
+
 pub mod lines; // lines.rt: lines of named numbers
 
 ghost use Rattle.std.specs.Prelude.{◌≤◌, length};

@@ -1,5 +1,7 @@
 // A typed text, fed in pieces of any size: each line is read when it is whole, and what is listed is what all bytes
 // that were fed list.
+#![tactic(auto)]
+
 ghost use Rattle.std.specs.Prelude.{◌≡◌, ◌++◌, ◌+◌, ◌≤◌, ◌<◌, length, take};
 ghost use Rattle.listing.specs.Holds.{most_lines};
 ghost use Rattle.text_stream.specs.Feeding.{line_room, Starts, Sane, Fed, Ends};
@@ -11,7 +13,7 @@ pub const LINE: usize = 65537;
 
 // What was read of a text: what its lines so far list, and how many bytes of the line at hand are kept in a lent
 // buffer.
-#[derive(Drop)]
+#[derive(Clone, Copy)]
 pub struct Feeding {
     pub listing: Listing,
     pub kept: usize,

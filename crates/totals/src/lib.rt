@@ -1,4 +1,6 @@
 // The totals of a season: what each kind comes to over the decks read, and one answer more.
+#![tactic(auto)]
+
 pub mod tally; // tally.rt: the totals of one kind
 
 ghost use Rattle.std.specs.Prelude.{◌≡◌, [], ◌≤◌};
@@ -14,7 +16,7 @@ use tally::Tally;
 pub const KINDS: usize = rules::kind::LAST as usize;
 
 // The decks read; the files refused, and the refusal; the systems of no kind; and each kind's totals.
-#[derive(Drop)]
+#[derive(Clone, Copy)]
 pub struct Totals {
     pub decks: u64,
     pub refused: u64,

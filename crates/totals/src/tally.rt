@@ -7,7 +7,7 @@ ghost use Rattle.totals.specs.Room.{most_answers, RoomRefusals, RoomLowest, Room
 use rules::{Rating, version};
 
 // Systems refused, by each number.
-#[derive(Drop)]
+#[derive(Clone, Copy)]
 pub struct Refusals {
     pub three: u64,
     pub four: u64,
@@ -16,7 +16,7 @@ pub struct Refusals {
 }
 
 // The smallest low with its unit, deck and system number; zeros where there is none.
-#[derive(Drop)]
+#[derive(Clone, Copy)]
 pub struct Lowest {
     pub low: u64,
     pub unit: u64,
@@ -25,13 +25,13 @@ pub struct Lowest {
 }
 
 // The widths added up in parts of 2^30, and in parts of 10^9.
-#[derive(Drop)]
+#[derive(Clone, Copy)]
 pub struct Widths {
     pub binary: u64,
     pub decimal: u64,
 }
 
-#[derive(Drop)]
+#[derive(Clone, Copy)]
 pub struct Tally {
     pub answered: u64,
     pub refused: Refusals,

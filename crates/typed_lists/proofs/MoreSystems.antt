@@ -96,8 +96,8 @@ module _ {r : Systems} {systems : List (List ℕ)} (h : Ruled r systems) (s : �
   same-five n =
       rw (listed_at 0 (omega arith), listed_at 1 (omega arith), listed_at 2 (omega arith), listed_at 3 (omega arith), listed_at 4 (omega arith), listed_at 5 (omega arith))
 
-pub typed_at : {r : Systems} {systems : List (List ℕ)} → Ruled r systems → (n j : ℕ) → j < r.count * per_system → typed_at n r.numbers j ≡ get_or (numbers_of n systems) j 0
-typed_at {r} {systems} h n j l =
+pub typed_at_lem : {r : Systems} {systems : List (List ℕ)} → Ruled r systems → (n j : ℕ) → j < r.count * per_system → typed_at n r.numbers j ≡ get_or (numbers_of n systems) j 0
+typed_at_lem {r} {systems} h n j l =
     let s : j / per_system < r.count = omega arith in
     let e : j / per_system * per_system + j % per_system ≡ j = omega arith in
     ap (λ x. get_or x (j % per_system) 0) (same-five h (j / per_system) s n)

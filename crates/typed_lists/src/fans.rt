@@ -6,7 +6,7 @@ ghost use Rattle.typed_lists.specs.Lists.{Fanned, MoreFans};
 use rules::limit;
 
 // So many of each list's entries count, from its front.
-#[derive(Drop)]
+#[derive(Clone, Copy)]
 pub struct Fans {
     pub count: usize,
     pub survival: [u32; limit::FANS],

@@ -23,7 +23,7 @@ pub const PER_SYSTEM: usize = 5;
 pub const NUMBERS: usize = PER_SYSTEM * limit::SYSTEMS;
 
 // So many systems, from the numbers' front.
-#[derive(Drop)]
+#[derive(Clone, Copy)]
 pub struct Systems {
     pub count: usize,
     pub numbers: [u16; LISTED],

@@ -6,7 +6,7 @@ ghost use Rattle.typed_lists.specs.Told.{Roomy, MoreTold};
 const MOST_TOLD: usize = 20;
 
 // How many were told, and where their lines end.
-#[derive(Drop)]
+#[derive(Clone, Copy)]
 pub struct Told {
     pub count: usize,
     pub end: usize,

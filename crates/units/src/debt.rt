@@ -9,7 +9,7 @@ ghost use Rattle.units.specs.Debt.{Numbers, Shared};
 use crate::{Failure, FailureShare, Survival, SurvivalShare, share};
 
 // The shares of a component's P and Q.
-#[derive(Drop)]
+#[derive(Clone, Copy)]
 pub struct Shares {
     pub p: SurvivalShare,
     pub q: FailureShare,

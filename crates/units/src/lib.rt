@@ -1,5 +1,7 @@
 // The unit, a component's two numbers, and the one rounded step that every figure is made of, for any unit from 1 to
 // 2^30.
+#![tactic(auto)]
+
 pub mod debt; // debt.rt: the step of a component that must work, by its shares
 pub mod odds; // odds.rt: the step over a whole row of values, by P's share
 mod share; // share.rt: a number's share of the unit
@@ -50,17 +52,17 @@ pub fn by_shares(unit: u64) -> bool
 }
 
 // P and Q stay apart: a survival number is never handed over where a failure number is read.
-#[derive(Drop)]
+#[derive(Clone, Copy)]
 pub struct Survival(pub u64);
 
-#[derive(Drop)]
+#[derive(Clone, Copy)]
 pub struct Failure(pub u64);
 
 // And so do their shares of the unit.
-#[derive(Drop)]
+#[derive(Clone, Copy)]
 pub struct SurvivalShare(pub u64);
 
-#[derive(Drop)]
+#[derive(Clone, Copy)]
 pub struct FailureShare(pub u64);
 
 impl Survival {

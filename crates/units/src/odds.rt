@@ -14,7 +14,7 @@ use crate::{Failure, Survival, SurvivalShare};
 const ROUND_UP: u64 = 4611686014132420608;
 
 // P and Q, and P's share.
-#[derive(Drop)]
+#[derive(Clone, Copy)]
 pub struct Odds {
     pub p: Survival,
     pub q: Failure,

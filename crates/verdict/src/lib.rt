@@ -1,4 +1,6 @@
 // Document 01, "The seven verdicts", and kind 8 of request 05: the verdict on one state.
+#![tactic(auto)]
+
 mod pairs; // pairs.rt: kind 8
 
 ghost use Rattle.std.specs.Prelude.{◌≡◌, ◌+◌, ◌-◌, ◌/◌, ◌%◌, ◌^◌, ◌<◌, ◌≤◌, min, leb, length};

@@ -1,6 +1,8 @@
 // Runs the cases of standard input and writes a verdict a line. All of the input is words of 64 bits, lowest byte
 // first: the number of cases, then each case: kind, first, second, n, state, the number of weights, the weights, how
 // many numbers the further pairs have, these. A case that is cut short ends the run.
+#![tactic(auto)]
+
 ghost use Rattle.std.specs.Prelude.{◌+◌, ◌≤◌, length};
 ghost use Rattle.io.specs.Counts.{IsPrefixLen};
 ghost use Rattle.casefile.specs.Cases.{Within};

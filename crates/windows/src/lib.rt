@@ -4,6 +4,8 @@
 // with one more. A pattern and the same with its oldest state failed go on alike, since that state is forgotten next:
 // so each pattern is worked together with its older one. Only those that live are, and only those that can be reached
 // with so many components read. They are sorted once, by which of the two must work.
+#![tactic(auto)]
+
 mod groups; // groups.rt: the patterns that live, by which of the two must work
 mod pairs; // pairs.rt: what the pairs ask of a pattern
 mod row; // row.rt: one component more
@@ -18,7 +20,7 @@ ghost use Rattle.windows.specs.Asked.{Asked};
 use places::Ends;
 
 // At `from` stand the values with `left` components left.
-#[derive(Drop)]
+#[derive(Clone, Copy)]
 pub struct Level {
     pub left: usize,
     pub from: usize,

@@ -1,4 +1,6 @@
 // A deck in words, put into a buffer: its version, boards, fans and systems, a line each.
+#![tactic(auto)]
+
 pub mod rule; // rule.rt: a rule
 
 ghost use Rattle.std.specs.Prelude.{◌+◌, ◌≤◌, length};

@@ -1,4 +1,6 @@
 // The worth of one fan: low and high with it sure to work, less high and low with it sure to fail.
+#![tactic(auto)]
+
 ghost use Rattle.std.specs.Prelude.{◌≡◌};
 ghost use Rattle.rules.specs.Asked.{asked_of};
 ghost use Rattle.rules.specs.Worth.{worth_refusal};

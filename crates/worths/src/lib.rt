@@ -1,4 +1,6 @@
 // What each fan of a deck is worth to a system.
+#![tactic(auto)]
+
 ghost use Rattle.std.specs.Prelude.{◌≡◌};
 ghost use Rattle.deck.specs.Outcome.{Placed};
 ghost use Rattle.worths.specs.Worths.{Weighed, lower_end, upper_end};

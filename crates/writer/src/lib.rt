@@ -1,5 +1,7 @@
 // The deck file's writer, requests 01, 08 and 11 of document 02: version, lists and systems in, the file's bytes out
 // into lent room.
+#![tactic(auto)]
+
 pub mod bytes; // bytes.rt: numbers as bytes, laid over a room
 
 ghost use Rattle.std.specs.Prelude.{◌≡◌, ◌/◌, length};

@@ -9,7 +9,7 @@ use Rattle.rules.specs.File.{most_systems, per_system}
 use Rattle.grammar.specs.Text.{numbers_of}
 use Rattle.typed_lists.specs.Lists.{Stored, Ruled}
 use Rattle.typed_lists.proofs.Storing.{stored_next}
-use Rattle.typed_lists.proofs.MoreSystems.{typed_at, count-fives}
+use Rattle.typed_lists.proofs.MoreSystems.{typed_at_lem, count-fives}
 use Rattle.typed_lists.proofs.listed.numbers.Statement.{statement}
 use Rattle.typed_lists.proofs.listed.numbers.Tie as tie
 

@@ -1,0 +1,10 @@
+-- `bars::any_below` is safe and ends: the measure is what is left to look at. Assumes nothing.
+use Prim.Native.Nat.{◌-◌, ◌≤◌}
+use Rattle.drawn.specs.Drawn.{most_drawn}
+use Rattle.drawing.proofs.bars.any_below.Given as goal
+
+abbrev pub invariant-loop-i : goal.invariant-loop-i
+invariant-loop-i l = l.i ≤ most_drawn
+
+abbrev pub decreases-loop-i : goal.decreases-loop-i
+decreases-loop-i l = most_drawn - l.i

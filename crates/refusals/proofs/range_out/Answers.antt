@@ -1,0 +1,58 @@
+-- `refusals::range_out` meets its contract: each arm is the row of its kinds, and a kind of no arm has no row. Assumes nothing.
+use mathlib.Core.Path.{sym, ap, ◌∙◌}
+use mathlib.Core.Bool.{not}
+use mathlib.Core.Logic.{inl, inr, ⊎_elim}
+use native.Mathlib.Omega.{arith}
+use borrow.Author.Rules.{rules}
+use Rattle.rules.specs.Refusal.{ranged}
+use Rattle.refusals.proofs.Laws.{range-one, range_none}
+use Rattle.refusals.proofs.range_out.Goals as goal
+
+pub one_out-requires : goal.one_out-requires
+one_out-requires c = search rules
+
+pub outside-requires : goal.outside-requires
+outside-requires c = search rules
+
+pub two_out-requires : goal.two_out-requires
+two_out-requires c = search rules
+
+pub two_out-requires-in-7 : goal.two_out-requires-in-7
+two_out-requires-in-7 c = search rules
+
+pub pairs_out-requires : goal.pairs_out-requires
+pairs_out-requires c = search rules
+
+pub one_out-requires-in-1 : goal.one_out-requires-in-1
+one_out-requires-in-1 c = search rules
+
+pub returns-in-2 : goal.returns-in-2
+unfolding ranged
+returns-in-2 c = rw c.in-2.is c.one_out.ensures
+
+pub returns-in-3 : goal.returns-in-3
+unfolding ranged
+returns-in-3 c = rw c.in-3.is c.outside.ensures
+
+pub returns-in-6 : goal.returns-in-6
+unfolding ranged
+returns-in-6 c = rw c.in-6.is c.two_out.ensures
+
+pub returns-in-7 : goal.returns-in-7
+unfolding ranged
+returns-in-7 c = rw c.in-7.is c.two_out-in-7.ensures
+
+pub returns-in-8 : goal.returns-in-8
+unfolding ranged
+returns-in-8 c = rw c.in-8.is c.pairs_out.ensures
+
+pub returns-in_default : goal.returns-in_default
+returns-in_default c = ap not (sym (range_none _ _ _ _ (λ l. omega arith)))
+
+pub returns-in_default-2 : goal.returns-in_default-2
+returns-in_default-2 c = ap not (sym (range_none _ _ _ _ (λ l. omega arith)))
+
+pub returns-in-1 : goal.returns-in-1
+returns-in-1 c =
+    c.one_out-in-1.ensures
+    ∙ ap not (sym (range-one _ _ _ _ (⊎_elim (λ w. inl w.keys1) (λ w. inr (omega arith, omega arith)) c.in-1-1.branch)))

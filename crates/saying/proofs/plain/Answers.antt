@@ -1,0 +1,12 @@
+-- `plain` meets its contract, test by test. Assumes nothing.
+use borrow.Author.Tests.{le-leb, lt-leb}
+use Rattle.saying.proofs.plain.Goals as goal
+
+pub returns-then-byte-lt32 : goal.returns-then-byte-lt32
+returns-then-byte-lt32 c = simp (lt-leb _ _ c.if-byte-lt32.true)
+
+pub returns-then-byte-gt126 : goal.returns-then-byte-gt126
+returns-then-byte-gt126 c = simp (le-leb _ _ c.if-byte-lt32.false, lt-leb _ _ c.if-byte-gt126.true)
+
+pub returns : goal.returns
+returns c = simp (le-leb _ _ c.if-byte-lt32.false, le-leb _ _ c.if-byte-gt126.false)

@@ -1,0 +1,66 @@
+-- `turn` cuts the lists to what can be reached and works them one by one. Assumes nothing.
+use mathlib.Core.Path.{◌≡◌, ap, ◌∙◌}
+use Prim.Native.Nat.{ℕ, suc, ◌+◌, ◌-◌, ◌*◌, ◌%◌, ◌^◌, ◌≤◌, ◌<◌}
+use native.Mathlib.Omega.{arith}
+use native.Mathlib.Nat.{one-mul}
+use native.Mathlib.Numerals.{add-one}
+use lib.Pow.{shl_exact}
+use Rattle.places.proofs.Cells.{kept_trans, side-near}
+use Rattle.windows.proofs.Levels.{listables, midway}
+use borrow.Author.Rules.{rules}
+use Rattle.windows.proofs.row.turn.Goals as goal
+use Rattle.windows.proofs.row.turn.Goals.{After-chance-p, After-trim_all, Start}
+
+-- one bit shifted up by the components left
+shifted : {n left : ℕ} → n ≤ 64 → left < n → 1 * 2 ^ (n - (left + 1)) % 2 ^ 64 ≡ 2 ^ (n - suc left)
+shifted {n} {left} size more =
+    shl_exact 1 (n - (left + 1)) 64 (omega arith) (omega arith) ∙ one-mul (2 ^ (n - (left + 1))) ∙ ap (λ x. 2 ^ (n - x)) (add-one left)
+
+-- the lists cut, and the entry, from where the survival number is read
+abbrev cut : After-chance-p → After-trim_all
+cut c = c.before.before.before
+
+abbrev start : After-trim_all → Start
+start c =
+    c.before.before.before.before.before
+
+pub overflow_add-left : goal.overflow_add-left
+overflow_add-left c = search rules
+
+pub overflow_sub-survival : goal.overflow_sub-survival
+overflow_sub-survival c = search rules
+
+pub overflow_shl-survival : goal.overflow_shl-survival
+overflow_shl-survival c = search rules
+
+pub trim_all-requires : goal.trim_all-requires
+trim_all-requires c =
+    listables c.requires.level c.requires.more
+
+pub chance-p-requires : goal.chance-p-requires
+chance-p-requires c = search rules
+
+pub sweep-requires : goal.sweep-requires
+sweep-requires c =
+    let y = (start (cut ((goal.at.sweep-requires c).After-chance-p))).requires in
+    let size = shifted y.level.list.size y.more in
+    record { ps = _; survival = _; i = _; midway = midway y.level y.more size (cut ((goal.at.sweep-requires c).After-chance-p)).trim-all.ensures c.chance-p.ensures }
+
+pub overflow_sub-result : goal.overflow_sub-result
+overflow_sub-result c =
+    omega (arith, side-near (start (cut ((goal.at.overflow_sub-result c).After-chance-p))).requires.level.side)
+
+pub shape_of-table : goal.shape_of-table
+shape_of-table c = search rules
+
+pub returns : goal.returns
+returns c =
+    let trimmed = cut ((goal.at.returns c).After-chance-p) in
+    let y = (start trimmed).pre in
+    let size = shifted y.level.list.size y.more in (
+      λ ps level. record {
+        level = rw add-one (c.sweep.ensures.level ps _ _ (midway level y.more size trimmed.trim-all.ensures c.chance-p.ensures));
+        is = add-one _;
+      },
+      kept_trans trimmed.trim-all.ensures.kept c.sweep.ensures.kept,
+    )
