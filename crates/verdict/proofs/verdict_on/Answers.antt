@@ -18,8 +18,8 @@ use Rattle.rules.proofs.Unless.{unless-some, after_none, after-some}
 use Rattle.refusals.proofs.Laws.{verdict-after, accepted}
 use Rattle.verdict.specs.Outcome.{Judged}
 use Rattle.verdict.proofs.Outcome.{judged}
-use Rattle.verdict.proofs.verdict_on.Statement.{statement}
-use Rattle.verdict.proofs.verdict_on.Tie as tie
+use Rattle.verdict.proofs.verdict_on.Goals as goal
+use Rattle.verdict.proofs.verdict_on.Goals.{Else-refusal-ne0}
 
 module _ (rule : Rule) (n : ℕ) (ws more : List ℕ) (w : ℕ) where
   refused : (r : ℕ) → r ≡ rule_refusal rule n ws more → (r ≡ 0 → ⊥) → Judged rule n ws more w (Refused r)
@@ -35,40 +35,29 @@ module _ (rule : Rule) (n : ℕ) (ws more : List ℕ) (w : ℕ) where
   unfolding verdict_of unless
   accepted-is z h e = judged (rw (verdict-after rule n ws more w, after_none _ (cond (high_one n w) 9 0) z, h) e)
 
-rule-refusal-requires : tie.Need-rule-refusal-requires
-rule-refusal-requires c κs = search rules
+pub rule_refusal-refusal-requires : goal.rule_refusal-refusal-requires
+rule_refusal-refusal-requires c = search rules
 
-returns : tie.Need-returns
-returns c = refused _ _ _ _ _ _ c.before.rule-refusal.ensures c.if1.true
+pub returns-then-refusal-ne0 : goal.returns-then-refusal-ne0
+returns-then-refusal-ne0 c = refused _ _ _ _ _ _ c.rule_refusal-refusal.ensures c.if-refusal-ne0.true
 
 -- what the first test leaves
-none : (c : tie.Else1) → let a = c.before.before.before.before.args in rule_refusal a.rule a.n a.weights.now a.more.now ≡ 0
-none c = sym c.before.rule-refusal.ensures ∙ c.if1.false
+none : (c : Else-refusal-ne0) → let a = c.args in rule_refusal a.rule a.n a.weights.now a.more.now ≡ 0
+none c = sym c.rule_refusal-refusal.ensures ∙ c.if-refusal-ne0.false
 
-sound : (c : tie.Else1) → let a = c.before.before.before.before.args in Accepted a.rule a.n (beside_of a.rule a.weights.now a.more.now)
+sound : (c : Else-refusal-ne0) → let a = c.args in Accepted a.rule a.n (beside_of a.rule a.weights.now a.more.now)
 sound c = accepted _ _ _ _ (none c)
 
-high-one-requires : tie.Need-high-one-requires
-high-one-requires c κs = ((sound c).size_low, (sound c).size_high)
+pub high_one-requires : goal.high_one-requires
+high_one-requires c = ((sound ((goal.at.high_one-requires c).Else-refusal-ne0)).size_low, (sound ((goal.at.high_one-requires c).Else-refusal-ne0)).size_high)
 
-returns-2 : tie.Need-returns-2
-returns-2 c = high_is _ _ _ _ _ (none c.before.before) (sym c.before.high_one.ensures ∙ c.if2.true)
+pub returns-then-high_one : goal.returns-then-high_one
+returns-then-high_one c = high_is _ _ _ _ _ (none ((goal.at.returns-then-high_one c).Else-refusal-ne0)) (sym c.high_one.ensures ∙ c.if-high_one.true)
 
-judge-requires : tie.Need-judge-requires
-judge-requires c κs =
-    (sound c.before.before, leb-false _ _ (sym c.before.high_one.ensures ∙ c.if2.false))
+pub judge-requires : goal.judge-requires
+judge-requires c =
+    (sound ((goal.at.judge-requires c).Else-refusal-ne0), leb-false _ _ (sym c.high_one.ensures ∙ c.if-high_one.false))
 
-returns-3 : tie.Need-returns-3
-returns-3 c =
-    accepted-is _ _ _ _ _ (none c.before.before.before) (sym c.before.before.high_one.ensures ∙ c.before.if2.false) c.judge.ensures
-
-pub verdict-on-spec : {M : Type 1} → statement M
-verdict-on-spec =
-    tie.close
-    (tie.spec
-    rule-refusal-requires
-    returns
-    high-one-requires
-    returns-2
-    judge-requires
-    returns-3)
+pub returns : goal.returns
+returns c =
+    accepted-is _ _ _ _ _ (none ((goal.at.returns c).Else-refusal-ne0)) (sym c.high_one.ensures ∙ c.if-high_one.false) c.judge.ensures
