@@ -2,13 +2,12 @@
 use mathlib.Core.Path.{refl, ap}
 use Prim.Native.Nat.{◌+◌}
 use borrow.Author.Rules.{rules}
-use Rattle.listing.proofs.count_line.Statement.{statement}
-use Rattle.listing.proofs.count_line.Tie as tie
+use Rattle.listing.proofs.count_line.Goals as goal
 
-add-next : tie.Need-overflow-add-next
-add-next c = search rules
+pub overflow_add-next : goal.overflow_add-next
+overflow_add-next c = search rules
 
-returns : tie.Need-returns
+pub returns : goal.returns
 returns c = record {
   one = refl;
   sane = λ out h. record { counted = record { fans = h.counted.fans; boards = h.counted.boards; switchboards = h.counted.switchboards; systems = h.counted.systems }; room = h.room };
@@ -22,6 +21,3 @@ returns c = record {
     told = h.told;
   };
 }
-
-pub count-line-spec : {M : Type 1} → statement M
-count-line-spec = tie.close (tie.spec add-next returns)
