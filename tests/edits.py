@@ -1,13 +1,11 @@
-"""Each must-fail edit was refused because a fact no longer holds, not because the proofs no longer fit the code's shape. All of them together are no more, and
-took no longer, than docs/PROOFS.md allows.
+"""Each must-fail edit was refused because a fact no longer holds, not because the proofs no longer fit the code's shape. There are no more of them than
+docs/PROOFS.md allows.
 
-    python3 -m tests.edits [TARGET]
+    python3 -m tests.edits [LOG]
 
-Reads the logs that rt ci leaves below TARGET (target/ otherwise), must-fail/NAME/LABEL/.log, and prints a line for each edit: fact or shape, and
-the first thing that was refused. An edit shows something if it keeps the code's operations and changes an operand. What rt said of the edit,
-must-fail/NAME/LABEL.out, ends in the seconds that it took; they are printed by crate.
+Reads what rt ci said of each edit in LOG (target/ci.log otherwise), the first thing that was refused, and prints a line for each edit: fact or shape, and
+that refusal. An edit shows something if it keeps the code's operations and changes an operand.
 """
-
 import re
 import sys
 from pathlib import Path
@@ -16,10 +14,10 @@ from typing import NamedTuple
 from tests.common import root
 
 SHOWN = 150  # characters of a refusal
-TOOK = re.compile(r"(\d+) s\)$", re.M)
+# What rt ci says of an edit that is refused, also where an earlier run tried it.
+SAID = re.compile(r"^rt: must-fail (\w+/\w+)\.edit: refused, as it must be: (.*)$", re.M)
 # What docs/PROOFS.md allows, in its section of that name.
 ALLOWED = "Time of the check"
-MOST_SECONDS = re.compile(r"The must-fail edits may take at most ([\d,]+)\s+seconds in all, added up\.")
 MOST_EDITS = re.compile(r"There are at most ([\d,]+) of them\.")
 
 # A refusal in a proof file or a specification, which names the declaration unless the file could not be read; and one in a proof that rattle made.
@@ -37,7 +35,7 @@ SHAPE = re.compile("|".join((
 )))
 # Declarations of a proof file that fit one shape of the code alone: the invariant and the measure of a loop take its variables, and the last
 # one hands over an answer to each need, in the order of the code.
-OF_THE_SHAPE = re.compile(r"(Inv-.*|μ-.*|.*-spec)$")
+OF_THE_SHAPE = re.compile(r"(invariant-.*|decreases-.*|.*[-_]spec)$")
 
 # What an operation is in a line of code; comparisons stand for each other.
 OPERATIONS = {
@@ -55,18 +53,12 @@ class Refused(NamedTuple):
     text: str
 
 
-def refusals(log, folder):
-    """What was refused for itself; what only rests on something refused is left out."""
-    found = []
-    for line in log.splitlines():
-        error, note = ERROR.match(line), NOTE.match(line)
-        if error and "was not admitted (" not in line:
-            found.append(Refused(error["place"].removeprefix(f"{folder}/"), error["name"], error["text"]))
-        elif note:
-            found.append(Refused(note["place"].removeprefix(f"{folder}/"), note["name"], note["text"]))
-        elif found and line.startswith("  "):
-            found[-1] = found[-1]._replace(text=found[-1].text + line)
-    return found
+def refusals(line):
+    """What was refused first, as rt tells it in one line."""
+    error, note = ERROR.match(line), NOTE.match(line)
+    if error:
+        return [Refused(error["place"].removeprefix("./"), error["name"], error["text"])]
+    return [Refused(note["place"].removeprefix("./"), note["name"], note["text"])] if note else []
 
 
 def pairs(edit):
@@ -108,62 +100,35 @@ def substance(text):
     return re.sub(r"\s+", " ", (part[1] or part[3]) if part else text).split(" expected type")[0][:SHOWN]
 
 
-def judged(edit, target):
+def judged(edit, said):
     """Whether the edit shows something, and the line that says so."""
     name = f"{edit.parent.parent.name}/{edit.stem}"
-    log = target / "must-fail" / name / ".log"
-    found = refusals(log.read_text(errors="replace"), log.parent) if log.exists() else []
-    first = f"{found[0].place} {found[0].name}: {substance(found[0].text)}" if found else f"nothing refused in {log}"
+    found = refusals(said.get(name, ""))
+    first = f"{found[0].place} {found[0].name}: {substance(found[0].text)}" if found else f"rt says: {said.get(name, 'nothing')[:SHOWN]}"
     why = misfit(edit, found)
     return (False, f"shape {name}: {why}; first {first}") if why else (True, f"fact  {name}: {first}")
 
 
-def seconds_of(edit, target):
-    """How long rt tried an edit; 0 where it did not."""
-    said = target / "must-fail" / edit.parent.parent.name / f"{edit.stem}.out"
-    found = TOOK.findall(said.read_text(errors="replace")) if said.exists() else []
-    return int(found[-1]) if found else 0
-
-
-def by_crate(edits, target):
-    """The number of edits of each crate, and their seconds, as many at a time as rt tries."""
-    table = {}
-    for edit in edits:
-        count, seconds = table.get(edit.parent.parent.name, (0, 0))
-        table[edit.parent.parent.name] = count + 1, seconds + seconds_of(edit, target)
-    return table
-
-
-def allowed(proofs, sentence):
-    """The number that a sentence of docs/PROOFS.md allows; None where it has no such sentence."""
-    section = proofs.read_text().partition(f"\n## {ALLOWED}\n")[2].partition("\n## ")[0]
-    found = sentence.search(section)
-    return int(found[1].replace(",", "")) if found else None
-
-
-def within(table, proofs):
-    """Are the edits as few and as quick as is allowed? Prints the table, and what is not."""
-    print(f"{'crate':16}{'edits':>8}{'seconds':>8}")
-    total = tuple(map(sum, zip(*table.values())))
-    for crate, numbers in (*table.items(), ("in all", total)):
-        print(f"{crate:16}{numbers[0]:8}{numbers[1]:8}")
-    good = True
-    for what, found, sentence in zip(("edits", "seconds"), total, (MOST_EDITS, MOST_SECONDS)):
-        most = allowed(proofs, sentence)
-        if most is None or found > most:
-            print(f"{found} {what} in all, and docs/PROOFS.md allows {'no number that could be read' if most is None else most}")
-            good = False
-    return good
+def within(count):
+    """Are the edits as few as docs/PROOFS.md allows?"""
+    section = (root / "docs/PROOFS.md").read_text().partition(f"\n## {ALLOWED}\n")[2].partition("\n## ")[0]
+    found = MOST_EDITS.search(section)
+    most = int(found[1].replace(",", "")) if found else None
+    if most is None or count > most:
+        print(f"{count} edits in all, and docs/PROOFS.md allows {'no number that could be read' if most is None else most}")
+        return False
+    return True
 
 
 def main(arguments):
-    target = Path(arguments[0]).resolve() if arguments else root / "target"
-    edits = sorted((target.parent / "crates").glob("*/must-fail/*.edit"))
-    lines = sorted((judged(edit, target) for edit in edits), key=lambda line: not line[0])  # what shows nothing stands last
+    log = Path(arguments[0]) if arguments else root / "target/ci.log"
+    said = dict(SAID.findall(log.read_text(errors="replace")))
+    edits = sorted((root / "crates").glob("*/must-fail/*.edit"))
+    lines = sorted((judged(edit, said) for edit in edits), key=lambda line: not line[0])  # what shows nothing stands last
     for _, line in lines:
         print(line)
     bad = sum(not good for good, _ in lines)
-    good = bool(edits) and within(by_crate(edits, target), target.parent / "docs/PROOFS.md")
+    good = bool(edits) and within(len(edits))
     print(f"{len(edits)} must-fail edits, {bad} refused for their shape")
     return 0 if good and not bad else 1
 

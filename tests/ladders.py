@@ -1,5 +1,5 @@
 """No proof goes back through the code by a chain of more than four `.before`: it names the points that it speaks of once, each from the one after it
-(`let at-loop = c .before .before in`), so that one step more in the code moves one name, not each path that goes past it."""
+(`let at-loop = c.before.before in`), so that one step more in the code moves one name, not each path that goes past it."""
 
 import re
 import sys
@@ -7,7 +7,7 @@ import sys
 from tests.common import reported, root
 
 LONGEST = 4
-CHAIN = re.compile(r"\S+(?:\s+\.before\b(?![-\w])){%d,}" % (LONGEST + 1))
+CHAIN = re.compile(r"[\w'-]+(?:\.before\b(?![-\w])){%d,}" % (LONGEST + 1))
 
 
 def ladders(file, text):

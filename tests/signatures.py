@@ -2,8 +2,8 @@
 its answer.
 
 A borrowed list is a pointer of the same name in C and, after it, a length of any name; a pair of ends is a pointer alone. The proofs speak of parameters by their
-names, and say nothing of the order in which C passes them. Crate ratings is the benchmark's and has no header. A program's crate exports its one call, which the
-Makefile's main declares: no parameter, and an int for the status.
+names, and say nothing of the order in which C passes them. The calls stand in libraries, and a crate of its own exports them; crate ratings_c is the benchmark's and
+has no header. Each program's crate calls its own function, and ends with the status that it answers.
 """
 
 import re
@@ -11,11 +11,11 @@ import sys
 
 from tests.common import EVERY_PROGRAM, prototypes, reported, root
 
-HEADERS = {"loading": "foambeetle.h", "office": "foambeetle_office.h"}
-WITHOUT_HEADER = {"ratings"}
-ARCHIVES = "first_programs", "further_programs"  # from which make links the programs
+HEADERS = {"loading_c": "foambeetle.h", "office_c": "foambeetle_office.h"}
+WITHOUT_HEADER = {"ratings_c"}
+MAIN = re.compile(r"\b(?:first|further)_programs::(\w+)_run\(&rt\)")
 NUMBERS = {"u8": "uint8_t", "u16": "uint16_t", "u32": "uint32_t", "u64": "uint64_t", "i64": "int64_t", "f64": "double"}
-EXPORT = re.compile(r'#\[no_mangle\]\s+pub extern "C" fn (\w+)\(([^()]*)\) -> (\w+)')
+EXPORT = re.compile(r'#\[unsafe\(no_mangle\)\]\s+pub extern "C" fn (\w+)\(([^()]*)\) -> (\w+)')
 PARAMETER = re.compile(r"(\w+): (?:(\w+)|&(mut )?\[(\w+)(; \d+)?\])$")
 LENGTH = re.compile(r"size_t \w+$")
 SOME_LENGTH = "size_t LENGTH"
@@ -58,18 +58,18 @@ def differences(crate, header):
             yield f"{name}: crates/{crate} has {defined.get(name)}, include/{header} {shown.get(name)}"
 
 
-def misdeclared():
-    """The programs' archives export a call for each program, without a parameter and with an i32 for its status, and nothing else."""
-    found = [exports(crate) for crate in ARCHIVES]
-    calls = {name: call for calls, _ in found for name, call in calls.items()}
-    if calls != {f"{program}_run": ("i32", []) for program in EVERY_PROGRAM} or sum(said for _, said in found) != len(EVERY_PROGRAM):
-        yield f"{' and '.join(ARCHIVES)} do not export NAME_run for each program, without a parameter and with an i32 for its status, alone"
+def misdirected():
+    """Programs whose main calls the function of another."""
+    for program in EVERY_PROGRAM:
+        called = MAIN.findall((root / "crates" / f"{program}_program" / "src/main.rt").read_text())
+        if called != [program]:
+            yield f"{program}_program calls {', '.join(called) or 'no program'}"
 
 
 def main():
     exporting = {folder.name for folder in (root / "crates").iterdir() if exports(folder.name)[1]}
-    wrong = [f"crates/{crate} exports to C, or does so no more" for crate in sorted(exporting ^ {*HEADERS, *WITHOUT_HEADER, *ARCHIVES})]
-    wrong += misdeclared()
+    wrong = [f"crates/{crate} exports to C, or does so no more" for crate in sorted(exporting ^ {*HEADERS, *WITHOUT_HEADER})]
+    wrong += misdirected()
     wrong += [line for pair in HEADERS.items() for line in differences(*pair)]
     calls = sum(len(declared(header)) for header in HEADERS.values())
     return reported(wrong, f"{calls} C calls declared, {len(wrong)} things wrong")

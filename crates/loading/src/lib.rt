@@ -8,8 +8,7 @@ ghost use Rattle.loading.specs.Outcome.{Answered, Parted, number_of, ends_after,
 use rules::{Spare, Worth};
 
 // What the C program calls: `uint64_t foambeetle_rate(const uint8_t *file, size_t length, uint64_t system)`.
-#[unsafe(no_mangle)]
-pub extern "C" fn foambeetle_rate(file: &[u8], system: u64) -> u64
+pub fn foambeetle_rate(file: &[u8], system: u64) -> u64
     ensures { Answered file.now system result }
 {
     packing::pack(systems::rate_file(file, system))
@@ -17,8 +16,7 @@ pub extern "C" fn foambeetle_rate(file: &[u8], system: u64) -> u64
 
 // What the C program calls for the unit of a file's figures: `uint64_t foambeetle_unit(const uint8_t *file, size_t
 // length)`.
-#[unsafe(no_mangle)]
-pub extern "C" fn foambeetle_unit(file: &[u8]) -> u64
+pub fn foambeetle_unit(file: &[u8]) -> u64
     ensures { Parted file.now result }
 {
     let opened = deck::open(file);
@@ -46,8 +44,7 @@ pub fn tell(worth: Worth, ends: &mut [i64; 2]) -> u64
 
 // What the C program calls for the worth of a fan:
 // `uint64_t foambeetle_worth(const uint8_t *file, size_t length, uint64_t system, uint64_t fan, int64_t ends[2])`.
-#[unsafe(no_mangle)]
-pub extern "C" fn foambeetle_worth(file: &[u8], system: u64, fan: u64, ends: &mut [i64; 2]) -> u64
+pub fn foambeetle_worth(file: &[u8], system: u64, fan: u64, ends: &mut [i64; 2]) -> u64
     ensures { Told file.now system fan ends.old ends.new result }
 {
     tell(fan_worths::weigh_file(file, system, fan), ends)
@@ -56,8 +53,7 @@ pub extern "C" fn foambeetle_worth(file: &[u8], system: u64, fan: u64, ends: &mu
 // What the C program calls for the gain of a spare with survival number p in the place of a fan:
 // `uint64_t foambeetle_gain(const uint8_t *file, size_t length, uint64_t system, uint64_t fan, uint64_t p,
 // int64_t ends[2])`.
-#[unsafe(no_mangle)]
-pub extern "C" fn foambeetle_gain(
+pub fn foambeetle_gain(
     file: &[u8],
     system: u64,
     fan: u64,

@@ -27,8 +27,7 @@ fn pack(writing: Writing) -> u64
 // What the C program calls: `uint64_t foambeetle_write(uint64_t version, const uint32_t *survival, size_t n, const
 // uint16_t *weights, size_t w, const uint8_t *boards, size_t b, const uint32_t *switchboards, size_t g, const uint16_t
 // *systems, size_t s, uint8_t *room, size_t length)`.
-#[unsafe(no_mangle)]
-pub extern "C" fn foambeetle_write(
+pub fn foambeetle_write(
     version: u64,
     survival: &[u32],
     weights: &[u16],
@@ -67,8 +66,7 @@ fn tell(chance: Chance, ends: &mut [f64; 2]) -> u64
 
 // What the C program calls for a deck's chances:
 // `uint64_t foambeetle_chance(const uint8_t *file, size_t length, uint64_t system, double ends[2])`.
-#[unsafe(no_mangle)]
-pub extern "C" fn foambeetle_chance(file: &[u8], system: u64, ends: &mut [f64; 2]) -> u64
+pub fn foambeetle_chance(file: &[u8], system: u64, ends: &mut [f64; 2]) -> u64
     ensures { Told file.now system ends.old ends.new result }
 {
     tell(export::chance_of(file, system), ends)
@@ -76,8 +74,7 @@ pub extern "C" fn foambeetle_chance(file: &[u8], system: u64, ends: &mut [f64; 2
 
 // What the C program calls for the chances of a deck of any version:
 // `uint64_t foambeetle_chance_between(const uint8_t *file, size_t length, uint64_t system, double ends[2])`.
-#[unsafe(no_mangle)]
-pub extern "C" fn foambeetle_chance_between(file: &[u8], system: u64, ends: &mut [f64; 2]) -> u64
+pub fn foambeetle_chance_between(file: &[u8], system: u64, ends: &mut [f64; 2]) -> u64
     ensures { Bounded file.now system ends.old ends.new result }
 {
     tell(between::chance_between(file, system), ends)
@@ -86,8 +83,7 @@ pub extern "C" fn foambeetle_chance_between(file: &[u8], system: u64, ends: &mut
 // What the C program calls for a rating asked in doubles: `uint64_t foambeetle_rate_doubles(uint64_t kind, uint64_t
 // first, uint64_t second, const uint64_t *more, size_t pairs, uint64_t a, uint64_t b, const double *survival, size_t n,
 // const uint16_t *weights, size_t weighed)`.
-#[unsafe(no_mangle)]
-pub extern "C" fn foambeetle_rate_doubles(
+pub fn foambeetle_rate_doubles(
     kind: u64,
     first: u64,
     second: u64,

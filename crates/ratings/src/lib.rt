@@ -23,8 +23,7 @@ fn rule_of(kind: u64, first: u64, second: u64) -> Rule
 // uint64_t b, const uint32_t *survival, size_t n, const uint16_t *weights, size_t weighed, const uint64_t *more, size_t
 // further, const uint8_t *boards, size_t placed, const uint32_t *switchboards, size_t g, uint64_t *table, size_t
 // cells)`.
-#[unsafe(no_mangle)]
-pub extern "C" fn foambeetle_figures(
+pub fn foambeetle_figures(
     version: u64,
     kind: u64,
     first: u64,
@@ -65,8 +64,7 @@ pub extern "C" fn foambeetle_figures(
 // uint64_t second, uint64_t a, uint64_t b, uint64_t fan, const uint32_t *survival, size_t n, const uint16_t *weights,
 // size_t weighed, const uint64_t *more, size_t further, const uint8_t *boards, size_t placed, const uint32_t
 // *switchboards, size_t g, uint64_t *table, size_t cells, int64_t ends[2])`.
-#[unsafe(no_mangle)]
-pub extern "C" fn foambeetle_worth_of(
+pub fn foambeetle_worth_of(
     version: u64,
     kind: u64,
     first: u64,
@@ -119,8 +117,7 @@ fn number_of(answer: Counting) -> u64
 
 // The count table, likewise. In C: `uint64_t foambeetle_counts(uint64_t kind, uint64_t first, uint64_t second, uint64_t
 // n, const uint16_t *weights, size_t weighed, uint64_t *table, size_t cells, uint64_t *room, size_t slots)`.
-#[unsafe(no_mangle)]
-pub extern "C" fn foambeetle_counts(
+pub fn foambeetle_counts(
     kind: u64,
     first: u64,
     second: u64,

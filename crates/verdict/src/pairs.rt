@@ -51,7 +51,7 @@ fn some_lacks(k: u64, r: u64, more: &[u64], n: u64, a: u64, w: u64) -> bool
 fn first_lacking(k: u64, r: u64, more: &[u64], n: u64, w: u64) -> u64
     requires few { length more.now ≤ most_more }
     requires pairs { Judgeable n w (pairs_of k r more.now) }
-    ensures* { λ a. ⌜ a ≡ first (λ a. any_of (lacking_from n w a) (pairs_of k r more.now)) n ⌝ }
+    ensures { result ≡ first (λ a. any_of (lacking_from n w a) (pairs_of k r more.now)) n }
 {
     let mut a: u64 = 0;
     while a < n {

@@ -29,7 +29,9 @@ pub multiplied-product-requires : goal.multiplied-product-requires
 multiplied-product-requires c = search rules
 
 pub truncating_f64_to_u64-below-requires : goal.truncating_f64_to_u64-below-requires
-truncating_f64_to_u64-below-requires c = asks _ _ (product ((goal.at.truncating_f64_to_u64-below-requires c).After-multiplied-product))
+truncating_f64_to_u64-below-requires c =
+    let within = asks _ _ (product ((goal.at.truncating_f64_to_u64-below-requires c).After-multiplied-product)) in
+    record { lower_bound = within.0; upper_bound = within.1 }
 
 pub int_to_float-below : goal.int_to_float-below
 unfolding in_float

@@ -1,4 +1,4 @@
--- `pascal::ways` meets its contract: the table that it is lent passes the test of Pascal's rule, so each entry is the count; and no state has more
+-- `pascal::ways` meets its contract: the table that it is lent passes the test of Pascal's rule, so each entry is the count; and no state has more failed than there are components. Assumes nothing.
 use mathlib.Core.Path.{sym}
 use mathlib.Core.Bool.{true}
 use Prim.Native.Nat.{◌+◌, ◌*◌, ◌/◌, ◌<◌}
@@ -7,9 +7,8 @@ use borrow.Author.Rules.{rules}
 use Rattle.rules.proofs.Words.{count-above}
 use Rattle.pascal.proofs.Folded.{row_small, fold-front, folded-ways}
 use Rattle.pascal.proofs.ways.Goals as goal
-use Rattle.pascal.proofs.ways.Goals.{After-fold, After-way_told-1}
+use Rattle.pascal.proofs.ways.Goals.{After-fold}
 
--- failed than there are components. Assumes nothing.
 pub overflow_add-result : goal.overflow_add-result
 overflow_add-result c = search rules
 
@@ -34,7 +33,7 @@ pub offset_bounds-table-n : goal.offset_bounds-table-n
 offset_bounds-table-n c = omega (arith, place-small ((goal.at.offset_bounds-table-n c).After-fold))
 
 pub bounds-table-n : goal.bounds-table-n
-bounds-table-n c = omega (arith, place-small ((goal.at.bounds-table-n c).After-way_told-1))
+bounds-table-n c = omega (arith, place-small ((goal.at.bounds-table-n c).After-fold))
 
 pub returns-then-j-n : goal.returns-then-j-n
 returns-then-j-n c =

@@ -7,6 +7,7 @@ use borrow.Author.Rules.{rules}
 use Rattle.rules.specs.Refusal.{ranged}
 use Rattle.refusals.proofs.Laws.{range-one, range_none}
 use Rattle.refusals.proofs.range_out.Goals as goal
+use Rattle.refusals.proofs.range_out.Goals.{in-1-1, in_default+else-asked-lt1+then-asked-lt6}
 
 pub one_out-requires : goal.one_out-requires
 one_out-requires c = search rules
@@ -54,5 +55,4 @@ returns-in_default-2 c = ap not (sym (range_none _ _ _ _ (λ l. omega arith)))
 
 pub returns-in-1 : goal.returns-in-1
 returns-in-1 c =
-    c.one_out-in-1.ensures
-    ∙ ap not (sym (range-one _ _ _ _ (⊎_elim (λ w. inl w.keys1) (λ w. inr (omega arith, omega arith)) c.in-1-1.branch)))
+    c.one_out-in-1.ensures ∙ ap not (sym (range-one _ _ _ _ (elim c.in-1-1.branch [ in-1-1 w ↦ inl (cc) | in_default+else-asked-lt1+then-asked-lt6 w ↦ inr (omega arith, omega arith) ])))

@@ -73,4 +73,4 @@ pub returns : goal.returns
 returns c =
     let first = kept_trans c.start.ensures.kept c.clear.ensures.kept in
     let kept = kept_trans first (kept_trans c.clear-2.ensures.kept c.loop-s.invariant.1) in
-    (level-read c.loop-s.invariant.0 (omega (arith, c.loop-s.invariant.0.some)) c.read.ensures, kept)
+    record { figure = level-read c.loop-s.invariant.0 (omega (arith, c.loop-s.invariant.0.some)) c.read.ensures; kept = kept }

@@ -70,12 +70,12 @@ fits-whole-requires c = search rules
 pub returns : goal.returns
 returns c =
     λ e. record {
-      fans = c.requires.few.0;
-      weights = c.requires.few.1.0;
-      more = c.requires.few.1.1.0;
+      fans = c.requires.few;
+      weights = c.requires.light;
+      more = c.requires.paired;
       boards = c.if-p.false;
       g = c.if-count.false;
-      room = c.requires.few.1.1.1;
+      room = c.requires.celled;
       long = refl;
-      ends = c.fits2.ensures e;
+      ends = c.fits-whole.ensures e;
     }

@@ -3,7 +3,6 @@ use mathlib.Core.Path.{ap, ◌∙◌}
 use native.Mathlib.Omega.{arith}
 use borrow.Author.Rules.{rules}
 use Rattle.gaps.proofs.free.more.Goals as goal
-use Rattle.gaps.proofs.free.more.Goals.{After-chance-p, Start}
 
 pub worked-requires : goal.worked-requires
 worked-requires c = search rules
@@ -12,21 +11,16 @@ pub at_hand-works-requires : goal.at_hand-works-requires
 at_hand-works-requires c = ap (λ m. m.owed) c.worked.ensures ∙ omega (arith, c.requires.none)
 
 -- the entry, from where the survival number is read
-abbrev start : After-chance-p → Start
-start c =
-    c.before.before.before.before.before
-
 pub chance-p-requires : goal.chance-p-requires
 chance-p-requires c = search rules
 
 pub failure-requires : goal.failure-requires
-failure-requires c = rw c.chance-p.ensures ((start ((goal.at.failure-requires c).After-chance-p)).requires.list.units _)
+failure-requires c = rw c.chance-p.ensures (c.requires.list.units _)
 
 pub step-ends-requires : goal.step-ends-requires
 step-ends-requires c =
-    let pre = (start ((goal.at.step-ends-requires c).After-chance-p)).requires in
     rw c.at_hand-works.ensures
-    (record { survival = rw c.chance-p.ensures (pre.list.units _); rest = c.failure.ensures; left = pre.works_small; right = pre.fails_small })
+    (record { survival = rw c.chance-p.ensures (c.requires.list.units _); rest = c.failure.ensures; left = c.requires.works_small; right = c.requires.fails_small })
 
 pub overflow_add-i : goal.overflow_add-i
 overflow_add-i c = search rules

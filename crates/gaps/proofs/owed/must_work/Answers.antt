@@ -6,13 +6,8 @@ use Rattle.memory.specs.Owed.{owed_worked}
 use Rattle.memory.proofs.Moves.{owed-worked-before}
 use Rattle.gaps.proofs.Paying.{due-must, due-more, due-place}
 use Rattle.gaps.proofs.owed.must_work.Goals as goal
-use Rattle.gaps.proofs.owed.must_work.Goals.{After-chance-p, Start}
 
 -- the entry, from where the survival number is read
-abbrev start : After-chance-p → Start
-start c =
-    c.before.before.before.before.before.before
-
 pub before-m-requires : goal.before-m-requires
 before-m-requires c = omega (arith, c.requires.alive)
 
@@ -29,15 +24,15 @@ pub overflow_add-i : goal.overflow_add-i
 overflow_add-i c = search rules
 
 pub read_shares-shares-requires : goal.read_shares-shares-requires
-read_shares-shares-requires c = due-place (start ((goal.at.read_shares-shares-requires c).After-chance-p)).requires
+read_shares-shares-requires c = due-place c.requires
 
 pub failure-requires : goal.failure-requires
-failure-requires c = rw c.chance-p.ensures ((start ((goal.at.failure-requires c).After-chance-p)).requires.list.units _)
+failure-requires c = rw c.chance-p.ensures (c.requires.list.units _)
 
 pub step_owed-requires : goal.step_owed-requires
 step_owed-requires c =
-    rw c.at_hand-works.ensures (due-must (start ((goal.at.step_owed-requires c).After-chance-p)).requires _ _ (record { read = c.chance-p.ensures; rest = c.failure.ensures }) c.read_shares-shares.ensures)
+    rw c.at_hand-works.ensures (due-must c.requires _ _ (record { read = c.chance-p.ensures; rest = c.failure.ensures }) c.read_shares-shares.ensures)
 
 pub returns : goal.returns
 returns c =
-    due-more (start ((goal.at.returns c).After-chance-p)).requires _ _ (record { read = c.chance-p.ensures; rest = c.failure.ensures }) (rw c.at_hand-works.ensures at c.step_owed.ensures)
+    due-more c.requires _ _ (record { read = c.chance-p.ensures; rest = c.failure.ensures }) (rw c.at_hand-works.ensures at c.step_owed.ensures)

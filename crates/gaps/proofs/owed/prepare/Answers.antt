@@ -19,8 +19,8 @@ by_shares-requires c = search rules
 
 pub returns-then-not-by_shares : goal.returns-then-not-by_shares
 returns-then-not-by_shares c =
-    let none = sym c.by_shares.ensures ∙ not-true c.by_shares.result c.if-not-by_shares.true in
-    (record { row = λ up i l. unasked (rw c.whole-unit.ensures at none) }, kept-none)
+    let none = sym c.by_shares.ensures ∙ c.if-not-by_shares.true in
+    record { shared = record { row = λ up i l. unasked (rw c.whole-unit.ensures at none) }; kept = kept-none }
 
 pub loop-i-init : goal.loop-i-init
 loop-i-init c = (omega arith, shared-none)

@@ -14,7 +14,7 @@ use Rattle.units.specs.Step.{whole}
 use Rattle.gaps.proofs.Sharing.{shared-put, shared-written}
 use Rattle.gaps.proofs.Paying.{end-valued, back-first, back_last, back-due, back_more}
 use Rattle.gaps.proofs.owed.settle.Goals as goal
-use Rattle.gaps.proofs.owed.settle.Goals.{After-lesser-last, After-prepare, After-slice_known-3-1, After-write, At-loop-i, In-loop-i, Start}
+use Rattle.gaps.proofs.owed.settle.Goals.{At-loop-i, In-loop-i}
 
 pub prepare-requires : goal.prepare-requires
 prepare-requires c = c.requires.list
@@ -32,52 +32,33 @@ pub end_value-ends-requires : goal.end_value-ends-requires
 end_value-ends-requires c = search rules
 
 -- the points of the code, back to the entry
-abbrev prepared : After-lesser-last → After-prepare
-prepared c = c.before.before.before
-
-abbrev start : After-lesser-last → Start
-start c = (prepared c).before.before.before.before
-
-abbrev bounded : After-write → After-lesser-last
-bounded c = c.before.before.before.before
-
-abbrev written : At-loop-i → After-write
-written c = c.before.before.before
-
 -- the table as it was worked, at the loop's head
-kept : (c : At-loop-i) → Kept (start (bounded (written c))).args.table.now c.loop-i.table
-kept c = kept_trans (prepared (bounded (written c))).prepare.ensures.1 (kept_trans (written c).write.ensures.kept c.loop-i.invariant.2.kept)
+kept : (c : At-loop-i) → Kept c.args.table.now c.loop-i.table
+kept c = kept_trans c.prepare.ensures.kept (kept_trans c.write.ensures.kept c.loop-i.invariant.2.kept)
 
 -- and the shares
 shared : (c : At-loop-i) → c.loop-i.i ≤ most
-    → Shared (whole (start (bounded (written c))).args.decimal) (start (bounded (written c))).args.survival.now c.loop-i.table
+    → Shared (whole c.args.decimal) c.args.survival.now c.loop-i.table
 shared c few =
-    let small = (start (bounded (written c))).pre.list.size in
-    shared-written c.loop-i.invariant.2 (omega arith) small (shared-put (written c).write.ensures (omega arith) small (prepared (bounded (written c))).prepare.ensures.0)
+    shared-written c.loop-i.invariant.2 (omega arith) c.requires.list.size (shared-put c.write.ensures (omega arith) c.requires.list.size c.prepare.ensures.shared)
 
 pub write-requires : goal.write-requires
 write-requires c =
-    record { low = omega arith; room = room-kept (prepared ((goal.at.write-requires c).After-lesser-last)).prepare.ensures.1 (start ((goal.at.write-requires c).After-lesser-last)).requires.list.room }
+    record { low = omega arith; room = room-kept c.prepare.ensures.kept c.requires.list.room }
 
 pub loop-i-init : goal.loop-i-init
 loop-i-init c =
-    let l = bounded ((goal.at.loop-i-init c).After-write) in
-    let x = (start l).args in
-    let value = end-valued (whole x.decimal) x.r x.survival.now (owed 0 0) (omega (arith, (start l).pre.two)) c.works.ensures c.end_value-ends.ensures in
-    let row = row_more {f = settled_value (whole x.decimal) x.r x.survival.now} {off = half} c.write.ensures refl (omega arith) value row-none in
+    let value = end-valued (whole c.args.decimal) c.args.r c.args.survival.now (owed 0 0) (omega (arith, c.requires.two)) c.works.ensures c.end_value-ends.ensures in
+    let row = row_more {f = settled_value (whole c.args.decimal) c.args.r c.args.survival.now} {off = half} c.write.ensures refl (omega arith) value row-none in
     (omega arith, back-first value, record { row = row; other = λ up k l o. refl; kept = kept-none })
 
 pub must_work-ends-requires : goal.must_work-ends-requires
 must_work-ends-requires c =
-    let l = bounded (written ((goal.at.must_work-ends-requires c).After-slice_known-3-1)) in
-    let pre = (start l).pre in
-    let last = l.lesser.ensures in
-    back-due c.loop-i.invariant.1 (omega (arith, c.loop-i-test.true, last)) (omega (arith, c.loop-i-test.true, last)) (workable-kept (kept ((goal.at.must_work-ends-requires c).After-slice_known-3-1)) pre.list) (shared ((goal.at.must_work-ends-requires c).After-slice_known-3-1) (omega (arith, c.loop-i-test.true, last, pre.list.size)))
+    back-due c.loop-i.invariant.1 (omega (arith, c.loop-i-test.true, c.lesser-last.ensures)) (omega (arith, c.loop-i-test.true, c.lesser-last.ensures)) (workable-kept (kept ((goal.at.must_work-ends-requires c).At-loop-i)) c.requires.list) (shared ((goal.at.must_work-ends-requires c).At-loop-i) (omega (arith, c.loop-i-test.true, c.lesser-last.ensures, c.requires.list.size)))
 
 pub before-hand-requires : goal.before-hand-requires
 before-hand-requires c =
-    let l = bounded (written ((goal.at.before-hand-requires c).After-slice_known-3-1)) in
-    rw c.loop-i.invariant.1.is (omega (arith, c.loop-i-test.true, l.lesser.ensures, (start l).pre.list.size))
+    rw c.loop-i.invariant.1.is (omega (arith, c.loop-i-test.true, c.lesser-last.ensures, c.requires.list.size))
 
 pub overflow_add-i : goal.overflow_add-i
 overflow_add-i c = search rules
@@ -85,15 +66,14 @@ overflow_add-i c = search rules
 -- the next place
 low : (c : In-loop-i) → c.loop-i.i + 1 ≤ most
 low c =
-    let l = bounded (written c.before) in
-    omega (arith, c.loop-i-test.true, l.lesser.ensures, (start l).pre.list.size)
+    omega (arith, c.loop-i-test.true, c.lesser-last.ensures, c.requires.list.size)
 
 pub overflow_add-i-in-loop-i : goal.overflow_add-i-in-loop-i
-overflow_add-i-in-loop-i c = omega (arith, low ((goal.at.overflow_add-i-in-loop-i c).At-loop-i))
+overflow_add-i-in-loop-i c = omega (arith, low ((goal.at.overflow_add-i-in-loop-i c).In-loop-i))
 
 pub write-requires-in-loop-i : goal.write-requires-in-loop-i
 write-requires-in-loop-i c =
-    record { low = omega (arith, low ((goal.at.write-requires-in-loop-i c).At-loop-i)); room = room-kept (kept ((goal.at.write-requires-in-loop-i c).After-slice_known-3-1)) (start (bounded (written ((goal.at.write-requires-in-loop-i c).After-slice_known-3-1)))).pre.list.room }
+    record { low = omega (arith, low ((goal.at.write-requires-in-loop-i c).In-loop-i)); room = room-kept (kept ((goal.at.write-requires-in-loop-i c).At-loop-i)) c.requires.list.room }
 
 pub loop-i-smaller : goal.loop-i-smaller
 loop-i-smaller c = search rules
@@ -104,7 +84,7 @@ loop-i-preserved c =
     let more = back_more c.loop-i.invariant.1 c.before-hand.ensures c.must_work-ends.ensures in (
       omega (arith, c.loop-i-test.true),
       more,
-      written-more c.write-in-loop-i.ensures refl (omega (arith, low ((goal.at.loop-i-preserved c).At-loop-i))) (rw (same, zero-add) ((goal.at.loop-i-preserved c).After-slice_known-3-1) (back_last refl more)) c.loop-i.invariant.2,
+      written-more c.write-in-loop-i.ensures refl (omega (arith, low ((goal.at.loop-i-preserved c).In-loop-i))) (rw (same, zero-add) at (back_last refl more)) c.loop-i.invariant.2,
     )
 
 pub shape_of-table : goal.shape_of-table
@@ -112,6 +92,5 @@ shape_of-table c = (kept ((goal.at.shape_of-table c).At-loop-i)).long
 
 pub returns : goal.returns
 returns c =
-    let l = bounded (written ((goal.at.returns c).At-loop-i)) in
-    let e : c.loop-i.i ≡ l.lesser.result = omega (arith, c.loop-i.invariant.0, c.loop-i-test.false) in
-    (record { shared = shared ((goal.at.returns c).At-loop-i) (omega (arith, c.loop-i.invariant.0, l.lesser.ensures, (start l).pre.list.size)); row = rw (e, l.lesser.ensures) ((goal.at.returns c).At-loop-i) c.loop-i.invariant.2.row }, kept ((goal.at.returns c).At-loop-i))
+    let e : c.loop-i.i ≡ c.lesser-last.result = omega (arith, c.loop-i.invariant.0, c.loop-i-test.false) in
+    record { settled = record { shared = shared ((goal.at.returns c).At-loop-i) (omega (arith, c.loop-i.invariant.0, c.lesser-last.ensures, c.requires.list.size)); row = rw (e, c.lesser-last.ensures) at c.loop-i.invariant.2.row }; kept = kept ((goal.at.returns c).At-loop-i) }

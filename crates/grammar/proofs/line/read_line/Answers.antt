@@ -1,7 +1,5 @@
 -- `line::read_line` meets its contract: the words from where it stands, read from its place, make the line. The measure is what is left. Assumes nothing.
 use mathlib.Core.Path.{sym, ap, ◌∙◌}
-use Prim.Native.Nat.{◌-◌}
-use borrow.Author.Tests.{not-true, not-false}
 use Rattle.grammar.specs.Line.{read_line}
 use Rattle.grammar.proofs.Whole.{start-few, goes-few, line-ends, line-stops, line-goes}
 use borrow.Author.Rules.{rules}
@@ -13,19 +11,13 @@ start_of-place-requires c = search rules
 
 pub loop-after-init : goal.loop-after-init
 unfolding read_line
-loop-after-init c = (omega arith, rw c.start_of_lem.ensures (start-few c.args.begun), rw c.start_of_lem.ensures)
+loop-after-init c = (omega arith, rw c.start_of-place.ensures (start-few c.args.begun), rw c.start_of-place.ensures)
 
 pub next-span-requires : goal.next-span-requires
 next-span-requires c = c.loop-after.invariant.0
 
 pub slice_bounds-step-count : goal.slice_bounds-step-count
 slice_bounds-step-count c = omega (arith, c.next-span.ensures.mid)
-
--- WAS slice-bounds-step-start
--- part-step-start c = omega (arith, c.next.ensures.mid)
-
--- WAS slice-bounds-step-end
--- part-step-end c = omega (arith, c.next.ensures.high)
 
 pub step-next-requires : goal.step-next-requires
 step-next-requires c =
@@ -40,7 +32,7 @@ goes_on-requires c = search rules
 
 pub returns-then-not-goes_on : goal.returns-then-not-goes_on
 returns-then-not-goes_on c =
-    let e = line-stops c.args.line.now c.args.version c.loop-after.place c.loop-after.set c.loop-after.at _ _ c.next-span.ensures _ c.loop-after.invariant.2 _ _ c.step-next.ensures.0 c.step-next.ensures.1 (omega (arith, c.next-span.ensures.mid, c.if-from-upto.false)) (sym c.goes_on.ensures ∙ not-true _ c.if-not-goes_on.true) in record { low = c.next-span.ensures.mid; high = c.next-span.ensures.high; ended = sym (ap (λ x. x.ended) e); word = sym (ap (λ x. x.word) e); set = sym (ap (λ x. x.set) e) }
+    let e = line-stops c.args.line.now c.args.version c.loop-after.place c.loop-after.set c.loop-after.at _ _ c.next-span.ensures _ c.loop-after.invariant.2 _ _ c.step-next.ensures.0 c.step-next.ensures.1 (omega (arith, c.next-span.ensures.mid, c.if-from-upto.false)) (sym c.goes_on.ensures ∙ c.if-not-goes_on.true) in record { low = c.next-span.ensures.mid; high = c.next-span.ensures.high; ended = sym (ap (λ x. x.ended) e); word = sym (ap (λ x. x.word) e); set = sym (ap (λ x. x.set) e) }
 
 pub loop-after-smaller : goal.loop-after-smaller
 loop-after-smaller c =
@@ -48,4 +40,4 @@ loop-after-smaller c =
 
 pub loop-after-preserved : goal.loop-after-preserved
 loop-after-preserved c =
-    let g = sym c.goes_on.ensures ∙ not-false _ c.if-not-goes_on.false in (c.next-span.ensures.high, goes-few _ g, line-goes c.args.line.now c.args.version c.loop-after.place c.loop-after.set c.loop-after.at _ _ c.next-span.ensures _ c.loop-after.invariant.2 _ _ c.step-next.ensures.0 c.step-next.ensures.1 (omega (arith, c.next-span.ensures.mid, c.if-from-upto.false)) g)
+    let g = sym c.goes_on.ensures ∙ c.if-not-goes_on.false in (c.next-span.ensures.high, goes-few _ g, line-goes c.args.line.now c.args.version c.loop-after.place c.loop-after.set c.loop-after.at _ _ c.next-span.ensures _ c.loop-after.invariant.2 _ _ c.step-next.ensures.0 c.step-next.ensures.1 (omega (arith, c.next-span.ensures.mid, c.if-from-upto.false)) g)

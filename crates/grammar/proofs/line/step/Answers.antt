@@ -1,6 +1,6 @@
 -- `line::step` meets its contract: the row that takes the word, or the fault where none does. Assumes nothing.
 use mathlib.Core.Path.{sym, ap₂, ◌∙◌}
-use Prim.Native.Nat.{◌-◌, ◌<◌}
+use Prim.Native.Nat.{◌<◌}
 use lib.ListN.{set}
 use Rattle.grammar.specs.Grammar.{rows}
 use Rattle.grammar.proofs.Rows.{set-few}

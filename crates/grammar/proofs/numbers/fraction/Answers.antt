@@ -39,9 +39,6 @@ whole-before-requires c = search rules
 pub slice_bounds-whole-count : goal.slice_bounds-whole-count
 slice_bounds-whole-count c = omega (arith, c.if-length-at-lt2.false)
 
--- WAS slice-bounds-whole-start
--- part-whole-start c = omega (arith, c.before.before.before.if1.false)
-
 pub whole-behind-requires : goal.whole-behind-requires
 whole-behind-requires c = search rules
 

@@ -1,5 +1,4 @@
 -- `numbers::joined` meets its contract: both products and their sum fit. Assumes nothing.
-use Prim.Native.Nat.{◌-◌}
 use native.Mathlib.Nat.{mul-le-mul_left}
 use native.Mathlib.Omega.{arith}
 use Rattle.grammar.proofs.numbers.joined.Goals as goal

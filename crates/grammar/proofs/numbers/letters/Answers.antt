@@ -1,6 +1,5 @@
 -- `numbers::letters` meets its contract: a turn takes a letter more. The measure is what is left. Assumes nothing.
 use mathlib.Core.Path.{refl, sym, ◌∙◌}
-use Prim.Native.Nat.{◌-◌}
 use native.Mathlib.Numerals.{add-one}
 use Rattle.grammar.proofs.Reading.{letter-on, letters-end}
 use borrow.Author.Rules.{rules}

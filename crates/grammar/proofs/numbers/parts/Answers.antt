@@ -1,6 +1,5 @@
 -- `numbers::parts` meets its contract: a whole number, or else a decimal. Assumes nothing.
 use mathlib.Core.Path.{sym, ap, ◌∙◌}
-use Prim.Native.Nat.{◌-◌}
 use Rattle.grammar.specs.Numbers.{share}
 use Rattle.grammar.proofs.Parts.{parts_whole, parts-decimal}
 use borrow.Author.Rules.{rules}

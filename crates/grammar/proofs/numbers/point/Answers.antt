@@ -1,5 +1,4 @@
 -- `numbers::point` meets its contract: no byte that was passed is a point. The measure is what is left. Assumes nothing.
-use Prim.Native.Nat.{◌-◌}
 use native.Mathlib.Numerals.{add-one}
 use Rattle.grammar.proofs.Reading.{point-here, point-on, point-end}
 use native.Mathlib.Omega.{arith}

@@ -1,6 +1,6 @@
 -- `numbers::share` meets its contract: a decimal times the unit fits. Assumes nothing.
 use mathlib.Core.Path.{sym, ap, ◌∙◌}
-use Prim.Native.Nat.{◌-◌, ◌*◌}
+use Prim.Native.Nat.{◌*◌}
 use native.Mathlib.Nat.{mul-le-mul_left}
 use Rattle.units.proofs.Laws.{whole-most}
 use Rattle.grammar.proofs.Parts.{share-none, share-whole, share-between}

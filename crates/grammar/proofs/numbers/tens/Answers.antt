@@ -1,6 +1,5 @@
 -- `numbers::tens` meets its contract: a turn is ten times more, and 10^9 fits. The measure is what is left. Assumes nothing.
 use mathlib.Core.Path.{◌≡◌, refl}
-use Prim.Native.Nat.{◌-◌}
 use native.Mathlib.Numerals.{add-one}
 use native.Mathlib.Nat.{pow-suc, pow-le-pow_right}
 use native.Mathlib.Omega.{arith}

@@ -1,10 +1,8 @@
 -- `table::row_for` meets its contract: no row that was passed takes the word. The measure is what is left. Assumes nothing.
 use mathlib.Core.Path.{◌≡◌, sym, ◌∙◌}
-use mathlib.Core.Bool.{false}
-use Prim.Native.Nat.{◌-◌}
 use Rattle.rules.proofs.Lowest.{nowhere-yet, passed, found, nowhere}
 use Rattle.grammar.specs.Grammar.{rows}
-use Rattle.grammar.specs.Line.{takes, row_for}
+use Rattle.grammar.specs.Line.{row_for}
 use native.Mathlib.Omega.{arith}
 use Rattle.grammar.proofs.table.row_for.Goals as goal
 

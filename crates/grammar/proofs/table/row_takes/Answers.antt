@@ -1,6 +1,5 @@
 -- `table::row_takes` meets its contract, test by test. Assumes nothing.
 use mathlib.Core.Path.{sym}
-use Prim.Native.Nat.{◌-◌}
 use Rattle.grammar.proofs.Ways.{other_place, below-least, up-to-most}
 use borrow.Author.Rules.{rules}
 use native.Mathlib.Omega.{arith}

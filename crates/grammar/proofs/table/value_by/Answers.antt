@@ -1,5 +1,4 @@
 -- `table::value_by` meets its contract, by its one test. Assumes nothing.
-use Prim.Native.Nat.{◌-◌}
 use Rattle.grammar.proofs.Ways.{value-own, value_read}
 use borrow.Author.Rules.{rules}
 use native.Mathlib.Omega.{arith}

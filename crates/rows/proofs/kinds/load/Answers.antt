@@ -19,7 +19,7 @@ carry-sum-requires c = λ two. omega (arith, c.requires.weights_length two)
 
 -- one component more
 more : (c : After-carry-sum) → let o = c.before.before in let a = o.before.before.args in
-    o.loop.sum + c.carry-sum.result ≡ load_of a.rule a.weights.now (suc o.loop.i)
+    o.loop-i.sum + c.carry-sum.result ≡ load_of a.rule a.weights.now (suc o.loop-i.i)
 more c = rw (load-more, c.carry-sum.ensures, c.loop-i.invariant.1)
 
 pub overflow_add-sum : goal.overflow_add-sum

@@ -9,7 +9,7 @@ use Rattle.places.proofs.Cells.{kept-none, side-near, written_none, written-more
 use Rattle.rows.proofs.Climbs.{Climb, read-place, write-place, climb-steady, climb-made}
 use Rattle.rows.proofs.Levels.{spare, level-climb, level-up, level-same}
 use Rattle.rows.proofs.row.turn.Goals as goal
-use Rattle.rows.proofs.row.turn.Goals.{After-chance, After-lesser-width, After-prepare-odds}
+use Rattle.rows.proofs.row.turn.Goals.{After-prepare-odds}
 
 pub overflow_add-next : goal.overflow_add-next
 overflow_add-next c = search rules
@@ -51,10 +51,10 @@ climb : (c : After-prepare-odds)
     let start = after-carry.before.before.before.before in
     let a = start.args in
     Climb (whole a.decimal) a.rule a.survival.now a.weights.now a.s.left a.s.from a.table.now
-    c.prepare-odds.result.p.0 c.prepare-odds.result.q.0 after-carry.carry.result after-lesser.lesser.result
+    c.prepare-odds.result.p.0 c.prepare-odds.result.q.0 after-carry.carry-carry.result after-lesser.lesser-width.result
 climb c =
     rw (c.lesser-width.ensures, c.limit.ensures, c.carry-carry.ensures)
-    (level-climb c.requires.0 c.requires.1 (record { read = c.prepare-odds.ensures.1 ∙ c.chance.ensures; rest = c.prepare-odds.ensures.0.rest }))
+    (level-climb c.requires.0 c.requires.1 (record { read = c.prepare-odds.ensures.same ∙ c.chance.ensures; rest = c.prepare-odds.ensures.prepared.rest }))
 
 pub loop-m-init : goal.loop-m-init
 loop-m-init c = (omega arith, λ rule y. written_none)
@@ -64,33 +64,33 @@ worked-requires c = search rules
 
 pub value-works-requires : goal.value-works-requires
 value-works-requires c =
-    let y = climb ((goal.at.value-works-requires c).After-chance) in
+    let y = climb ((goal.at.value-works-requires c).After-prepare-odds) in
     rw c.worked.ensures (read-place y c.loop-m-test.true (c.loop-m.invariant.1 _ y) _ (omega arith))
 
 pub failed-requires : goal.failed-requires
 failed-requires c =
-    omega (arith, (climb ((goal.at.failed-requires c).After-lesser-width)).narrow)
+    omega (arith, (climb ((goal.at.failed-requires c).After-prepare-odds)).narrow)
 
 pub value-fails-requires : goal.value-fails-requires
 value-fails-requires c =
-    let y = climb ((goal.at.value-fails-requires c).After-lesser-width) in
+    let y = climb ((goal.at.value-fails-requires c).After-prepare-odds) in
     rw c.failed.ensures (read-place y c.loop-m-test.true (c.loop-m.invariant.1 _ y) _ (omega arith))
 
 pub overflow_add-to : goal.overflow_add-to
 overflow_add-to c =
-    omega (arith, (climb ((goal.at.overflow_add-to c).After-lesser-width)).narrow)
+    omega (arith, (climb ((goal.at.overflow_add-to c).After-prepare-odds)).narrow)
 
 pub step_row-requires : goal.step_row-requires
 step_row-requires c =
-    let y = climb ((goal.at.step_row-requires c).After-lesser-width) in
+    let y = climb ((goal.at.step_row-requires c).After-prepare-odds) in
     let works = rw c.worked.ensures at c.value-works.ensures in
     let fails = rw c.failed.ensures at c.value-fails.ensures in
     let steady = climb-steady y c.loop-m-test.true (c.loop-m.invariant.1 _ y) works fails in
-    (c.prepare-odds.ensures.0, steady.left, steady.right)
+    (c.prepare-odds.ensures.prepared, steady.left, steady.right)
 
 pub write-requires : goal.write-requires
 write-requires c =
-    let y = climb ((goal.at.write-requires c).After-lesser-width) in
+    let y = climb ((goal.at.write-requires c).After-prepare-odds) in
     write-place y c.loop-m-test.true (c.loop-m.invariant.1 _ y)
 
 pub overflow_add-m : goal.overflow_add-m

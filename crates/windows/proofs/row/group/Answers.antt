@@ -6,15 +6,8 @@ use native.Mathlib.Omega.{arith}
 use Rattle.windows.specs.Groups.{list_at, count_at}
 use Rattle.windows.proofs.Working.{partly_none, entry-same, ready-still, partly_more}
 use Rattle.windows.proofs.row.group.Goals as goal
-use Rattle.windows.proofs.row.group.Goals.{After-list_at-at, At-loop-j, Start}
 
 -- the list's begin and the entry, from the loop's head
-abbrev begin : At-loop-j → After-list_at-at
-begin c = c.before.before
-
-abbrev start : At-loop-j → Start
-start c = (begin c).before.before
-
 pub list_at-at-requires : goal.list_at-at-requires
 list_at-at-requires c = tt
 
@@ -30,27 +23,23 @@ loop-j-init c = (omega arith, c.list_at-at.ensures, rw c.list_at-at.ensures, par
 
 pub overflow_add-x : goal.overflow_add-x
 overflow_add-x c =
-    let asked = (start ((goal.at.overflow_add-x c).At-loop-j)).pre in
-    omega (arith, (begin ((goal.at.overflow_add-x c).At-loop-j)).list_at.ensures, asked.low, c.loop-j.invariant.2)
+    omega (arith, c.list_at-at.ensures, c.requires.low, c.loop-j.invariant.2)
 
 pub overflow_add-x-in-loop-j : goal.overflow_add-x-in-loop-j
 overflow_add-x-in-loop-j c =
-    let asked = (start ((goal.at.overflow_add-x-in-loop-j c).At-loop-j)).pre in
-    omega (arith, (begin ((goal.at.overflow_add-x-in-loop-j c).At-loop-j)).list_at.ensures, asked.low, c.loop-j.invariant.2)
+    omega (arith, c.list_at-at.ensures, c.requires.low, c.loop-j.invariant.2)
 
 pub offset_bounds-table-at-in-loop-j : goal.offset_bounds-table-at-in-loop-j
 offset_bounds-table-at-in-loop-j c = search rules
 
 pub bounds-table-at-in-loop-j : goal.bounds-table-at-in-loop-j
 bounds-table-at-in-loop-j c =
-    let asked = (start ((goal.at.bounds-table-at-in-loop-j c).At-loop-j)).requires in
-    omega (arith, (begin ((goal.at.bounds-table-at-in-loop-j c).At-loop-j)).list_at.ensures, asked.low, asked.room, c.loop-j.invariant.2, c.loop-j.invariant.3.kept.long)
+    omega (arith, c.list_at-at.ensures, c.requires.low, c.requires.room, c.loop-j.invariant.2, c.loop-j.invariant.3.kept.long)
 
 pub both-requires : goal.both-requires
 both-requires c =
-    let h = (start ((goal.at.both-requires c).At-loop-j)).requires in
-    let l = rw c.loop-j.invariant.2 ((goal.at.both-requires c).At-loop-j) c.loop-j-test.true in
-    rw ((begin ((goal.at.both-requires c).At-loop-j)).list_at.ensures, entry-same h l c.loop-j.invariant.3) (ready-still h l c.loop-j.invariant.3)
+    let l = rw c.loop-j.invariant.2 at c.loop-j-test.true in
+    rw (c.list_at-at.ensures, entry-same c.requires l c.loop-j.invariant.3) (ready-still c.requires l c.loop-j.invariant.3)
 
 pub overflow_add-j : goal.overflow_add-j
 overflow_add-j c = search rules
@@ -60,15 +49,13 @@ loop-j-smaller c = search rules
 
 pub loop-j-preserved : goal.loop-j-preserved
 loop-j-preserved c =
-    let h = (start ((goal.at.loop-j-preserved c).At-loop-j)).requires in
-    let l = rw c.loop-j.invariant.2 ((goal.at.loop-j-preserved c).At-loop-j) c.loop-j-test.true in
-    (omega arith, c.loop-j.invariant.1, c.loop-j.invariant.2, partly_more h l c.loop-j.invariant.3 (rw ((begin ((goal.at.loop-j-preserved c).At-loop-j)).list_at.ensures, entry-same h l c.loop-j.invariant.3) ((goal.at.loop-j-preserved c).At-loop-j) c.both.ensures))
+    let l = rw c.loop-j.invariant.2 at c.loop-j-test.true in
+    (omega arith, c.loop-j.invariant.1, c.loop-j.invariant.2, partly_more c.requires l c.loop-j.invariant.3 (rw (c.list_at-at.ensures, entry-same c.requires l c.loop-j.invariant.3) at c.both.ensures))
 
 pub shape_of-table : goal.shape_of-table
 shape_of-table c = c.loop-j.invariant.3.kept.long
 
 pub returns : goal.returns
 returns c =
-    let x = (start ((goal.at.returns c).At-loop-j)).args in
-    let e : c.loop-j.j ≡ count_at x.table.now (list_at x.must x.worse) = omega (arith, c.loop-j.invariant.2) in
-    rw e ((goal.at.returns c).At-loop-j) c.loop-j.invariant.3
+    let e : c.loop-j.j ≡ count_at c.args.table.now (list_at c.args.must c.args.worse) = omega (arith, c.loop-j.invariant.2) in
+    rw e at c.loop-j.invariant.3

@@ -9,7 +9,6 @@ use Rattle.places.proofs.Cells.{kept_trans, side-near}
 use Rattle.windows.proofs.Levels.{listables, midway}
 use borrow.Author.Rules.{rules}
 use Rattle.windows.proofs.row.turn.Goals as goal
-use Rattle.windows.proofs.row.turn.Goals.{After-chance-p, After-trim_all, Start}
 
 -- one bit shifted up by the components left
 shifted : {n left : ℕ} → n ≤ 64 → left < n → 1 * 2 ^ (n - (left + 1)) % 2 ^ 64 ≡ 2 ^ (n - suc left)
@@ -17,13 +16,6 @@ shifted {n} {left} size more =
     shl_exact 1 (n - (left + 1)) 64 (omega arith) (omega arith) ∙ one-mul (2 ^ (n - (left + 1))) ∙ ap (λ x. 2 ^ (n - x)) (add-one left)
 
 -- the lists cut, and the entry, from where the survival number is read
-abbrev cut : After-chance-p → After-trim_all
-cut c = c.before.before.before
-
-abbrev start : After-trim_all → Start
-start c =
-    c.before.before.before.before.before
-
 pub overflow_add-left : goal.overflow_add-left
 overflow_add-left c = search rules
 
@@ -42,25 +34,22 @@ chance-p-requires c = search rules
 
 pub sweep-requires : goal.sweep-requires
 sweep-requires c =
-    let y = (start (cut ((goal.at.sweep-requires c).After-chance-p))).requires in
-    let size = shifted y.level.list.size y.more in
-    record { ps = _; survival = _; i = _; midway = midway y.level y.more size (cut ((goal.at.sweep-requires c).After-chance-p)).trim-all.ensures c.chance-p.ensures }
+    let size = shifted c.requires.level.list.size c.requires.more in
+    record { ps = _; survival = _; i = _; midway = midway c.requires.level c.requires.more size c.trim_all.ensures c.chance-p.ensures }
 
 pub overflow_sub-result : goal.overflow_sub-result
 overflow_sub-result c =
-    omega (arith, side-near (start (cut ((goal.at.overflow_sub-result c).After-chance-p))).requires.level.side)
+    omega (arith, side-near c.requires.level.side)
 
 pub shape_of-table : goal.shape_of-table
 shape_of-table c = search rules
 
 pub returns : goal.returns
 returns c =
-    let trimmed = cut ((goal.at.returns c).After-chance-p) in
-    let y = (start trimmed).pre in
-    let size = shifted y.level.list.size y.more in (
-      λ ps level. record {
-        level = rw add-one (c.sweep.ensures.level ps _ _ (midway level y.more size trimmed.trim-all.ensures c.chance-p.ensures));
+    let size = shifted c.requires.level.list.size c.requires.more in record {
+      raised = λ ps level. record {
+        level = rw add-one (c.sweep.ensures.level ps _ _ (midway level c.requires.more size c.trim_all.ensures c.chance-p.ensures));
         is = add-one _;
-      },
-      kept_trans trimmed.trim-all.ensures.kept c.sweep.ensures.kept,
-    )
+      };
+      kept = kept_trans c.trim_all.ensures.kept c.sweep.ensures.kept;
+    }

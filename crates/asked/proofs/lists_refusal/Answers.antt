@@ -1,0 +1,75 @@
+-- `lists_refusal` tries the boards' lists, then the numbers: past each that answers no, the refusal is that of what is
+-- left. Assumes nothing.
+use borrow.Author.Rules.{rules}
+use mathlib.Core.Path.{◌≡◌, sym, ap, ◌∙◌}
+use mathlib.Core.List.{List, [], ◌∷◌}
+use Prim.Native.Nat.{ℕ}
+use native.Mathlib.Omega.{arith}
+use lib.ListN.{length}
+use Rattle.rules.specs.declared.Question.{Question}
+use Rattle.rules.specs.Asked.{Asked, asked_of, unit_in, part_of, switchboards_of}
+use Rattle.rules.specs.Refusal.{first_of, after, above_unit}
+use Rattle.rules.proofs.Accepted.{in-stretch, first-of, first-after}
+use Rattle.rules.proofs.Unless.{after_none, after-some}
+use Rattle.units.proofs.Laws.{whole-most}
+use Rattle.asked.specs.Parts.{lists_refusal}
+use Rattle.asked.proofs.Refused.{part-is, boards-first}
+use Rattle.asked.proofs.lists_refusal.Goals as goal
+use Rattle.asked.proofs.lists_refusal.Goals.{After-numbers_out, After-refusal-boarded}
+
+-- what is asked, and 4 of it
+abbrev asked : Question → (survival boards switchboards : List ℕ) → Asked
+asked question survival boards switchboards = asked_of question survival [] [] boards switchboards
+
+abbrev four : Asked → ℕ
+four q = first_of ((4, above_unit (unit_in q) (part_of q) (switchboards_of q)) ∷ [])
+
+-- the refusal by that of the boards' lists, and past it
+boarded : (c : After-refusal-boarded) → let q = asked c.args.question c.args.survival.now c.args.boards.now c.args.switchboards.now in
+    lists_refusal c.args.question q.survival q.boards q.switchboards
+    ≡ after c.refusal-boarded.result (four q)
+boarded c =
+    let x = c.args in
+    boards-first x.question x.survival.now x.boards.now x.switchboards.now c.requires
+    ∙ ap (λ r. after r (four (asked x.question x.survival.now x.boards.now x.switchboards.now))) (sym c.refusal-boarded.ensures)
+
+-- past them, the answer about the numbers
+above : (c : After-numbers_out) → let q = asked c.args.question c.args.survival.now c.args.boards.now c.args.switchboards.now in
+    above_unit (unit_in q) (part_of q) (switchboards_of q) ≡ c.numbers_out.result
+above c =
+    let unit = c.whole-all.ensures ∙ c.is_decimal.ensures in
+    let part = part-is _ _ _ _ c.requires in
+    sym (c.numbers_out.ensures ∙ (λ i. above_unit (unit i) (part i) (c.numbers_read-own.ensures i)))
+
+pub overflow_sub-from : goal.overflow_sub-from
+overflow_sub-from c = omega (arith, in-stretch c.args.question.a c.args.question.b (length c.args.survival.now) c.requires)
+
+pub refusal-boarded-requires : goal.refusal-boarded-requires
+refusal-boarded-requires c =
+    let h = in-stretch c.args.question.a c.args.question.b (length c.args.survival.now) c.requires in
+    (omega arith, omega arith)
+
+pub returns-then-boarded-ne0 : goal.returns-then-boarded-ne0
+returns-then-boarded-ne0 c = sym (boarded ((goal.at.returns-then-boarded-ne0 c).After-refusal-boarded) ∙ after-some _ _ c.if-boarded-ne0.true)
+
+pub offset_bounds-survival-from : goal.offset_bounds-survival-from
+offset_bounds-survival-from c = omega (arith, in-stretch c.args.question.a c.args.question.b (length c.args.survival.now) c.requires)
+
+pub slice_bounds-numbers_out-count : goal.slice_bounds-numbers_out-count
+slice_bounds-numbers_out-count c = omega (arith, in-stretch c.args.question.a c.args.question.b (length c.args.survival.now) c.requires)
+
+pub numbers_out-requires : goal.numbers_out-requires
+numbers_out-requires c = omega (arith, c.whole-all.ensures, whole-most c.is_decimal.result)
+
+pub returns-then-numbers_out : goal.returns-then-numbers_out
+returns-then-numbers_out c =
+    sym (boarded ((goal.at.returns-then-numbers_out c).After-refusal-boarded)
+    ∙ after_none _ _ c.if-boarded-ne0.false
+    ∙ first-of 4 _ _ (above ((goal.at.returns-then-numbers_out c).After-numbers_out) ∙ c.if-numbers_out.true))
+
+pub returns : goal.returns
+unfolding first_of
+returns c =
+    sym (boarded ((goal.at.returns c).After-refusal-boarded)
+    ∙ after_none _ _ c.if-boarded-ne0.false
+    ∙ first-after 4 _ [] (above ((goal.at.returns c).After-numbers_out) ∙ c.if-numbers_out.false))
