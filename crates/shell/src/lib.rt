@@ -2,11 +2,13 @@
 // standard error what failed.
 #![tactic(auto)]
 
+pub mod failing; // failing.rt: what is told of what failed
 pub mod names; // names.rt: what a message names
 pub mod reading; // reading.rt: its input
 pub mod sources; // sources.rt: several inputs as one
 pub mod starting; // starting.rt: how it starts
 pub mod taking; // taking.rt: what reads take of it
+pub mod words; // words.rt: its words
 pub mod writing; // writing.rt: its output
 
 // The exit status: what was asked for was written; the file was refused, or the text has faults; a word was wrong, or
