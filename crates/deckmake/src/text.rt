@@ -24,7 +24,13 @@ pub struct Text {
 }
 
 // The text of an open input; a read that fails is told by its label.
-fn read_text(rt: &HostRuntime, input: &mut Opened, label: &[u8], line: &mut [u8], out: &mut [u8]) -> Text
+fn read_text(
+    rt: &HostRuntime,
+    input: &mut Opened,
+    label: &[u8],
+    line: &mut [u8],
+    out: &mut [u8],
+) -> Text
     requires { (line_room ≤ length line.old) × (told_room ≤ length out.old) }
     ensures { Sane result.feeding out.new ×
         (result.feeding.listing.lines + 1 < most_lines) }

@@ -50,5 +50,11 @@ pub fn run(rt: &HostRuntime) -> i32
     if reading::has_failed(whole) {
         return shell::FAILED;
     }
-    mend(rt, asked, &input, reading::filled(whole), reading::rest(whole))
+    mend(
+        rt,
+        asked,
+        &input,
+        reading::filled(whole),
+        reading::rest(whole),
+    )
 }

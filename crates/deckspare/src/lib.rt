@@ -59,7 +59,10 @@ fn tell_number(rt: &HostRuntime, p: u64) -> i32
 {
     writing::say(rt, b"deckspare: the spare's survival number: wanted ");
     if p < OFF_GRID {
-        writing::say(rt, b"parts up to 4294967295, or a decimal from 0 to 1 of at most nine digits\n");
+        writing::say(
+            rt,
+            b"parts up to 4294967295, or a decimal from 0 to 1 of at most nine digits\n",
+        );
         return shell::FAILED;
     }
     let mut numbers = [0u8; NUMBERS];
@@ -101,16 +104,23 @@ fn wrong_options(asked: Asked, best: u64, spares: u64) -> u64 {
 // Says so.
 fn tell_options(rt: &HostRuntime, wrong: u64) {
     match wrong {
-        NO_PLACES => writing::say(rt, b"deckspare: --best: wanted a number from 1 to 4294967295\n"),
+        NO_PLACES => writing::say(
+            rt,
+            b"deckspare: --best: wanted a number from 1 to 4294967295\n",
+        ),
         NO_SPARES => writing::say(rt, b"deckspare: --spares: wanted 1 or 2\n"),
-        _ => writing::say(rt, b"deckspare: --best and --spares 2: wanted one of them\n"),
+        _ => writing::say(
+            rt,
+            b"deckspare: --best and --spares 2: wanted one of them\n",
+        ),
     }
 }
 
 // Says which word is missing or wrong, before a file is read; answers whether one is.
 fn tell_wrong(rt: &HostRuntime, asked: Asked, best: u64, spares: u64) -> bool {
     if asked.operands == 0 {
-        writing::say(rt, 
+        writing::say(
+            rt,
             b"deckspare: the spare's survival number is missing; deckspare --help says what it takes\n",
         );
         return true;
@@ -125,7 +135,13 @@ fn tell_wrong(rt: &HostRuntime, asked: Asked, best: u64, spares: u64) -> bool {
 
 // Lists an input of which the buffer holds the front, for the spare that a word names; nothing is printed where the
 // word is no survival number.
-fn list_for(rt: &HostRuntime, word: &[u8], wanted: Wanted, input: &[u8; INPUT], filled: usize) -> i32
+fn list_for(
+    rt: &HostRuntime,
+    word: &[u8],
+    wanted: Wanted,
+    input: &[u8; INPUT],
+    filled: usize,
+) -> i32
     requires { filled ≤ length input.now }
     ensures ends { WholeEnds input.now filled result }
     ensures status { Status result }

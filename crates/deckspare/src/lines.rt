@@ -23,7 +23,14 @@ pub struct Wanted {
 }
 
 // What is printed of a file's system. Only the lists are copied from the file's bytes.
-fn put_system(rt: &HostRuntime, file: &[u8], head: Head, job: Job, out: &mut [u8], at: usize) -> usize
+fn put_system(
+    rt: &HostRuntime,
+    file: &[u8],
+    head: Head,
+    job: Job,
+    out: &mut [u8],
+    at: usize,
+) -> usize
     requires placed { Placed file.now head job.s }
     requires room { at + system_room ≤ length out.old }
     ensures { Added (system_lines file.now job) out.old at out.new result }
@@ -56,7 +63,14 @@ fn put_system(rt: &HostRuntime, file: &[u8], head: Head, job: Job, out: &mut [u8
 }
 
 // The lines of its systems, of a spare with survival number p.
-fn put_systems(rt: &HostRuntime, file: &[u8], head: Head, p: u64, wanted: Wanted, out: &mut [u8]) -> usize
+fn put_systems(
+    rt: &HostRuntime,
+    file: &[u8],
+    head: Head,
+    p: u64,
+    wanted: Wanted,
+    out: &mut [u8],
+) -> usize
     requires headed { Headed file.now head }
     requires room { output_room ≤ length out.old }
     ensures { Added (systems_text p wanted file.now) out.old 0 out.new result }

@@ -70,7 +70,14 @@ pub fn put_worded_file(words: bool, file: &[u8], number: u64, out: &mut [u8]) ->
 
 // Ends a program that prints a text of the input: to standard output where the input is refused, and else to the output
 // at a place of the words, 0 for standard output. Answers the status.
-pub fn finish(rt: &HostRuntime, program: &[u8], place: usize, input: &[u8; INPUT], filled: usize, text: &[u8]) -> i32
+pub fn finish(
+    rt: &HostRuntime,
+    program: &[u8],
+    place: usize,
+    input: &[u8; INPUT],
+    filled: usize,
+    text: &[u8],
+) -> i32
     requires { filled ≤ length input.now }
     ensures ends { WholeEnds input.now filled result }
     ensures status { Status result }

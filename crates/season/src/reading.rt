@@ -56,7 +56,13 @@ fn read_piece(
 }
 
 // Reads until the stream ends, or nothing more is read of it.
-fn read_stream(rt: &HostRuntime, shown: bool, asked: Asked, source: Source, label: &mut [u8; LABEL]) -> Got
+fn read_stream(
+    rt: &HostRuntime,
+    shown: bool,
+    asked: Asked,
+    source: Source,
+    label: &mut [u8; LABEL],
+) -> Got
     requires { source.end ≤ label_room }
     ensures { Sane result.reading }
 {
