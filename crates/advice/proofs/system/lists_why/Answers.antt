@@ -26,7 +26,7 @@ returns-then-stretch_out c =
 
 pub rated_why-requires : goal.rated_why-requires
 rated_why-requires c =
-    (sym c.stretch_out.ensures ∙ c.if-stretch_out.false, (c.requires.0, c.requires.1))
+    record { stretch = sym c.stretch_out.ensures ∙ c.if-stretch_out.false; alike = c.requires.alike; few = c.requires.few }
 
 pub returns : goal.returns
 unfolding why_of

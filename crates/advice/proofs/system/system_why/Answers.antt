@@ -7,7 +7,6 @@ use Rattle.deck.proofs.Kept.{few-fans, few-boards, lent-survival, lent-weights, 
 use Rattle.advice.specs.System.{why_of, system_why}
 use borrow.Author.Rules.{rules}
 use Rattle.advice.proofs.system.system_why.Goals as goal
-use Rattle.advice.proofs.system.system_why.Goals.{After-survival-1, After-switchboards-1, After-system_in-system, After-weights-1}
 
 pub survival_in-survival-requires : goal.survival_in-survival-requires
 survival_in-survival-requires c = search rules
@@ -26,28 +25,28 @@ slice_bounds-survival-end c =
     omega (arith, few-fans c.requires.headed)
 
 pub slice_bounds-lists_why-end : goal.slice_bounds-lists_why-end
-slice_bounds-lists_why-end c = sym (length-take-le _ _ (array-share-prefix-survival ((goal.at.slice_bounds-lists_why-end c).After-system_in-system)))
+slice_bounds-lists_why-end c = sym (length-take-le _ _ (omega (arith, few-fans c.requires.headed)))
 
 pub slice_bounds-weights-end : goal.slice_bounds-weights-end
 slice_bounds-weights-end c =
     omega (arith, few-fans c.requires.headed)
 
 pub slice_bounds-lists_why-end-2 : goal.slice_bounds-lists_why-end-2
-slice_bounds-lists_why-end-2 c = sym (length-take-le _ _ (array-share-prefix-weights ((goal.at.slice_bounds-lists_why-end-2 c).After-survival-1)))
+slice_bounds-lists_why-end-2 c = sym (length-take-le _ _ (omega (arith, few-fans c.requires.headed)))
 
 pub slice_bounds-switchboards-end : goal.slice_bounds-switchboards-end
 slice_bounds-switchboards-end c =
     omega (arith, few-boards c.requires.headed)
 
 pub slice_bounds-lists_why-end-3 : goal.slice_bounds-lists_why-end-3
-slice_bounds-lists_why-end-3 c = sym (length-take-le _ _ (array-share-prefix-switchboards ((goal.at.slice_bounds-lists_why-end-3 c).After-weights-1)))
+slice_bounds-lists_why-end-3 c = sym (length-take-le _ _ (omega (arith, few-boards c.requires.headed)))
 
 pub lists_why-requires : goal.lists_why-requires
 lists_why-requires c =
-    let fans = slice-aggregate-lists-why ((goal.at.lists_why-requires c).After-survival-1) in
-    let weights = slice-aggregate-lists-why-2 ((goal.at.lists_why-requires c).After-weights-1) in
-    let boards = slice-aggregate-lists-why-3 ((goal.at.lists_why-requires c).After-switchboards-1) in
-    (sym weights ∙ fans, (omega (arith, fans, few-fans c.requires.headed), omega (arith, boards, few-boards c.requires.headed)))
+    let fans = length-take-le c.args.head.fans c.survival_in-survival.result (omega (arith, few-fans c.requires.headed)) in
+    let weights = length-take-le c.args.head.fans c.weights_in-weights.result (omega (arith, few-fans c.requires.headed)) in
+    let boards = length-take-le c.args.head.boards c.board_survival_in-switchboards.result (omega (arith, few-boards c.requires.headed)) in
+    record { alike = weights ∙ sym fans; few = (omega (arith, fans, few-fans c.requires.headed), omega (arith, boards, few-boards c.requires.headed)) }
 
 pub returns : goal.returns
 unfolding system_why deck_in
