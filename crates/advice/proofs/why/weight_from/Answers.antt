@@ -14,7 +14,7 @@ bounds-weights-i c = omega (arith, c.loop-i-test.true, c.requires)
 
 pub overflow_add-sum : goal.overflow_add-sum
 overflow_add-sum c =
-    omega (arith)
+    omega arith
 
 pub overflow_add-i : goal.overflow_add-i
 overflow_add-i c = omega (arith, c.loop-i-test.true)
