@@ -1,0 +1,27 @@
+-- `deck::board_survival_at` meets its contract: a file that is not refused is long enough for its g numbers. Assumes nothing.
+use mathlib.Core.Path.{sym, ap, ap₂, ◌∙◌}
+use Prim.Native.Nat.{◌+◌, ◌*◌, ◌<◌}
+use native.Mathlib.Omega.{arith}
+use Rattle.rules.specs.File.{survival_bytes, switchboards_offset, number_at, board_count_in, deck_in}
+use Rattle.rules.proofs.Lists.{below_get}
+use Rattle.deck.proofs.Kept.{few-fans, few-boards, whole}
+use Rattle.deck.proofs.board_survival_at.Goals as goal
+
+pub board_survival_offset-from-requires : goal.board_survival_offset-from-requires
+board_survival_offset-from-requires c = omega (arith, few-fans c.requires.headed)
+
+pub overflow_mul-i : goal.overflow_mul-i
+overflow_mul-i c = omega (arith, c.requires.place, few-boards c.requires.headed)
+
+pub overflow_add-from : goal.overflow_add-from
+overflow_add-from c = omega (arith, c.requires.place, few-boards c.requires.headed)
+
+pub number4-requires : goal.number4-requires
+number4-requires c = omega (arith, c.requires.place, whole c.requires.headed)
+
+pub returns : goal.returns
+unfolding deck_in
+returns c =
+    let from = c.board_survival_offset-from.ensures.0 ∙ ap₂ switchboards_offset c.requires.headed.says.version c.requires.headed.says.fans in
+    let place : c.args.i < board_count_in c.args.file.now = rw c.requires.headed.says.boards at c.requires.place in
+    c.number4.ensures ∙ ap (λ from. number_at survival_bytes c.args.file.now (from + survival_bytes * c.args.i)) from ∙ sym (below_get (board_count_in c.args.file.now) _ 0 c.args.i place)
