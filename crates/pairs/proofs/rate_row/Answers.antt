@@ -17,7 +17,6 @@ use Rattle.pairs.proofs.rate_row.Goals.{In-loop-j, Start}
 abbrev asked : Start → Asked
 asked c = asked_of c.args.question c.args.survival.now c.args.weights.now [] c.args.boards.now c.args.switchboards.now
 
--- the points of the code: the entry, and a turn of the loop
 -- the stretch, and the row's place in it
 stretch-in : (c : Start) → (1 ≤ (asked c).a) × ((asked c).a ≤ (asked c).b) × ((asked c).b ≤ 64) × (c.args.first < size_of (asked c))
 stretch-in c = let h = inside (asked c) c.args.p c.requires.accepted in (h.0, h.1, omega arith, c.requires.place)

@@ -13,7 +13,6 @@ use Rattle.spares.proofs.rate_places.Goals.{Start}
 abbrev asked : Start → Asked
 asked c = asked_of c.args.question c.args.survival.now c.args.weights.now [] c.args.boards.now c.args.switchboards.now
 
--- the points of the code: the entry, and a turn of the loop
 stretch-in : (c : Start) → (1 ≤ (asked c).a) × ((asked c).a ≤ (asked c).b) × ((asked c).b ≤ 64)
 stretch-in c = let h = inside (asked c) c.args.p c.requires in (h.0, h.1, omega arith)
 
