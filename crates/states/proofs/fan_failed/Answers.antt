@@ -6,26 +6,17 @@ use lib.Bits.{bit_or}
 use lib.Pow.{shl_exact}
 use Rattle.states.specs.States.{fan_failed}
 use borrow.Author.Rules.{rules}
-use Rattle.states.proofs.fan_failed.Statement.{statement}
-use Rattle.states.proofs.fan_failed.Tie as tie
+use Rattle.states.proofs.fan_failed.Goals as goal
 
-sub-result : tie.Need-overflow-sub-result
-sub-result c = search rules
+pub overflow_sub-result : goal.overflow_sub-result
+overflow_sub-result c = search rules
 
-shl-result : tie.Need-overflow-shl-result
-shl-result c = search rules
+pub overflow_shl-result : goal.overflow_shl-result
+overflow_shl-result c = search rules
 
-returns : tie.Need-returns
+pub returns : goal.returns
 unfolding fan_failed
 returns c =
     let k = c.args.fan - 1 in
     let one : 1 * 2 ^ k ≡ 2 ^ k = omega arith in
     ap (bit_or c.args.state) (shl_exact {a = 1} 1 k 64 (omega arith) (omega (arith, c.requires)) ∙ one)
-
-pub fan-failed-spec : {M : Type 1} → statement M
-fan-failed-spec =
-    tie.close
-    (tie.spec
-    sub-result
-    shl-result
-    returns)
