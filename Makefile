@@ -7,19 +7,20 @@ DESTDIR ?=
 
 version := $(shell cat VERSION)
 major := $(firstword $(subst ., ,$(version)))
-# all that rt reads, and the folders, so that a file added or removed is seen; rt itself sees to which crate is out of date
-sources := crates.txt $(shell find crates -name must-fail -prune -o -print)
-# the programs: each is a call, NAME_run, that answers the exit status; those of `make run` have an archive of their own, so that it proves no more
-archived = $(shell sed -n 's/^pub extern "C" fn \([a-z]*\)_run() .*/\1/p' crates/$(1)/src/lib.rt)
-first := $(call archived,first_programs)
-further := $(call archived,further_programs)
+# all that rt reads, so that a file added or removed is seen; rt itself sees to which crate is out of date
+sources := crates.txt $(shell find crates -mindepth 2 \( -name must-fail -o -name out \) -prune -o -print)
+# the programs: each is a function, NAME_run, that answers the exit status, and a crate NAME_program whose main calls it; those of `make run` stand in a
+# library of their own, so that it proves no more
+called = $(shell sed -n 's/^pub fn \([a-z]*\)_run(.*/\1/p' crates/$(1)/src/lib.rt)
+first := $(call called,first_programs)
+further := $(call called,further_programs)
 programs := $(first) $(further)
 linked := $(programs:%=target/programs/%)
 # the libraries: the crate whose calls each exports, and what it is for
 libraries := foambeetle foambeetle_office
-crate_of_foambeetle := loading
+crate_of_foambeetle := loading_c
 about_foambeetle := How likely it is that a deck's fans last the voyage
-crate_of_foambeetle_office := office
+crate_of_foambeetle_office := office_c
 about_foambeetle_office := Deck files written ashore, chances and ratings in doubles
 archives := $(libraries:%=target/lib/lib%.a)
 shared := $(libraries:%=target/lib/lib%.so.$(version))
@@ -34,11 +35,9 @@ installed := $(programs:%=bin/%) $(foreach name,$(libraries),$(call library_file
     $(package:python/foambeetle/%=$(package_place)/%) \
     $(foreach page,$(pages),share/man/man$(subst .,,$(suffix $(page)))/$(notdir $(page)))
 progress := tests/progress.py target/build.log
-# rt waits for a whole batch before it begins the next: three times as many crates at a time as there are processors leave none idle
-at_once := RT_JOBS=$${RT_JOBS:-$$((3 * $$(nproc)))}
 # a compiler for x86-64, and the kit's C code for programs that take words or open files
 cc = $(shell tests/tools.sh | head -n 1)
-kit_code = $(shell dirname "$$(dirname "$$(readlink -f "$$(command -v rt)")")")/lib/libos_c.a
+kit_code = $(addprefix $(shell dirname "$$(dirname "$$(readlink -f "$$(command -v rt)")")")/c/,libos_c.a liblibc_c.a)
 export TEXT DECK
 
 .PHONY: help run test samples lib install uninstall bench
@@ -89,26 +88,22 @@ uninstall: ## takes away what install put there
 bench: ## the cost of a rating beside peers, and of a worth (docs/BENCH.md); no part of the tests
 	@bench/run
 
-# The programs of an archive are proved side by side, before the archive is made.
-$(foreach part,first further,target/proved-$(part)): target/proved-%: $(sources)
+# Programs that start without the kit: what rt proved and compiled, the kit's C code and the C library in one file.
+$(linked): target/programs/%: target/objects/%.o
 	@mkdir -p $(@D)
-	@$(at_once) $(progress) rt check $($*)
-	@touch $@
+	@$(cc) -static -o $@ $< $(kit_code)
 
-target/staticlib/libfirst_programs.a: | target/proved-first
-target/staticlib/libfurther_programs.a: | target/proved-further
-
-# Programs that start without the kit: the proved archive, a main that hands on its status, and the C library in one file.
-$(first:%=target/programs/%): target/staticlib/libfirst_programs.a
-$(further:%=target/programs/%): target/staticlib/libfurther_programs.a
-$(linked): target/programs/%:
+# rt builds a program to run it, and every program has its version to tell.
+$(programs:%=target/objects/%.o): target/objects/%.o: $(sources)
 	@mkdir -p $(@D)
-	@echo 'int $*_run(void); int main(void) { return $*_run(); }' > $@.c
-	@$(cc) -static -o $@ $@.c $< $(kit_code)
+	@$(progress) $*_program rt run -- --version
+	@cp crates/$*_program/out/$*_program.o $@
 
-libraries_of := $(foreach name,$(libraries),$(crate_of_$(name)))
-$(patsubst %,target/staticlib/lib%.a,$(libraries_of) first_programs further_programs): target/staticlib/lib%.a: $(sources)
-	@$(progress) rt staticlib $*
+archived := $(foreach name,$(libraries),$(crate_of_$(name))) ratings_c
+$(archived:%=target/staticlib/lib%.a): target/staticlib/lib%.a: $(sources)
+	@mkdir -p $(@D)
+	@$(progress) $* rt lib
+	@cp crates/$*/out/lib$*.a $@
 
 $(foreach name,$(libraries),$(eval target/lib/lib$(name).a: target/staticlib/lib$(crate_of_$(name)).a))
 $(archives):

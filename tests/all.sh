@@ -12,13 +12,17 @@ command -v rt >/dev/null || {
     echo "0 passed, 1 failed"
     exit 1
 }
-# three times as many at a time as processors: rt waits for a whole batch before it begins the next
-RT_JOBS=${RT_JOBS:-$((3 * $(nproc)))} tests/progress.py "$log" rt ci
+tests/progress.py "$log" rt ci
 rt_status=$?
 count=$(sed -n 's/^rt \([0-9]* passed, [0-9]* failed\)$/\1/p' "$log" | tail -n 1)
 passed=${count%% passed*} failed=${count##*, } failed=${failed%% failed*}
 [ -n "$count" ] || passed=0 failed=1
 [ "$rt_status" -eq 0 ] || [ "$failed" -gt 0 ] || failed=1
+# an edit that could not be tried shows nothing, and rt counts it apart
+if grep -qE '^rt: ok.*, [1-9][0-9]* bad' "$log"; then
+    echo "a must-fail edit is bad: it could not be applied, compiled or read"
+    failed=$((failed + 1))
+fi
 
 python3 -m tests.others "$log"
 failed=$((failed + $?))

@@ -1,20 +1,17 @@
 #!/usr/bin/env python3
 """Runs rt, keeps all that it says in a log, and shows how far it is.
 
-    progress.py LOG rt WORDS..
+    progress.py LOG rt ci               at the top, over every crate
+    progress.py LOG CRATE rt WORDS..    in a crate's folder
 
-A line for each crate proved, must-fail edit refused and program run, of how many; while nothing ends, one every half minute says what is being worked
-on. The log's last line says how long each of these took. tests/others.py shows the other tests in the same way.
+A line for each crate proved, must-fail edit refused and program run, of how many; while nothing ends, one every half minute says so. The log's last
+line says how long each of these took. tests/others.py shows the other tests in the same way.
 """
 
-import contextlib
-import os
 import queue
 import re
-import shutil
 import subprocess
 import sys
-import tempfile
 import threading
 import time
 from pathlib import Path
@@ -23,16 +20,12 @@ ROOT = Path(__file__).resolve().parent.parent
 QUIET = 30  # seconds without a line, at most
 SHOWN = 300  # characters of a line of the prover's
 MOST_ERRORS = 5
-# Files in memory, and how much room the checks at work at one time are given there.
-MEMORY = Path("/dev/shm")
-ROOM = 4 << 30
-
 # What rt says when a thing has passed, and the word that is shown for it. Everything else that it says of itself is shown as it stands.
 PASSED = (
-    ("proved", re.compile(r"rt: (\w+) proved \((?:(\d+ s)|(unchanged) since it was last proved)\)$")),
-    ("refused", re.compile(r"rt: must-fail (\w+/\w+): refused, as it must be \((?:.*; )?(\d+ s)\)$")),
-    ("ran", re.compile(r"rt: (\w+) ran(?: as nobody)?, and wrote what its file 'stdout' has \((\d+ s)\)$")),
-    ("proved", re.compile(r"rt: target/staticlib/lib(\w+)\.a has the functions of ")),
+    ("proved", re.compile(r"rt: (\w+) (?:proved$|is kept: an earlier run on this machine proved )")),
+    ("proved", re.compile(r"checked (\w+)::\S+, (?P<last>\d+) of (?P=last)$")),  # its last function
+    ("refused", re.compile(r"rt: must-fail (\w+/\w+)\.edit: refused, as it must be: ")),
+    ("ran", re.compile(r"rt: (\w+) ran\b.*, and wrote what its file stdout has")),
 )
 TALLY = re.compile(r"\d+ passed, \d+ failed$")
 # What rt ci goes through, one after the other, by the word that is shown; and how the log's line of their times begins.
@@ -58,9 +51,9 @@ def reached(names):
     return found or set(listed)
 
 
-def totals(words):
-    """How many crates, must-fail edits and programs this rt command goes through."""
-    crates = reached(words[1:])
+def totals(names):
+    """How many crates, must-fail edits and programs rt goes through for these crates."""
+    crates = reached(names)
     edits = sum(len(list((ROOT / "crates" / name / "must-fail").glob("*.edit"))) for name in crates)
     programs = sum((ROOT / "crates" / name / "src/main.rt").exists() for name in crates)
     return {"proved": len(crates), "refused": edits, "ran": programs}
@@ -69,16 +62,15 @@ def totals(words):
 class RtLines:
     """What is shown of rt's lines."""
 
-    def __init__(self, words):
-        self.total, self.count, self.errors, self.last = totals(words), {}, 0, {}
+    def __init__(self, names):
+        self.total, self.count, self.errors, self.last = totals(names), {}, 0, {}
 
     def show(self, line):
         for word, pattern in PASSED:
             found = pattern.match(line)
             if found:
                 self.count[word], self.last[word] = self.count.get(word, 0) + 1, time.time()
-                took = next((part for part in found.groups()[1:] if part), None)
-                return f"{word} {self.count[word]} of {self.total[word]}: {found[1]}" + (f" ({took})" if took else "")
+                return f"{word} {self.count[word]} of {self.total[word]}: {found[1]}"
         if ": error" in line and "was not admitted (" not in line and self.errors < MOST_ERRORS:
             self.errors += 1
             return line[:SHOWN]
@@ -97,14 +89,6 @@ class RtLines:
         return TOOK + ", ".join(f"{name} {end - start:.0f} s" for name, start, end in zip(PARTS.values(), ends, ends[1:]))
 
 
-def at_work(began):
-    """The crates and edits that rt has begun and not ended: their files are still empty."""
-    folders = (ROOT / "target/log", ROOT / "target/must-fail")
-    begun = [file for folder in folders for file in folder.glob("**/*.out")]
-    return [str(file.relative_to(ROOT / "target").with_suffix("")).split("/", 1)[1]
-            for file in begun if file.stat().st_size == 0 and file.stat().st_mtime >= began - 1]
-
-
 def still(names, began):
     return f"  at work for {time.time() - began:.0f} s" + (f": {', '.join(sorted(names))}" if names else "")
 
@@ -116,33 +100,10 @@ def keep(log, line):
         target.write(line + "\n")
 
 
-def in_memory():
-    """Is there room in memory for files, and may a program be started from there?"""
-    if not os.access(MEMORY, os.W_OK) or os.statvfs(MEMORY).f_flag & os.ST_NOEXEC:
-        return False
-    return shutil.disk_usage(MEMORY).free >= ROOM
-
-
-@contextlib.contextmanager
-def passing_files():
-    """rt's environment. A check lays some 5,000 files down and takes them away again: on a disk that is a sixth of its time."""
-    if not in_memory():
-        yield os.environ
-        return
-    with tempfile.TemporaryDirectory(dir=MEMORY) as folder:
-        os.chmod(folder, 0o711)  # rt starts the proved programs from there as nobody
-        yield {**os.environ, "TMPDIR": folder}
-
-
-def follow(words, lines, log):
+def follow(words, folder, lines, log):
     """Runs rt to its end; its exit status."""
-    with passing_files() as environment:
-        return followed(words, lines, log, environment)
-
-
-def followed(words, lines, log, environment):
     began, said = time.time(), queue.Queue()
-    command = subprocess.Popen(words, cwd=ROOT, env=environment, stdout=subprocess.PIPE, stderr=subprocess.STDOUT, text=True, errors="replace")
+    command = subprocess.Popen(words, cwd=folder, stdin=subprocess.DEVNULL, stdout=subprocess.PIPE, stderr=subprocess.STDOUT, text=True, errors="replace")
 
     def listen():
         for line in command.stdout:
@@ -160,7 +121,7 @@ def followed(words, lines, log, environment):
             keep(log, lines.logged(line))
             shown = lines.show(line)
         except queue.Empty:
-            shown = still(at_work(began), began)
+            shown = still([], began)
         if shown is not None:
             print(shown, flush=True)
             quiet_since = time.time()
@@ -173,9 +134,10 @@ def followed(words, lines, log, environment):
 
 def main(arguments):
     log, words = ROOT / arguments[0], arguments[1:]
+    crate = words.pop(0) if words[0] != "rt" else None
     log.unlink(missing_ok=True)
     try:
-        return follow(words, RtLines(words[1:]), log)
+        return follow(words, ROOT / "crates" / crate if crate else ROOT, RtLines([crate] if crate else []), log)
     except FileNotFoundError:
         print(f"{words[0]} is not on the path (README.md says what is needed)")
         return 2

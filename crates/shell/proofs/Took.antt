@@ -10,7 +10,6 @@ use Rattle.shell.specs.Edges.{FitsIn}
 use Rattle.shell.specs.declared.reading.Input.{Input}
 use Rattle.shell.specs.declared.reading.Input.TheVariants.{Filled, Failed}
 use Rattle.shell.specs.declared.taking.Taken.{Taken}
-use Rattle.shell.specs.declared.reading.Whole.{Whole}
 use Rattle.shell.specs.Taken.{nothing, unopened, goes_on, Adds, taken_with, Took, Fills, most_counted, Counted, Through, unopened_whole}
 
 -- a read that fails, that brings nothing, and that brings some

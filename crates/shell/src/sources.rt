@@ -1,79 +1,118 @@
 // Several inputs one after another as one: the files that the operands name, or standard input where there are none.
-ghost use Rattle.std.specs.Prelude.{◌≤◌, length};
+ghost use Rattle.std.specs.Prelude.{◌≡◌, ◌≤◌, length};
 ghost use Rattle.shell.specs.Edges.{label_room, FitsIn, FitsNext};
 
 use crate::names::LABEL;
-use crate::reading::Input;
-use crate::{names, reading};
+use crate::reading::{Input, Opened};
+use crate::words::{MOST_WORDS, is_word};
+use crate::{failing, names, reading, words};
 use options::Asked;
+use std::io::Error;
 
-// The input that is open, by its descriptor; the place of the word behind the one that names it; and where its label
-// ends.
-#[derive(Clone, Copy)]
+// The input that is open, none where that failed; whether standard input was read before it; the place of the word
+// behind the one that names it; and where its label ends.
+#[derive(Drop)]
 pub struct Source {
-    pub fd: i32,
+    pub input: Option<Opened>,
+    pub spent: bool,
     pub next: usize,
     pub end: usize,
 }
 
 // What reading gave: so many bytes, none at the end of the last input; or what failed, which was told.
-#[derive(Clone, Copy)]
+#[derive(Drop)]
 pub struct More {
     pub source: Source,
     pub filled: usize,
     pub failed: bool,
 }
 
-// No program has more words.
-const MOST_WORDS: u64 = 4294967296;
+// The number of the failure "Bad file descriptor".
+const CLOSED: i32 = 9;
 
 // The place of the next operand from a place on; `--` is none.
-fn operand_from(place: usize, ended: usize) -> usize {
+fn operand_from(rt: &HostRuntime, place: usize, ended: usize) -> usize {
     if place == ended {
-        if place < os::arg_count() {
-            return place + 1;
-        }
+        return behind(rt, place);
     }
     place
 }
 
-// Opens the input at a place and labels it; what fails is told, and its descriptor is below 0.
-fn open_at(program: &[u8], place: usize, label: &mut [u8; LABEL]) -> Source
-    ensures { result.end ≤ label_room }
-{
-    let end = names::put_label(program, place, b"standard input", label);
-    let line: &[u8] = label;
-    let fd = reading::open(place);
-    let next = behind(place);
-    if fd < 0 {
-        os::fail(&line[..end]);
-        return Source { fd, next, end };
+// The place behind a word's; behind standard input, which has none, there is no word.
+fn behind(rt: &HostRuntime, place: usize) -> usize {
+    if place == 0 || place >= MOST_WORDS || !is_word(rt, place) {
+        return words::count(rt);
     }
-    reading::tell_waiting(program, fd);
-    Source { fd, next, end }
+    place + 1
 }
 
-// The place behind a word's; behind standard input, which has none, there is no word.
-fn behind(place: usize) -> usize {
-    let count = os::arg_count();
-    if place == 0 {
-        return count;
+// Opens the input at a place; standard input that was read before is closed.
+fn open_next(rt: &HostRuntime, place: usize, spent: bool) -> Result<Opened, Error> {
+    let input = reading::open(rt, place)?;
+    if spent && reading::is_standard(&input) {
+        return Err(Error::from_raw_os_error(CLOSED));
     }
-    if place < count {
-        return place + 1;
+    Ok(input)
+}
+
+// Opens the input at a place and labels it; what fails is told.
+fn open_at(
+    rt: &HostRuntime,
+    program: &[u8],
+    place: usize,
+    spent: bool,
+    label: &mut [u8; LABEL],
+) -> Source
+    ensures { result.end ≤ label_room }
+{
+    let end = names::put_label(rt, program, place, b"standard input", label);
+    let line: &[u8] = label;
+    let next = behind(rt, place);
+    match open_next(rt, place, spent) {
+        Ok(input) => {
+            reading::tell_waiting(rt, program, &input);
+            Source {
+                input: Some(input),
+                spent,
+                next,
+                end,
+            }
+        }
+        Err(why) => {
+            failing::fail(rt, &line[..end], why);
+            Source {
+                input: None,
+                spent,
+                next,
+                end,
+            }
+        }
     }
-    count
 }
 
 // Opens the first input.
-pub fn begin(program: &[u8], asked: Asked, label: &mut [u8; LABEL]) -> Source
+pub fn begin(rt: &HostRuntime, program: &[u8], asked: Asked, label: &mut [u8; LABEL]) -> Source
     ensures { result.end ≤ label_room }
 {
-    open_at(program, asked.first, label)
+    open_at(rt, program, asked.first, false, label)
+}
+
+// Was it opened?
+pub fn is_open(source: &Source) -> bool {
+    source.input.is_some()
+}
+
+// Was standard input read, by a source or before it?
+fn has_spent(source: &Source) -> bool {
+    match &source.input {
+        Some(input) => source.spent || reading::is_standard(input),
+        None => source.spent,
+    }
 }
 
 // Reads on, from one input to the next; a read or an opening that fails is told.
 pub fn read_more(
+    rt: &HostRuntime,
     program: &[u8],
     asked: Asked,
     source: Source,
@@ -84,22 +123,22 @@ pub fn read_more(
     ensures { FitsNext (length buffer.new) result }
 {
     let mut source = source;
-    let mut turns: u64 = 0;
+    let mut turns: usize = 0;
     while turns < MOST_WORDS {
-        let Input::Filled(filled) = read_told(source, label, buffer) else {
+        let Input::Filled(filled) = read_told(rt, &mut source, label, buffer) else {
             break;
         };
-        let place = operand_from(source.next, asked.ended);
-        if filled != 0 || place >= os::arg_count() {
+        let place = operand_from(rt, source.next, asked.ended);
+        if filled != 0 || !is_word(rt, place) {
             return More {
                 source,
                 filled,
                 failed: false,
             };
         }
-        libc::close(source.fd);
-        source = open_at(program, place, label);
-        if source.fd < 0 {
+        let spent = has_spent(&source);
+        source = open_at(rt, program, place, spent, label);
+        if !is_open(&source) {
             break;
         }
         turns += 1;
@@ -112,14 +151,18 @@ pub fn read_more(
 }
 
 // One read of an input; what fails is told by its label.
-fn read_told(source: Source, label: &[u8; LABEL], buffer: &mut [u8]) -> Input
-    requires { source.end ≤ label_room }
-    ensures { FitsIn (length buffer.new) result }
+fn read_told(rt: &HostRuntime, source: &mut Source, label: &[u8; LABEL], buffer: &mut [u8]) -> Input
+    requires { source.old.end ≤ label_room }
+    ensures fits { FitsIn (length buffer.new) result }
+    ensures labelled { source.new.end ≡ source.old.end }
 {
-    let Input::Filled(filled) = reading::read_some(source.fd, buffer) else {
+    let end = source.end;
+    let Some(input) = &mut source.input else {
+        return Input::Failed;
+    };
+    let Input::Filled(filled) = reading::read_some(input, buffer) else {
         let line: &[u8] = label;
-        let end = source.end;
-        os::fail(&line[..end]);
+        failing::fail(rt, &line[..end], reading::why(input));
         return Input::Failed;
     };
     Input::Filled(filled)

@@ -4,7 +4,7 @@ ghost use Rattle.std.specs.Prelude.{◌≡◌, ◌+◌, ◌<◌, ◌^◌, length
 ghost use Rattle.shell.specs.Taken.{nothing, unopened, goes_on, has_failed, Adds, taken_with, Took};
 
 use crate::reading;
-use crate::reading::Input;
+use crate::reading::{Input, Opened};
 
 // Bytes were taken, or none yet; a read met the input's end; a read failed.
 const GOING: u64 = 0;
@@ -87,11 +87,11 @@ fn added(taken: Taken, got: Input) -> Taken
 }
 
 // One read more, into the front of a buffer that takes some.
-pub fn take(fd: i32, buffer: &mut [u8], taken: Taken) -> Taken
+pub fn take(input: &mut Opened, buffer: &mut [u8], taken: Taken) -> Taken
     requires some { 0 < length buffer.old }
     requires few { taken.count + length buffer.old < 2 ^ 64 }
     ensures { Took (length buffer.new) taken result }
 {
-    let got = reading::read_some(fd, buffer);
+    let got = reading::read_some(input, buffer);
     added(taken, got)
 }

@@ -1,6 +1,5 @@
 -- `rate` makes the level with no components left and takes it up a component at a time; with all left, memory 0 has the figure. Assumes nothing.
 use borrow.Author.Rules.{rules}
-use Prim.Native.Nat.{◌-◌}
 use native.Mathlib.Omega.{arith}
 use lib.ListN.{length}
 use Rattle.places.proofs.Cells.{kept-none, kept_trans, room-kept, side-near}

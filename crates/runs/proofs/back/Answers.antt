@@ -1,7 +1,6 @@
 -- `back` takes a run back a component at a time. Assumes nothing.
 use borrow.Author.Rules.{rules}
 use mathlib.Core.Path.{ap, ◌∙◌}
-use Prim.Native.Nat.{◌-◌}
 use native.Mathlib.Omega.{arith}
 use Rattle.units.specs.Step.{whole}
 use Rattle.places.proofs.Values.{Chance}

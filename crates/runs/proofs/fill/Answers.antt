@@ -1,7 +1,6 @@
 -- `fill` decides as far as it can, then goes on a run at a time. Assumes nothing.
 use borrow.Author.Rules.{rules}
 use mathlib.Core.Path.{◌≡◌}
-use Prim.Native.Nat.{◌-◌}
 use native.Mathlib.Omega.{arith}
 use Rattle.places.proofs.Cells.{kept_trans}
 use Rattle.runs.proofs.Falling.{filled-first, fillable-kept, filled-falling, filled-place, filled_more}

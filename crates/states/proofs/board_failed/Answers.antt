@@ -1,7 +1,7 @@
 -- `board_failed` meets its contract: the state so far is that of the fans passed. The measure is how many are left. Assumes nothing.
 use mathlib.Core.Path.{◌≡◌, refl, ap, ap₂, ◌∙◌}
 use mathlib.Core.Bool.{cond}
-use Prim.Native.Nat.{suc, ◌+◌, ◌*◌, ◌-◌, ◌^◌, ◌<◌}
+use Prim.Native.Nat.{suc, ◌+◌, ◌*◌, ◌^◌, ◌<◌}
 use native.Mathlib.Nat.{add_comm}
 use native.Mathlib.Omega.{arith}
 use native.Mathlib.Numerals.{add-one}

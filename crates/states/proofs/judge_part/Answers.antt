@@ -64,11 +64,7 @@ verdict_on-verdict-requires c = search rules
 pub on_deck-requires : goal.on_deck-requires
 on_deck-requires c =
     let fit = (sound ((goal.at.on_deck-requires c).Else-refused-ne0)).fits in
-    let high = few ((goal.at.on_deck-requires c).Else-refused-ne0) in
-    record {
-      start = (fit.0, omega (arith, fit, high));
-      few = few-places _ _ _ _ _ _ c.verdict_on-verdict.ensures (omega (arith, fit, high));
-    }
+    record { start = (fit.0, omega (arith, fit, few ((goal.at.on_deck-requires c).Else-refused-ne0))); few = few-places _ _ _ _ _ _ c.verdict_on-verdict.ensures (omega (arith, fit, few ((goal.at.on_deck-requires c).Else-refused-ne0))) }
 
 pub returns : goal.returns
 unfolding part_verdict

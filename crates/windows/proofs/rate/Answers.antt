@@ -1,5 +1,4 @@
 -- `rate` raises the first level one component a turn and reads the start. Assumes nothing.
-use Prim.Native.Nat.{◌-◌}
 use native.Mathlib.Omega.{arith}
 use Rattle.places.proofs.Cells.{kept-none, kept_trans}
 use Rattle.windows.proofs.Asking.{windows}

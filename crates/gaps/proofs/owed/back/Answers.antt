@@ -1,6 +1,5 @@
 -- `back` takes a debt back a component at a time. Assumes nothing.
 use borrow.Author.Rules.{rules}
-use Prim.Native.Nat.{◌-◌}
 use native.Mathlib.Omega.{arith}
 use Rattle.gaps.proofs.Paying.{back-first, back_last, back-due, back_more}
 use Rattle.gaps.proofs.owed.back.Goals as goal

@@ -1,10 +1,7 @@
 -- `prepare` writes the shares of one component more a turn, or none where none are asked for. Assumes nothing.
 use borrow.Author.Rules.{rules}
-use borrow.Author.Tests.{not-true}
 use mathlib.Core.Path.{sym, ◌∙◌}
-use Prim.Native.Nat.{◌-◌}
 use native.Mathlib.Omega.{arith}
-use Rattle.units.specs.Step.{whole}
 use Rattle.units.proofs.Laws.{whole-any}
 use Rattle.units.proofs.Shares.{unasked}
 use Rattle.places.proofs.Cells.{kept-none, room-kept}

@@ -1,6 +1,5 @@
 -- `clear` writes one place more a turn. Assumes nothing.
 use borrow.Author.Rules.{rules}
-use Prim.Native.Nat.{◌-◌}
 use mathlib.Core.Path.{◌≡◌, refl}
 use native.Mathlib.Omega.{arith}
 use Rattle.places.proofs.Cells.{room-kept, written_none, written-more}

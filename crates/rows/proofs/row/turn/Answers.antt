@@ -1,6 +1,5 @@
 -- `turn` leaves a level for a component of no carry, or climbs, one sum more a turn of its loop. The loop no longer has the rule, so its invariant
 use borrow.Author.Rules.{rules}
-use Prim.Native.Nat.{◌-◌}
 use mathlib.Core.Path.{◌≡◌, refl, sym, ◌∙◌}
 use native.Mathlib.Omega.{arith}
 use native.Mathlib.Numerals.{add-one}

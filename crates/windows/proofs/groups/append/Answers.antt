@@ -5,8 +5,6 @@ use Prim.Native.Nat.{◌+◌}
 use Rattle.windows.specs.Groups.{count_at}
 use Rattle.windows.proofs.Stores.{two}
 use borrow.Author.Rules.{rules}
-use Rattle.windows.proofs.groups.append.Reads as reads
-use Rattle.windows.proofs.groups.append.Lts as lts
 use Rattle.windows.proofs.groups.append.Goals as goal
 
 pub offset_bounds-table-at : goal.offset_bounds-table-at

@@ -6,9 +6,6 @@ use Prim.Native.Nat.{◌+◌, ◌*◌}
 use Rattle.places.specs.Map.{marks}
 use Rattle.windows.proofs.Stores.{two}
 use borrow.Author.Rules.{rules}
-use Rattle.windows.proofs.groups.mark.Reads as reads
-use Rattle.windows.proofs.groups.mark.Lts as lts
-use Rattle.windows.proofs.groups.flag.Reads as flag-reads
 use Rattle.windows.proofs.groups.mark.Goals as goal
 
 pub worked-working-requires : goal.worked-working-requires

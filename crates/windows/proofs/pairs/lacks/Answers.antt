@@ -1,7 +1,6 @@
 -- `lacks` takes one pair off the list a turn. Assumes nothing.
 use borrow.Author.Rules.{rules}
 use mathlib.Core.Path.{refl, sym, ◌∙◌}
-use Prim.Native.Nat.{◌-◌}
 use native.Mathlib.Omega.{arith}
 use Rattle.rules.proofs.Further.{any_found, any_next, any_last}
 use Rattle.windows.proofs.Asking.{short-next, lacks-first, lacks-further}

@@ -1,9 +1,7 @@
 -- `longest` takes one pair off the list a turn. Assumes nothing.
 use borrow.Author.Rules.{rules}
 use mathlib.Core.Path.{refl, sym, ◌∙◌}
-use Prim.Native.Nat.{◌-◌}
 use native.Mathlib.Omega.{arith}
-use Rattle.rules.specs.Memory.{longest}
 use Rattle.windows.proofs.Asking.{longest-next, longest-last}
 use Rattle.windows.proofs.pairs.longest.Goals as goal
 

@@ -1,9 +1,5 @@
 -- `failing` is 0 where the pattern must work. Assumes nothing.
 use borrow.Author.Rules.{rules}
-use Rattle.windows.proofs.row.failing.Reads as reads
-use Rattle.windows.proofs.row.failing.Lts as lts
-use Rattle.places.proofs.end_value.Reads as end-value-reads
-use Rattle.places.proofs.read_small.Reads as read-small-reads
 use Rattle.windows.proofs.row.failing.Goals as goal
 
 pub end_value-requires : goal.end_value-requires

@@ -1,7 +1,6 @@
 -- `group` works one pattern more a turn. Assumes nothing.
 use borrow.Author.Rules.{rules}
 use mathlib.Core.Path.{◌≡◌}
-use Prim.Native.Nat.{◌-◌}
 use native.Mathlib.Omega.{arith}
 use Rattle.windows.specs.Groups.{list_at, count_at}
 use Rattle.windows.proofs.Working.{partly_none, entry-same, ready-still, partly_more}

@@ -1,0 +1,26 @@
+-- `report::put_lowest` meets its contract: number after number. Assumes nothing.
+use native.Mathlib.Omega.{arith}
+use Rattle.text.specs.Decimal.{text}
+use Rattle.text.proofs.Adding.{pair-reach, added_more}
+use borrow.Author.Rules.{rules}
+use Rattle.season_report.proofs.put_lowest.Goals as goal
+
+pub put_pair-unit-requires : goal.put_pair-unit-requires
+put_pair-unit-requires c = search rules
+
+pub put_pair-system-requires : goal.put_pair-system-requires
+put_pair-system-requires c =
+    omega (arith, c.requires, c.put_pair-unit.auto, pair-reach (text "kind ") _ (text " lowest ") _ c.put_pair-unit.ensures)
+
+pub put_one-requires : goal.put_one-requires
+put_one-requires c =
+    let first = pair-reach (text "kind ") _ (text " lowest ") _ c.put_pair-unit.ensures in
+    let second = pair-reach (text " unit ") _ (text " deck ") _ c.put_pair-system.ensures in
+    omega (arith, c.requires, c.put_pair-unit.auto, c.put_pair-system.auto, first, second)
+
+pub shape_of-out : goal.shape_of-out
+shape_of-out c = search rules
+
+pub returns : goal.returns
+returns c =
+    added_more (added_more c.put_pair-unit.ensures c.put_pair-system.ensures) c.put_one.ensures
