@@ -3,6 +3,7 @@
 #![tactic(auto)]
 
 pub mod cases; // cases.rt: what the cases of several programs share
+pub mod streams; // streams.rt: the input and the output of a program that runs them
 pub mod tables; // tables.rt: what a lent table holds before a call, and the checksum of what it holds after
 pub mod words; // words.rt: words read from a file's bytes
 

@@ -12,8 +12,7 @@ ghost use Rattle.casefile.specs.Rooms.{most_numbers};
 ghost use Rattle.casefile.specs.Cases.{Within};
 ghost use Rattle.counts_cases.specs.Case.{head_words};
 
-use casefile::{cases, tables, words};
-use libc::{STDIN_FILENO, STDOUT_FILENO};
+use casefile::{cases, streams, tables, words};
 use rules::{Counting, Rule};
 
 // Where a case has n, the cells of the working table and of the room, and the seed, and how many words come before the
@@ -139,10 +138,10 @@ fn run(bytes: &[u8], out: &mut [u8]) -> usize
     end
 }
 
-fn main() {
+fn main(rt: HostRuntime) {
     let mut input = casefile::room();
-    let n = io::read_full(STDIN_FILENO, &mut input);
+    let n = streams::read_input(&rt, &mut input);
     let mut out = casefile::room();
     let end = run(&input[..n], &mut out);
-    io::write_all(STDOUT_FILENO, &out[..end]);
+    streams::write_output(&rt, &out[..end]);
 }

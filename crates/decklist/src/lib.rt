@@ -22,7 +22,7 @@ const PERCENT: usize = 0;
 const WORDS: usize = 1;
 
 // Lists the input of which the buffer holds the front.
-fn list(asked: Asked, input: &[u8; INPUT], filled: usize) -> i32
+fn list(rt: &HostRuntime, asked: Asked, input: &[u8; INPUT], filled: usize) -> i32
     requires { filled ≤ length input.now }
     ensures ends { WholeEnds input.now filled result }
     ensures status { Status result }
@@ -31,18 +31,18 @@ fn list(asked: Asked, input: &[u8; INPUT], filled: usize) -> i32
     let words = asked.given[WORDS] != 0;
     let mut out = [0u8; lines::OUTPUT];
     let end = lines::list_front(percent, words, input, filled, &mut out);
-    printing::finish(&PROGRAM, 0, input, filled, &out[..end])
+    printing::finish(rt, &PROGRAM, 0, input, filled, &out[..end])
 }
 
 // What the program does, by its words: its status.
-pub fn run() -> i32
+pub fn run(rt: &HostRuntime) -> i32
     ensures { Status result }
 {
     let mut input = [0u8; INPUT];
-    let begun = starting::begin(&PROGRAM, &SYNOPSIS, &OPTIONS, 1, &mut input);
+    let begun = starting::begin(rt, &PROGRAM, &SYNOPSIS, &OPTIONS, 1, &mut input);
     if begun.ended {
         return begun.status;
     }
     let asked = begun.asked;
-    list(asked, &input, begun.filled)
+    list(rt, asked, &input, begun.filled)
 }

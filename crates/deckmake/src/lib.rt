@@ -35,7 +35,7 @@ fn make_fed(feeding: Feeding, line: &[u8], file: &mut [u8], out: &mut [u8]) -> M
 }
 
 // Hands that over.
-fn hand_fed(feeding: Feeding, line: &[u8], out: &mut [u8], place: usize) -> i32
+fn hand_fed(rt: &HostRuntime, feeding: Feeding, line: &[u8], out: &mut [u8], place: usize) -> i32
     requires sane { Sane feeding out.old × (feeding.listing.lines + 1 < most_lines) }
     requires line_room_in_bounds { (line_room ≤ length line.now) × (warnings_room ≤ length out.old) }
     ensures ends_by { EndsBy feeding line.now out.old result }
@@ -45,11 +45,11 @@ fn hand_fed(feeding: Feeding, line: &[u8], out: &mut [u8], place: usize) -> i32
     let made = make_fed(feeding, line, &mut file, out);
     let size = made.size;
     let end = made.end;
-    starting::hand_over(&PROGRAM, place, &file[..size], &out[..end])
+    starting::hand_over(rt, &PROGRAM, place, &file[..size], &out[..end])
 }
 
 // The same of what was read of a text; nothing is made of one that could not be read.
-fn hand_text(text: Text, line: &[u8], out: &mut [u8], place: usize) -> i32
+fn hand_text(rt: &HostRuntime, text: Text, line: &[u8], out: &mut [u8], place: usize) -> i32
     requires sane { Sane text.feeding out.old × (text.feeding.listing.lines + 1 < most_lines) }
     requires line_room_in_bounds { (line_room ≤ length line.now) × (warnings_room ≤ length out.old) }
     ensures ends_by { EndsBy text.feeding line.now out.old result }
@@ -59,20 +59,20 @@ fn hand_text(text: Text, line: &[u8], out: &mut [u8], place: usize) -> i32
         return shell::FAILED;
     }
     let feeding = text.feeding;
-    hand_fed(feeding, line, out, place)
+    hand_fed(rt, feeding, line, out, place)
 }
 
 // What the program does, by its words: its status.
-pub fn run() -> i32
+pub fn run(rt: &HostRuntime) -> i32
     ensures { Status result }
 {
-    let heard = starting::hear(&PROGRAM, &SYNOPSIS, &OPTIONS, 1);
+    let heard = starting::hear(rt, &PROGRAM, &SYNOPSIS, &OPTIONS, 1);
     if heard.ended {
         return heard.status;
     }
     let asked = heard.asked;
     let mut line = [0u8; text_stream::LINE];
     let mut out = [0u8; making::SAID];
-    let text = text::read_asked(asked, &mut line, &mut out);
-    hand_text(text, &line, &mut out, asked.given[OUT])
+    let text = text::read_asked(rt, asked, &mut line, &mut out);
+    hand_text(rt, text, &line, &mut out, asked.given[OUT])
 }

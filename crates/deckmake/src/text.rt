@@ -6,8 +6,8 @@ ghost use Rattle.text_stream.specs.Feeding.{line_room, Sane};
 
 use options::Asked;
 use shell::names::LABEL;
-use shell::reading::Input;
-use shell::{names, reading};
+use shell::reading::{Input, Opened};
+use shell::{failing, names, reading};
 use text_stream::Feeding;
 
 // So many bytes are read at a time.
@@ -24,7 +24,13 @@ pub struct Text {
 }
 
 // The text of an open input; a read that fails is told by its label.
-fn read_text(fd: i32, label: &[u8], line: &mut [u8], out: &mut [u8]) -> Text
+fn read_text(
+    rt: &HostRuntime,
+    input: &mut Opened,
+    label: &[u8],
+    line: &mut [u8],
+    out: &mut [u8],
+) -> Text
     requires { (line_room ≤ length line.old) × (told_room ≤ length out.old) }
     ensures { Sane result.feeding out.new ×
         (result.feeding.listing.lines + 1 < most_lines) }
@@ -33,8 +39,8 @@ fn read_text(fd: i32, label: &[u8], line: &mut [u8], out: &mut [u8]) -> Text
     let mut feeding = text_stream::start();
     let mut pieces: u64 = 0;
     while pieces < MOST_PIECES {
-        let Input::Filled(filled) = reading::read_some(fd, &mut piece) else {
-            os::fail(label);
+        let Input::Filled(filled) = reading::read_some(input, &mut piece) else {
+            failing::fail(rt, label, reading::why(input));
             break;
         };
         if filled == 0 {
@@ -53,22 +59,24 @@ fn read_text(fd: i32, label: &[u8], line: &mut [u8], out: &mut [u8]) -> Text
 }
 
 // The text that is asked for; one that cannot be opened is told.
-pub fn read_asked(asked: Asked, line: &mut [u8], out: &mut [u8]) -> Text
+pub fn read_asked(rt: &HostRuntime, asked: Asked, line: &mut [u8], out: &mut [u8]) -> Text
     requires { (line_room ≤ length line.old) × (told_room ≤ length out.old) }
     ensures { Sane result.feeding out.new ×
         (result.feeding.listing.lines + 1 < most_lines) }
 {
     let mut label = [0u8; LABEL];
-    let end = names::put_label(b"deckmake", asked.first, b"standard input", &mut label);
-    let fd = reading::open(asked.first);
-    if fd < 0 {
-        os::fail(&label[..end]);
-        let feeding = text_stream::start();
-        return Text {
-            feeding,
-            failed: true,
-        };
-    }
-    reading::tell_waiting(b"deckmake", fd);
-    read_text(fd, &label[..end], line, out)
+    let end = names::put_label(rt, b"deckmake", asked.first, b"standard input", &mut label);
+    let mut input = match reading::open(rt, asked.first) {
+        Ok(input) => input,
+        Err(why) => {
+            failing::fail(rt, &label[..end], why);
+            let feeding = text_stream::start();
+            return Text {
+                feeding,
+                failed: true,
+            };
+        }
+    };
+    reading::tell_waiting(rt, b"deckmake", &input);
+    read_text(rt, &mut input, &label[..end], line, out)
 }

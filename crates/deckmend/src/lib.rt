@@ -22,7 +22,7 @@ const OUT: usize = 0;
 
 // Mends the input of which the buffer holds the front, and so many bytes follow; nothing is written of one that is
 // refused, and nothing is told of one that cannot be written.
-fn mend(asked: Asked, input: &[u8; INPUT], filled: usize, rest: u64) -> i32
+fn mend(rt: &HostRuntime, asked: Asked, input: &[u8; INPUT], filled: usize, rest: u64) -> i32
     requires { (filled ≤ length input.now) × (rest < 2 ^ 63) }
     ensures ends { MendedEnds input.now filled rest result }
     ensures status { Status result }
@@ -33,22 +33,28 @@ fn mend(asked: Asked, input: &[u8; INPUT], filled: usize, rest: u64) -> i32
     let size = told.size;
     let end = told.end;
     let place = asked.given[OUT];
-    starting::hand_over(&PROGRAM, place, &file[..size], &lines[..end])
+    starting::hand_over(rt, &PROGRAM, place, &file[..size], &lines[..end])
 }
 
 // What the program does, by its words: its status.
-pub fn run() -> i32
+pub fn run(rt: &HostRuntime) -> i32
     ensures { Status result }
 {
-    let heard = starting::hear(&PROGRAM, &SYNOPSIS, &OPTIONS, 1);
+    let heard = starting::hear(rt, &PROGRAM, &SYNOPSIS, &OPTIONS, 1);
     if heard.ended {
         return heard.status;
     }
     let asked = heard.asked;
     let mut input = [0u8; INPUT];
-    let whole = reading::read_whole(&PROGRAM, asked.first, &mut input);
+    let whole = reading::read_whole(rt, &PROGRAM, asked.first, &mut input);
     if reading::has_failed(whole) {
         return shell::FAILED;
     }
-    mend(asked, &input, reading::filled(whole), reading::rest(whole))
+    mend(
+        rt,
+        asked,
+        &input,
+        reading::filled(whole),
+        reading::rest(whole),
+    )
 }

@@ -65,18 +65,18 @@ fn put_file(file: &[u8], out: &mut [u8]) -> usize
 }
 
 // Says in a line that a file is refused.
-fn tell_refused(file: &[u8]) -> i32
+fn tell_refused(rt: &HostRuntime, file: &[u8]) -> i32
     ensures { result ≡ refused }
 {
     let opened = deck::open(file);
     let mut line = [0u8; LINE];
     let end = printing::put_refused_file(opened.refusal, &mut line);
-    writing::say(&line[..end]);
+    writing::say(rt, &line[..end]);
     shell::REFUSED
 }
 
 // Draws the input of which the buffer holds the front; a refused one leaves OUT as it was.
-fn draw(asked: Asked, input: &[u8; INPUT], filled: usize) -> i32
+fn draw(rt: &HostRuntime, asked: Asked, input: &[u8; INPUT], filled: usize) -> i32
     requires { filled ≤ length input.now }
     ensures ends { WholeEnds input.now filled result }
     ensures status { Status result }
@@ -84,23 +84,23 @@ fn draw(asked: Asked, input: &[u8; INPUT], filled: usize) -> i32
     let place = asked.given[OUT];
     if place != 0 {
         if printing::refused(input, filled) {
-            return tell_refused(printing::front_of(input, filled));
+            return tell_refused(rt, printing::front_of(input, filled));
         }
     }
     let mut out = [0u8; PAGE];
     let end = put_file(printing::front_of(input, filled), &mut out);
-    printing::finish(&PROGRAM, place, input, filled, &out[..end])
+    printing::finish(rt, &PROGRAM, place, input, filled, &out[..end])
 }
 
 // What the program does, by its words: its status.
-pub fn run() -> i32
+pub fn run(rt: &HostRuntime) -> i32
     ensures { Status result }
 {
     let mut input = [0u8; INPUT];
-    let begun = starting::begin(&PROGRAM, &SYNOPSIS, &OPTIONS, 1, &mut input);
+    let begun = starting::begin(rt, &PROGRAM, &SYNOPSIS, &OPTIONS, 1, &mut input);
     if begun.ended {
         return begun.status;
     }
     let asked = begun.asked;
-    draw(asked, &input, begun.filled)
+    draw(rt, asked, &input, begun.filled)
 }

@@ -20,7 +20,7 @@ const OPTIONS: [u8; 12] = *b"-o         =";
 const OUT: usize = 0;
 
 // Shows the input of which the buffer holds the front; a refused one leaves OUT as it was.
-fn show(asked: Asked, input: &[u8; INPUT], filled: usize) -> i32
+fn show(rt: &HostRuntime, asked: Asked, input: &[u8; INPUT], filled: usize) -> i32
     requires { filled ≤ length input.now }
     ensures ends { WholeEnds input.now filled result }
     ensures status { Status result }
@@ -28,18 +28,18 @@ fn show(asked: Asked, input: &[u8; INPUT], filled: usize) -> i32
     let mut out = [0u8; showing::OUTPUT];
     let end = showing::show_front(input, filled, &mut out);
     let place = asked.given[OUT];
-    printing::finish(&PROGRAM, place, input, filled, &out[..end])
+    printing::finish(rt, &PROGRAM, place, input, filled, &out[..end])
 }
 
 // What the program does, by its words: its status.
-pub fn run() -> i32
+pub fn run(rt: &HostRuntime) -> i32
     ensures { Status result }
 {
     let mut input = [0u8; INPUT];
-    let begun = starting::begin(&PROGRAM, &SYNOPSIS, &OPTIONS, 1, &mut input);
+    let begun = starting::begin(rt, &PROGRAM, &SYNOPSIS, &OPTIONS, 1, &mut input);
     if begun.ended {
         return begun.status;
     }
     let asked = begun.asked;
-    show(asked, &input, begun.filled)
+    show(rt, asked, &input, begun.filled)
 }

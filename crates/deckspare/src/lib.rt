@@ -13,7 +13,7 @@ ghost use Rattle.printing.specs.Front.{WholeEnds};
 use lines::Wanted;
 use options::Asked;
 use printing::INPUT;
-use shell::{starting, writing};
+use shell::{starting, words, writing};
 
 const PROGRAM: [u8; 9] = *b"deckspare";
 
@@ -54,28 +54,31 @@ fn put_nearest(p: u64, out: &mut [u8; NUMBERS]) -> usize
 }
 
 // Says that its first word is no survival number, and what is one.
-fn tell_number(p: u64) -> i32
+fn tell_number(rt: &HostRuntime, p: u64) -> i32
     ensures { result ≡ failed }
 {
-    writing::say(b"deckspare: the spare's survival number: wanted ");
+    writing::say(rt, b"deckspare: the spare's survival number: wanted ");
     if p < OFF_GRID {
-        writing::say(b"parts up to 4294967295, or a decimal from 0 to 1 of at most nine digits\n");
+        writing::say(
+            rt,
+            b"parts up to 4294967295, or a decimal from 0 to 1 of at most nine digits\n",
+        );
         return shell::FAILED;
     }
     let mut numbers = [0u8; NUMBERS];
     let end = put_nearest(p, &mut numbers);
-    writing::say(b"a decimal on the grid of 2^30, as ");
-    writing::say(&numbers[..end]);
+    writing::say(rt, b"a decimal on the grid of 2^30, as ");
+    writing::say(rt, &numbers[..end]);
     shell::FAILED
 }
 
 // The number of the word at a place, from 1 on; 0 where it is none, and where there is no place.
-fn number_at(place: usize) -> u64 {
+fn number_at(rt: &HostRuntime, place: usize) -> u64 {
     if place == 0 {
         return 0;
     }
     let mut word = io::buffer();
-    let length = os::arg(place, &mut word);
+    let length = words::put_word(rt, place, &mut word);
     let number = grammar::numbers::whole(&word[..length]);
     if number == NONE { 0 } else { number }
 }
@@ -99,18 +102,25 @@ fn wrong_options(asked: Asked, best: u64, spares: u64) -> u64 {
 }
 
 // Says so.
-fn tell_options(wrong: u64) {
+fn tell_options(rt: &HostRuntime, wrong: u64) {
     match wrong {
-        NO_PLACES => writing::say(b"deckspare: --best: wanted a number from 1 to 4294967295\n"),
-        NO_SPARES => writing::say(b"deckspare: --spares: wanted 1 or 2\n"),
-        _ => writing::say(b"deckspare: --best and --spares 2: wanted one of them\n"),
+        NO_PLACES => writing::say(
+            rt,
+            b"deckspare: --best: wanted a number from 1 to 4294967295\n",
+        ),
+        NO_SPARES => writing::say(rt, b"deckspare: --spares: wanted 1 or 2\n"),
+        _ => writing::say(
+            rt,
+            b"deckspare: --best and --spares 2: wanted one of them\n",
+        ),
     }
 }
 
 // Says which word is missing or wrong, before a file is read; answers whether one is.
-fn tell_wrong(asked: Asked, best: u64, spares: u64) -> bool {
+fn tell_wrong(rt: &HostRuntime, asked: Asked, best: u64, spares: u64) -> bool {
     if asked.operands == 0 {
         writing::say(
+            rt,
             b"deckspare: the spare's survival number is missing; deckspare --help says what it takes\n",
         );
         return true;
@@ -119,13 +129,19 @@ fn tell_wrong(asked: Asked, best: u64, spares: u64) -> bool {
     if wrong == 0 {
         return false;
     }
-    tell_options(wrong);
+    tell_options(rt, wrong);
     true
 }
 
 // Lists an input of which the buffer holds the front, for the spare that a word names; nothing is printed where the
 // word is no survival number.
-fn list_for(word: &[u8], wanted: Wanted, input: &[u8; INPUT], filled: usize) -> i32
+fn list_for(
+    rt: &HostRuntime,
+    word: &[u8],
+    wanted: Wanted,
+    input: &[u8; INPUT],
+    filled: usize,
+) -> i32
     requires { filled ≤ length input.now }
     ensures ends { WholeEnds input.now filled result }
     ensures status { Status result }
@@ -134,50 +150,50 @@ fn list_for(word: &[u8], wanted: Wanted, input: &[u8; INPUT], filled: usize) -> 
     let p = grammar::numbers::parts(opened.head.version, word);
     if opened.refusal == 0 {
         if p >= NONE {
-            return tell_number(p);
+            return tell_number(rt, p);
         }
     }
     let mut out = [0u8; lines::OUTPUT];
-    let end = lines::list_front(word, wanted, input, filled, &mut out);
-    printing::finish(&PROGRAM, 0, input, filled, &out[..end])
+    let end = lines::list_front(rt, word, wanted, input, filled, &mut out);
+    printing::finish(rt, &PROGRAM, 0, input, filled, &out[..end])
 }
 
 // The same for the word at a place.
-fn list(first: usize, wanted: Wanted, input: &[u8; INPUT], filled: usize) -> i32
+fn list(rt: &HostRuntime, first: usize, wanted: Wanted, input: &[u8; INPUT], filled: usize) -> i32
     requires { filled ≤ length input.now }
     ensures ends { WholeEnds input.now filled result }
     ensures status { Status result }
 {
     let mut word = io::buffer();
-    let length = os::arg(first, &mut word);
-    list_for(&word[..length], wanted, input, filled)
+    let length = words::put_word(rt, first, &mut word);
+    list_for(rt, &word[..length], wanted, input, filled)
 }
 
 // The place of the second operand, the file's name; 0 where there is none.
-fn file_place(asked: Asked) -> usize {
+fn file_place(rt: &HostRuntime, asked: Asked) -> usize {
     if asked.operands < 2 {
         return 0;
     }
-    let until = starting::hear_all(&OPTIONS, 1);
+    let until = starting::hear_all(rt, &OPTIONS, 1);
     until.at
 }
 
 // What the program does, by its words: its status.
-pub fn run() -> i32
+pub fn run(rt: &HostRuntime) -> i32
     ensures { Status result }
 {
-    let heard = starting::hear(&PROGRAM, &SYNOPSIS, &OPTIONS, 2);
+    let heard = starting::hear(rt, &PROGRAM, &SYNOPSIS, &OPTIONS, 2);
     if heard.ended {
         return heard.status;
     }
     let asked = heard.asked;
-    let best = number_at(asked.given[BEST]);
-    let spares = number_at(asked.given[SPARES]);
-    if tell_wrong(asked, best, spares) {
+    let best = number_at(rt, asked.given[BEST]);
+    let spares = number_at(rt, asked.given[SPARES]);
+    if tell_wrong(rt, asked, best, spares) {
         return shell::FAILED;
     }
     let mut input = [0u8; INPUT];
-    let begun = starting::read_at(&PROGRAM, asked, file_place(asked), &mut input);
+    let begun = starting::read_at(rt, &PROGRAM, asked, file_place(rt, asked), &mut input);
     if begun.ended {
         return begun.status;
     }
@@ -185,5 +201,5 @@ pub fn run() -> i32
         best,
         two: spares == 2,
     };
-    list(asked.first, wanted, &input, begun.filled)
+    list(rt, asked.first, wanted, &input, begun.filled)
 }

@@ -23,7 +23,14 @@ pub struct Wanted {
 }
 
 // What is printed of a file's system. Only the lists are copied from the file's bytes.
-fn put_system(file: &[u8], head: Head, job: Job, out: &mut [u8], at: usize) -> usize
+fn put_system(
+    rt: &HostRuntime,
+    file: &[u8],
+    head: Head,
+    job: Job,
+    out: &mut [u8],
+    at: usize,
+) -> usize
     requires placed { Placed file.now head job.s }
     requires room { at + system_room ≤ length out.old }
     ensures { Added (system_lines file.now job) out.old at out.new result }
@@ -43,6 +50,7 @@ fn put_system(file: &[u8], head: Head, job: Job, out: &mut [u8], at: usize) -> u
         b: system.b,
     };
     spare_lines::put_asked(
+        rt,
         question,
         job,
         &survival[..n],
@@ -55,7 +63,14 @@ fn put_system(file: &[u8], head: Head, job: Job, out: &mut [u8], at: usize) -> u
 }
 
 // The lines of its systems, of a spare with survival number p.
-fn put_systems(file: &[u8], head: Head, p: u64, wanted: Wanted, out: &mut [u8]) -> usize
+fn put_systems(
+    rt: &HostRuntime,
+    file: &[u8],
+    head: Head,
+    p: u64,
+    wanted: Wanted,
+    out: &mut [u8],
+) -> usize
     requires headed { Headed file.now head }
     requires room { output_room ≤ length out.old }
     ensures { Added (systems_text p wanted file.now) out.old 0 out.new result }
@@ -69,14 +84,14 @@ fn put_systems(file: &[u8], head: Head, p: u64, wanted: Wanted, out: &mut [u8]) 
             best: wanted.best,
             two: wanted.two,
         };
-        end = put_system(file, head, job, out, end);
+        end = put_system(rt, file, head, job, out, end);
         s += 1;
     }
     end
 }
 
 // All that is printed for a file, of the spare that a word names.
-fn put_file(word: &[u8], wanted: Wanted, file: &[u8], out: &mut [u8]) -> usize
+fn put_file(rt: &HostRuntime, word: &[u8], wanted: Wanted, file: &[u8], out: &mut [u8]) -> usize
     requires { output_room ≤ length out.old }
     ensures { let text = print_text (list_text word.now wanted) file.now in
         Added text out.old 0 out.new result }
@@ -87,11 +102,12 @@ fn put_file(word: &[u8], wanted: Wanted, file: &[u8], out: &mut [u8]) -> usize
     }
     let head = opened.head;
     let p = grammar::numbers::parts(head.version, word);
-    put_systems(file, head, p, wanted, out)
+    put_systems(rt, file, head, p, wanted, out)
 }
 
 // All that is printed for an input, of which the buffer holds the front: all of it, or as much as the buffer takes.
 pub fn list_front(
+    rt: &HostRuntime,
     word: &[u8],
     wanted: Wanted,
     input: &[u8; INPUT],
@@ -103,5 +119,5 @@ pub fn list_front(
     ensures { let body = list_text word.now wanted in
         WholePrinted body input.now filled out.new result }
 {
-    put_file(word, wanted, printing::front_of(input, filled), out)
+    put_file(rt, word, wanted, printing::front_of(input, filled), out)
 }

@@ -8,6 +8,7 @@ ghost use Rattle.deckstate.specs.Words.{hearing_none, hears_word, SaidOf};
 
 use deck::Opened;
 use options::Asked;
+use shell::words;
 
 // The longest word that is read: a longer one is cut to none, which names nothing.
 const WORD: usize = 256;
@@ -185,16 +186,16 @@ pub struct AllHeard {
 }
 
 // The loop over the words of the program, for a deck of n fans on these boards, of which there are g.
-fn hear_words(n: u64, g: u64, boards: &[u8]) -> AllHeard
+fn hear_words(rt: &HostRuntime, n: u64, g: u64, boards: &[u8]) -> AllHeard
     requires { (n ≤ most) × (length boards.now ≤ most) }
 {
-    let count = os::arg_count();
+    let count = words::count(rt);
     let mut word = [0u8; WORD];
     let mut hearing = silence();
     let mut at: usize = 0;
     let mut i: usize = 1;
     while i < count {
-        let length = os::arg(i, &mut word);
+        let length = words::put_word(rt, i, &mut word);
         let next = hear(n, g, boards, hearing, i, &word[..length]);
         at = listened(hearing, next, i, at);
         hearing = next;
@@ -204,7 +205,7 @@ fn hear_words(n: u64, g: u64, boards: &[u8]) -> AllHeard
 }
 
 // The same for the deck of a file that was opened; of a refused file no word is heard.
-pub fn hear_all(file: &[u8], opened: Opened) -> AllHeard
+pub fn hear_all(rt: &HostRuntime, file: &[u8], opened: Opened) -> AllHeard
     requires { Opens file.now opened }
 {
     if opened.refusal != 0 {
@@ -213,7 +214,7 @@ pub fn hear_all(file: &[u8], opened: Opened) -> AllHeard
     }
     let head = opened.head;
     let boards = deck::boards_in(file, head);
-    hear_words(head.fans as u64, head.boards as u64, boards)
+    hear_words(rt, head.fans as u64, head.boards as u64, boards)
 }
 
 // What the words that were heard say of that deck.

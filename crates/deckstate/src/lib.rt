@@ -10,7 +10,7 @@ ghost use Rattle.printing.specs.Front.{WholeEnds};
 
 use crate::hearing::Said;
 use printing::INPUT;
-use shell::{starting, writing};
+use shell::{starting, words, writing};
 
 const PROGRAM: [u8; 9] = *b"deckstate";
 
@@ -21,11 +21,11 @@ const OPTIONS: [u8; 12] = *b"-f         =";
 const FILE: usize = 0;
 
 // Says on standard error which word is wrong, and what was wanted; it stands at this place.
-fn tell_wrong(said: Said, place: usize) -> i32
+fn tell_wrong(rt: &HostRuntime, said: Said, place: usize) -> i32
     ensures { result ≡ failed }
 {
     let mut word = io::buffer();
-    let length = os::arg(place, &mut word);
+    let length = words::put_word(rt, place, &mut word);
     let mut line = [0u8; telling::LINE];
     let end = telling::put_wrong(
         said.wrong,
@@ -34,41 +34,41 @@ fn tell_wrong(said: Said, place: usize) -> i32
         said.most,
         &mut line,
     );
-    writing::say(&line[..end]);
+    writing::say(rt, &line[..end]);
     shell::FAILED
 }
 
 // Judges an input of which the buffer holds the front; nothing is printed where a word is wrong.
-fn judge(input: &[u8; INPUT], filled: usize) -> i32
+fn judge(rt: &HostRuntime, input: &[u8; INPUT], filled: usize) -> i32
     requires { filled ≤ length input.now }
     ensures ends { WholeEnds input.now filled result }
     ensures status { Status result }
 {
     let file = printing::front_of(input, filled);
     let opened = deck::open(file);
-    let listened = hearing::hear_all(file, opened);
+    let listened = hearing::hear_all(rt, file, opened);
     let said = hearing::settled(file, opened, listened.hearing);
     if said.wrong != 0 {
-        return tell_wrong(said, listened.at);
+        return tell_wrong(rt, said, listened.at);
     }
     let mut out = [0u8; telling::OUTPUT];
     let end = telling::state_front(said.state, input, filled, opened, &mut out);
-    printing::finish(&PROGRAM, 0, input, filled, &out[..end])
+    printing::finish(rt, &PROGRAM, 0, input, filled, &out[..end])
 }
 
 // What the program does, by its words: its status.
-pub fn run() -> i32
+pub fn run(rt: &HostRuntime) -> i32
     ensures { Status result }
 {
-    let heard = starting::hear(&PROGRAM, &SYNOPSIS, &OPTIONS, hearing::MOST_WORDS);
+    let heard = starting::hear(rt, &PROGRAM, &SYNOPSIS, &OPTIONS, hearing::MOST_WORDS);
     if heard.ended {
         return heard.status;
     }
     let asked = heard.asked;
     let mut input = [0u8; INPUT];
-    let begun = starting::read_at(&PROGRAM, asked, asked.given[FILE], &mut input);
+    let begun = starting::read_at(rt, &PROGRAM, asked, asked.given[FILE], &mut input);
     if begun.ended {
         return begun.status;
     }
-    judge(&input, begun.filled)
+    judge(rt, &input, begun.filled)
 }

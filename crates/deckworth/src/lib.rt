@@ -20,7 +20,7 @@ const OPTIONS: [u8; 12] = *b"--words     ";
 const WORDS: usize = 0;
 
 // Lists the input of which the buffer holds the front.
-fn list(asked: Asked, input: &[u8; INPUT], filled: usize) -> i32
+fn list(rt: &HostRuntime, asked: Asked, input: &[u8; INPUT], filled: usize) -> i32
     requires { filled ≤ length input.now }
     ensures ends { WholeEnds input.now filled result }
     ensures status { Status result }
@@ -31,18 +31,18 @@ fn list(asked: Asked, input: &[u8; INPUT], filled: usize) -> i32
     let ends = lines::list_front(words, input, filled, &mut out, &mut more);
     let first = ends.first;
     let second = ends.second;
-    printing::finish_two(&PROGRAM, input, filled, &out[..first], &more[..second])
+    printing::finish_two(rt, &PROGRAM, input, filled, &out[..first], &more[..second])
 }
 
 // What the program does, by its words: its status.
-pub fn run() -> i32
+pub fn run(rt: &HostRuntime) -> i32
     ensures { Status result }
 {
     let mut input = [0u8; INPUT];
-    let begun = starting::begin(&PROGRAM, &SYNOPSIS, &OPTIONS, 1, &mut input);
+    let begun = starting::begin(rt, &PROGRAM, &SYNOPSIS, &OPTIONS, 1, &mut input);
     if begun.ended {
         return begun.status;
     }
     let asked = begun.asked;
-    list(asked, &input, begun.filled)
+    list(rt, asked, &input, begun.filled)
 }

@@ -8,13 +8,12 @@ ghost use Rattle.std.specs.Prelude.{◌+◌, ◌≤◌, length};
 ghost use Rattle.io.specs.Counts.{IsPrefixLen};
 ghost use Rattle.figures_case.specs.Whole.{head_words, Whole};
 
-use casefile::{cases, tables, words};
+use casefile::{cases, streams, tables, words};
 use figures_case::line::{Answer, put_line};
 use figures_case::{
     A, B, CALL, FAN, HEAD, MOST_CELLS, OTHERS, PAIRED, PLACED, RULE, SEED, Sizes, VERSION, WEIGHED,
     size,
 };
-use libc::{STDIN_FILENO, STDOUT_FILENO};
 use rules::Question;
 
 // The call for the worth of a fan.
@@ -152,10 +151,10 @@ fn run(bytes: &[u8], out: &mut [u8]) -> usize
     end
 }
 
-fn main() {
+fn main(rt: HostRuntime) {
     let mut input = casefile::room();
-    let n = io::read_full(STDIN_FILENO, &mut input);
+    let n = streams::read_input(&rt, &mut input);
     let mut out = casefile::room();
     let end = run(&input[..n], &mut out);
-    io::write_all(STDOUT_FILENO, &out[..end]);
+    streams::write_output(&rt, &out[..end]);
 }

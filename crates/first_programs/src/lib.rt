@@ -1,18 +1,16 @@
-// The two programs from a typed list to figures, each a call that answers the exit status.
+// The two programs from a typed list to figures, each a function that answers the exit status.
 #![tactic(auto)]
 
 ghost use Rattle.shell.specs.Status.{Status};
 
-#[unsafe(no_mangle)]
-pub extern "C" fn deckmake_run() -> i32
+pub fn deckmake_run(rt: &HostRuntime) -> i32
     ensures { Status result }
 {
-    deckmake::run()
+    deckmake::run(rt)
 }
 
-#[unsafe(no_mangle)]
-pub extern "C" fn decklist_run() -> i32
+pub fn decklist_run(rt: &HostRuntime) -> i32
     ensures { Status result }
 {
-    decklist::run()
+    decklist::run(rt)
 }

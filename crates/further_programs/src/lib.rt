@@ -1,53 +1,46 @@
-// The programs for a deck file, and for many, each a call that answers the exit status.
+// The programs for a deck file, and for many, each a function that answers the exit status.
 #![tactic(auto)]
 
 ghost use Rattle.shell.specs.Status.{Status};
 
-#[unsafe(no_mangle)]
-pub extern "C" fn deckshow_run() -> i32
+pub fn deckshow_run(rt: &HostRuntime) -> i32
     ensures { Status result }
 {
-    deckshow::run()
+    deckshow::run(rt)
 }
 
-#[unsafe(no_mangle)]
-pub extern "C" fn deckworth_run() -> i32
+pub fn deckworth_run(rt: &HostRuntime) -> i32
     ensures { Status result }
 {
-    deckworth::run()
+    deckworth::run(rt)
 }
 
-#[unsafe(no_mangle)]
-pub extern "C" fn deckspare_run() -> i32
+pub fn deckspare_run(rt: &HostRuntime) -> i32
     ensures { Status result }
 {
-    deckspare::run()
+    deckspare::run(rt)
 }
 
-#[unsafe(no_mangle)]
-pub extern "C" fn deckstate_run() -> i32
+pub fn deckstate_run(rt: &HostRuntime) -> i32
     ensures { Status result }
 {
-    deckstate::run()
+    deckstate::run(rt)
 }
 
-#[unsafe(no_mangle)]
-pub extern "C" fn deckpage_run() -> i32
+pub fn deckpage_run(rt: &HostRuntime) -> i32
     ensures { Status result }
 {
-    deckpage::run()
+    deckpage::run(rt)
 }
 
-#[unsafe(no_mangle)]
-pub extern "C" fn deckmend_run() -> i32
+pub fn deckmend_run(rt: &HostRuntime) -> i32
     ensures { Status result }
 {
-    deckmend::run()
+    deckmend::run(rt)
 }
 
-#[unsafe(no_mangle)]
-pub extern "C" fn season_run() -> i32
+pub fn season_run(rt: &HostRuntime) -> i32
     ensures { Status result }
 {
-    season::run()
+    season::run(rt)
 }

@@ -53,13 +53,7 @@ pub fn foambeetle_worth(file: &[u8], system: u64, fan: u64, ends: &mut [i64; 2])
 // What the C program calls for the gain of a spare with survival number p in the place of a fan:
 // `uint64_t foambeetle_gain(const uint8_t *file, size_t length, uint64_t system, uint64_t fan, uint64_t p,
 // int64_t ends[2])`.
-pub fn foambeetle_gain(
-    file: &[u8],
-    system: u64,
-    fan: u64,
-    p: u64,
-    ends: &mut [i64; 2],
-) -> u64
+pub fn foambeetle_gain(file: &[u8], system: u64, fan: u64, p: u64, ends: &mut [i64; 2]) -> u64
     ensures { Gained file.now system fan p ends.old ends.new result }
 {
     tell(fan_gains::weigh_file(file, system, Spare { fan, p }), ends)

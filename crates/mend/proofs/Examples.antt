@@ -15,8 +15,8 @@ use Rattle.rules.specs.Mending.{mended, changes_below, changes_in, cut_from, bey
 abbrev body : List ℕ
 body = 0 ∷ 202 ∷ 154 ∷ 59 ∷ 7 ∷ 0 ∷ 1 ∷ 0 ∷ 1 ∷ 0 ∷ 0 ∷ 0 ∷ 1 ∷ 0 ∷ 1 ∷ 0 ∷ []
 
-abbrev file_with : (zero systems weights : ℕ) → List ℕ
-file_with zero systems weights = 2 ∷ 0 ∷ zero ∷ 0 ∷ 1 ∷ 0 ∷ systems ∷ 0 ∷ 20 ∷ 0 ∷ 0 ∷ 0 ∷ weights ∷ 0 ∷ 0 ∷ 0 ∷ 26 ∷ 0 ∷ 0 ∷ 0 ∷ body
+abbrev file_with : (third systems weights : ℕ) → List ℕ
+file_with third systems weights = 2 ∷ 0 ∷ third ∷ 0 ∷ 1 ∷ 0 ∷ systems ∷ 0 ∷ 20 ∷ 0 ∷ 0 ∷ 0 ∷ weights ∷ 0 ∷ 0 ∷ 0 ∷ 26 ∷ 0 ∷ 0 ∷ 0 ∷ body
 
 abbrev sound : List ℕ
 sound = file_with 0 1 24

@@ -21,7 +21,15 @@ pub extern "C" fn foambeetle_write(
     ensures { Filed (typed_of version survival.now weights.now boards.now
         switchboards.now systems.now) room.old room.new result }
 {
-    office::foambeetle_write(version, survival, weights, boards, switchboards, systems, room)
+    office::foambeetle_write(
+        version,
+        survival,
+        weights,
+        boards,
+        switchboards,
+        systems,
+        room,
+    )
 }
 
 #[unsafe(no_mangle)]

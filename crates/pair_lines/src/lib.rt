@@ -66,6 +66,7 @@ fn put_fans(s: u64, a: u64, decimal: bool, best: Best, out: &mut [u8], at: usize
 
 // The best of all pairs of a stretch, row by row.
 fn best_pair(
+    rt: &HostRuntime,
     question: Question,
     two: Two,
     survival: &[u32],
@@ -83,7 +84,7 @@ fn best_pair(
     let mut best = pairs::none();
     let mut i: usize = 0;
     while i < size {
-        progress::show(two.s, best.rated, size as u64);
+        progress::show(rt, two.s, best.rated, size as u64);
         best = pairs::rate_row(
             question,
             two.p,
@@ -96,12 +97,13 @@ fn best_pair(
         );
         i += 1;
     }
-    progress::wipe();
+    progress::wipe(rt);
     best
 }
 
 // All that is printed of a system that is not refused.
 pub fn put_two(
+    rt: &HostRuntime,
     question: Question,
     two: Two,
     survival: &[u32],
@@ -121,7 +123,7 @@ pub fn put_two(
     if question.a == question.b {
         return put_one(two.s, out, at);
     }
-    let best = best_pair(question, two, survival, weights, boards, switchboards);
+    let best = best_pair(rt, question, two, survival, weights, boards, switchboards);
     let decimal = units::is_decimal(question.version);
     put_fans(two.s, question.a, decimal, best, out, at)
 }

@@ -3,8 +3,8 @@ ghost use Rattle.std.specs.Prelude.{◌≤◌};
 ghost use Rattle.io.specs.Counts.{IsPrefixLen};
 ghost use Rattle.rules.specs.Refusal.{most};
 
-use libc::STDERR_FILENO;
 use shell::writing;
+use std::io::IsTerminal;
 
 // Room for what is told.
 const LINE: usize = 96;
@@ -20,19 +20,19 @@ fn put_tried(s: u64, rated: u64, pairs: u64, out: &mut [u8; LINE]) -> usize
 }
 
 // Tells that, on a line that the next number takes.
-pub fn show(s: u64, rated: u64, size: u64)
+pub fn show(rt: &HostRuntime, s: u64, rated: u64, size: u64)
     requires { (1 ≤ size) × (size ≤ most) }
 {
-    if libc::isatty(STDERR_FILENO) == 1 {
+    if rt.stderr().is_terminal() {
         let mut line = [0u8; LINE];
         let end = put_tried(s, rated, size * (size - 1) / 2, &mut line);
-        writing::say(&line[..end]);
+        writing::say(rt, &line[..end]);
     }
 }
 
 // Wipes what was told.
-pub fn wipe() {
-    if libc::isatty(STDERR_FILENO) == 1 {
-        writing::say(b"\r                                \r");
+pub fn wipe(rt: &HostRuntime) {
+    if rt.stderr().is_terminal() {
+        writing::say(rt, b"\r                                \r");
     }
 }

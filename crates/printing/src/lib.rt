@@ -70,19 +70,27 @@ pub fn put_worded_file(words: bool, file: &[u8], number: u64, out: &mut [u8]) ->
 
 // Ends a program that prints a text of the input: to standard output where the input is refused, and else to the output
 // at a place of the words, 0 for standard output. Answers the status.
-pub fn finish(program: &[u8], place: usize, input: &[u8; INPUT], filled: usize, text: &[u8]) -> i32
+pub fn finish(
+    rt: &HostRuntime,
+    program: &[u8],
+    place: usize,
+    input: &[u8; INPUT],
+    filled: usize,
+    text: &[u8],
+) -> i32
     requires { filled ≤ length input.now }
     ensures ends { WholeEnds input.now filled result }
     ensures status { Status result }
 {
     if refused(input, filled) {
-        return starting::print(program, 0, text, true);
+        return starting::print(rt, program, 0, text, true);
     }
-    starting::print(program, place, text, false)
+    starting::print(rt, program, place, text, false)
 }
 
 // The same of a text in two buffers, to standard output.
 pub fn finish_two(
+    rt: &HostRuntime,
     program: &[u8],
     input: &[u8; INPUT],
     filled: usize,
@@ -94,5 +102,5 @@ pub fn finish_two(
     ensures status { Status result }
 {
     let refused = refused(input, filled);
-    starting::print_two(program, text, more, refused)
+    starting::print_two(rt, program, text, more, refused)
 }

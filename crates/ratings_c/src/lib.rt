@@ -25,7 +25,20 @@ pub extern "C" fn foambeetle_figures(
         boards.now switchboards.now in
         Timed q table.old table.new result }
 {
-    ratings::foambeetle_figures(version, kind, first, second, a, b, survival, weights, more, boards, switchboards, table)
+    ratings::foambeetle_figures(
+        version,
+        kind,
+        first,
+        second,
+        a,
+        b,
+        survival,
+        weights,
+        more,
+        boards,
+        switchboards,
+        table,
+    )
 }
 
 #[unsafe(no_mangle)]
@@ -50,7 +63,22 @@ pub extern "C" fn foambeetle_worth_of(
         boards.now switchboards.now in
         TimedWorth q fan table.old table.new ends.old ends.new result }
 {
-    ratings::foambeetle_worth_of(version, kind, first, second, a, b, fan, survival, weights, more, boards, switchboards, table, ends)
+    ratings::foambeetle_worth_of(
+        version,
+        kind,
+        first,
+        second,
+        a,
+        b,
+        fan,
+        survival,
+        weights,
+        more,
+        boards,
+        switchboards,
+        table,
+        ends,
+    )
 }
 
 #[unsafe(no_mangle)]

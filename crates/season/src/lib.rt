@@ -21,7 +21,7 @@ const OPTIONS: [u8; 0] = [];
 const MOST_FILES: u64 = 4294967296;
 
 // Prints the report on what was read.
-fn print_report(reading: Reading) -> i32
+fn print_report(rt: &HostRuntime, reading: Reading) -> i32
     requires { Sane reading }
     ensures ends_by { EndsBy reading result }
     ensures status { Status result }
@@ -29,11 +29,11 @@ fn print_report(reading: Reading) -> i32
     let mut out = [0u8; season_report::OUTPUT];
     let report = season_stream::put_report(reading, &mut out);
     let end = report.end;
-    starting::print(&PROGRAM, 0, &out[..end], report.refused)
+    starting::print(rt, &PROGRAM, 0, &out[..end], report.refused)
 }
 
 // The same, unless a read failed.
-fn print_got(got: Got) -> i32
+fn print_got(rt: &HostRuntime, got: Got) -> i32
     requires { Sane got.reading }
     ensures ends_by { EndsBy got.reading result }
     ensures status { Status result }
@@ -42,18 +42,18 @@ fn print_got(got: Got) -> i32
         return shell::FAILED;
     }
     let reading = got.reading;
-    print_report(reading)
+    print_report(rt, reading)
 }
 
 // What the program does, by its words: its status.
-pub fn run() -> i32
+pub fn run(rt: &HostRuntime) -> i32
     ensures { Status result }
 {
-    let heard = starting::hear(&PROGRAM, &SYNOPSIS, &OPTIONS, MOST_FILES);
+    let heard = starting::hear(rt, &PROGRAM, &SYNOPSIS, &OPTIONS, MOST_FILES);
     if heard.ended {
         return heard.status;
     }
     let asked = heard.asked;
-    let got = reading::read_all(asked);
-    print_got(got)
+    let got = reading::read_all(rt, asked);
+    print_got(rt, got)
 }

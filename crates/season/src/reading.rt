@@ -4,12 +4,12 @@ ghost use Rattle.shell.specs.Edges.{label_room, FitsNext};
 ghost use Rattle.season_stream.specs.Reading.{Sane};
 
 use ending::LONGEST;
-use libc::STDERR_FILENO;
 use options::Asked;
 use season_stream::Reading;
 use shell::names::LABEL;
 use shell::sources::{More, Source};
 use shell::{sources, writing};
+use std::io::IsTerminal;
 
 // What was read of the stream; or a read that failed, which was told.
 #[derive(Clone, Copy)]
@@ -28,7 +28,7 @@ const TOLD: u64 = 100;
 const LINE: usize = 32;
 
 // Tells how many decks were read, on a line that the next number takes, each time that so many are whole.
-fn show(shown: bool, reading: Reading) {
+fn show(rt: &HostRuntime, shown: bool, reading: Reading) {
     if !shown || reading.closed || reading.kept != 0 {
         return;
     }
@@ -36,12 +36,13 @@ fn show(shown: bool, reading: Reading) {
     if totals.decks % TOLD == 0 {
         let mut line = [0u8; LINE];
         let end = text::put_named(b"\rdecks ", totals.decks, &mut line, 0);
-        writing::say(&line[..end]);
+        writing::say(rt, &line[..end]);
     }
 }
 
 // Reads on, so many bytes at most, into the buffer's front.
 fn read_piece(
+    rt: &HostRuntime,
     asked: Asked,
     source: Source,
     label: &mut [u8; LABEL],
@@ -51,11 +52,17 @@ fn read_piece(
     requires { (source.end ≤ label_room) × (wanted ≤ length piece.old) }
     ensures { FitsNext (length piece.new) result }
 {
-    sources::read_more(b"season", asked, source, label, &mut piece[..wanted])
+    sources::read_more(rt, b"season", asked, source, label, &mut piece[..wanted])
 }
 
 // Reads until the stream ends, or nothing more is read of it.
-fn read_stream(shown: bool, asked: Asked, source: Source, label: &mut [u8; LABEL]) -> Got
+fn read_stream(
+    rt: &HostRuntime,
+    shown: bool,
+    asked: Asked,
+    source: Source,
+    label: &mut [u8; LABEL],
+) -> Got
     requires { source.end ≤ label_room }
     ensures { Sane result.reading }
 {
@@ -65,7 +72,7 @@ fn read_stream(shown: bool, asked: Asked, source: Source, label: &mut [u8; LABEL
     let mut pieces: u64 = 0;
     while pieces < MOST_PIECES && !reading.closed {
         let wanted = season_stream::lacks(reading);
-        let more = read_piece(asked, source, label, wanted, &mut piece);
+        let more = read_piece(rt, asked, source, label, wanted, &mut piece);
         source = more.source;
         let filled = more.filled;
         if filled == 0 {
@@ -75,7 +82,7 @@ fn read_stream(shown: bool, asked: Asked, source: Source, label: &mut [u8; LABEL
             };
         }
         reading = season_stream::feed(reading, &piece[..filled]);
-        show(shown, reading);
+        show(rt, shown, reading);
         pieces += 1;
     }
     Got {
@@ -85,27 +92,27 @@ fn read_stream(shown: bool, asked: Asked, source: Source, label: &mut [u8; LABEL
 }
 
 // Wipes what was told of the decks.
-fn wipe(shown: bool) {
+fn wipe(rt: &HostRuntime, shown: bool) {
     if shown {
-        writing::say(b"\r                \r");
+        writing::say(rt, b"\r                \r");
     }
 }
 
 // Reads the files that are asked for. Where standard error is a terminal, decks are told as they are read.
-pub fn read_all(asked: Asked) -> Got
+pub fn read_all(rt: &HostRuntime, asked: Asked) -> Got
     ensures { Sane result.reading }
 {
     let mut label = [0u8; LABEL];
-    let source = sources::begin(b"season", asked, &mut label);
-    if source.fd < 0 {
+    let source = sources::begin(rt, b"season", asked, &mut label);
+    if !sources::is_open(&source) {
         let reading = season_stream::start();
         return Got {
             reading,
             failed: true,
         };
     }
-    let shown = libc::isatty(STDERR_FILENO) == 1;
-    let got = read_stream(shown, asked, source, &mut label);
-    wipe(shown);
+    let shown = rt.stderr().is_terminal();
+    let got = read_stream(rt, shown, asked, source, &mut label);
+    wipe(rt, shown);
     got
 }

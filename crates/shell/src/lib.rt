@@ -2,6 +2,12 @@
 // standard error what failed.
 #![tactic(auto)]
 
+ghost use Rattle.std.specs.Prelude.{◌≡◌, pos};
+ghost use Rattle.std.specs.Process.{exit_status};
+ghost use Rattle.shell.specs.Status.{Status};
+
+use std::process::ExitCode;
+
 pub mod failing; // failing.rt: what is told of what failed
 pub mod names; // names.rt: what a message names
 pub mod reading; // reading.rt: its input
@@ -18,3 +24,15 @@ pub const DONE: i32 = 0;
 pub const REFUSED: i32 = 1;
 
 pub const FAILED: i32 = 2;
+
+// Ends a program's `main` by a status.
+pub fn exit_code(status: i32) -> ExitCode
+    requires { Status status }
+    ensures { pos (exit_status result) ≡ status }
+{
+    match status {
+        DONE => ExitCode::from(0),
+        REFUSED => ExitCode::from(1),
+        _ => ExitCode::from(2),
+    }
+}

@@ -73,6 +73,7 @@ fn put_gains(
 
 // All that is printed of a system.
 pub fn put_asked(
+    rt: &HostRuntime,
     question: Question,
     job: Job,
     survival: &[u32],
@@ -97,6 +98,7 @@ pub fn put_asked(
     if job.two {
         let two = Two { s, p: job.p };
         return pair_lines::put_two(
+            rt,
             question,
             two,
             survival,

@@ -8,8 +8,7 @@ ghost use Rattle.io.specs.Counts.{IsPrefixLen};
 ghost use Rattle.casefile.specs.Cases.{Within};
 ghost use Rattle.verdict_cases.specs.Case.{head_words};
 
-use casefile::{cases, words};
-use libc::{STDIN_FILENO, STDOUT_FILENO};
+use casefile::{cases, streams, words};
 use rules::Verdict;
 
 // Where a case has n and the state, and how many words come before the weights.
@@ -92,10 +91,10 @@ fn run(bytes: &[u8], out: &mut [u8]) -> usize
     end
 }
 
-fn main() {
+fn main(rt: HostRuntime) {
     let mut input = casefile::room();
-    let n = io::read_full(STDIN_FILENO, &mut input);
+    let n = streams::read_input(&rt, &mut input);
     let mut out = casefile::room();
     let end = run(&input[..n], &mut out);
-    io::write_all(STDOUT_FILENO, &out[..end]);
+    streams::write_output(&rt, &out[..end]);
 }

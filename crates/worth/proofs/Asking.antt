@@ -10,7 +10,7 @@ use Rattle.rules.specs.declared.Worth.TheVariants as ends
 use Rattle.rules.specs.State.{S}
 use Rattle.rules.specs.Asked.{Asked, unit_in}
 use Rattle.rules.specs.Refusal.{cells, figures_refusal}
-use Rattle.rules.specs.Worth.{swapped, working, failing, bad_fan, worth_refusal}
+use Rattle.rules.specs.Worth.{swapped, bad_fan, worth_refusal}
 use Rattle.rules.specs.Gain.{swapped_both}
 use Rattle.rules.proofs.Unless.{after_none}
 use Rattle.rules.proofs.Sure.{after_first, chosen-fan, swapped-accepted}
@@ -18,8 +18,7 @@ use Rattle.places.specs.Cells.{Kept}
 use Rattle.places.specs.declared.Ends.{Ends}
 use Rattle.places.proofs.Cells.{kept_trans}
 use Rattle.stretches.specs.Outcome.{Worked}
-use Rattle.swaps.specs.declared.Swap.{Swap}
-use Rattle.swaps.specs.Swapping.{swap_in, Swappable}
+use Rattle.swaps.specs.Swapping.{Swappable}
 use Rattle.swaps.proofs.Replaced as swaps
 use Rattle.worth.specs.Outcome.{Found}
 

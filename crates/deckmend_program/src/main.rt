@@ -1,0 +1,8 @@
+// deckmend as a program.
+#![tactic(auto)]
+
+use std::process::ExitCode;
+
+fn main(rt: HostRuntime) -> ExitCode {
+    shell::exit_code(further_programs::deckmend_run(&rt))
+}

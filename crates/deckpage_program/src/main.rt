@@ -1,0 +1,8 @@
+// deckpage as a program.
+#![tactic(auto)]
+
+use std::process::ExitCode;
+
+fn main(rt: HostRuntime) -> ExitCode {
+    shell::exit_code(further_programs::deckpage_run(&rt))
+}

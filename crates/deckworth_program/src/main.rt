@@ -1,0 +1,8 @@
+// deckworth as a program.
+#![tactic(auto)]
+
+use std::process::ExitCode;
+
+fn main(rt: HostRuntime) -> ExitCode {
+    shell::exit_code(further_programs::deckworth_run(&rt))
+}

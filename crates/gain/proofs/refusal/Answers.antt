@@ -1,0 +1,31 @@
+-- `refusal` gives the figures' own with the spare's number among those of 4. Assumes nothing.
+use borrow.Author.Rules.{rules}
+use mathlib.Core.Path.{◌≡◌, ap, ap₂, ◌∙◌}
+use lib.Dec.{ltb}
+use Rattle.rules.specs.Asked.{Asked, asked_of, unit_in}
+use Rattle.gain.specs.Outcome.{with_spare}
+use Rattle.gain.proofs.Refused.{with-spare}
+use Rattle.gain.proofs.refusal.Goals as goal
+use Rattle.gain.proofs.refusal.Goals.{Start}
+
+abbrev asked : Start → Asked
+asked c =
+    asked_of c.args.question c.args.survival.now c.args.weights.now c.args.more.now c.args.boards.now c.args.switchboards.now
+
+pub refusal-own-requires : goal.refusal-own-requires
+refusal-own-requires c = search rules
+
+pub is_decimal-requires : goal.is_decimal-requires
+is_decimal-requires c = search rules
+
+pub whole-all-requires : goal.whole-all-requires
+whole-all-requires c = search rules
+
+pub with_spare-requires : goal.with_spare-requires
+with_spare-requires c = search rules
+
+pub returns : goal.returns
+returns c =
+    let q = asked ((goal.at.returns c).Start) in
+    let unit : c.whole-all.result ≡ unit_in q = c.whole-all.ensures ∙ c.is_decimal.ensures in
+    c.with_spare.ensures ∙ ap₂ with_spare (ap (λ u. ltb u c.args.p) unit) c.refusal-own.ensures ∙ with-spare (ltb (unit_in q) c.args.p) q c.args.table.now
