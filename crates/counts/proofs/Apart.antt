@@ -68,17 +68,24 @@ module _ (r : ℕ) where
       from-above (row6 r) (live 0) 0 (suc j) (omega arith) ∙ sym (count-above (λ w. true) (0 - j * (r - 1)) (suc j) (omega arith))
 
   -- and so Pascal's: each failed one but one takes r - 1 components more
-  line6-ways : (j i : ℕ) → line6 r i (suc j) ≡ ways_of (i - j * (r - 1)) (suc j)
-  line6-ways zero zero = no-ways 0
-  line6-ways (suc j) zero = no-ways (suc j)
-  line6-ways zero (suc i) =
+  line6-one : (i : ℕ) → line6 r i 1 ≡ ways_of (i - 0 * (r - 1)) 1
+  line6-one zero = no-ways 0
+  line6-one (suc i) =
       let a : suc i - 0 * (r - 1) ≡ suc i = omega arith in
       let b : i - 0 * (r - 1) ≡ i = omega arith in
-      rw a (line6-suc i 0 ∙ omega (arith, rw b at (line6-ways 0 i), first6 (i - (r - 1)), ways-sum i 0, ways-first i))
-  line6-ways (suc j) (suc i) =
+      rw a (line6-suc i 0 ∙ omega (arith, rw b at (line6-one i), first6 (i - (r - 1)), ways-sum i 0, ways-first i))
+
+  line6-more : (j : ℕ) → ((i : ℕ) → line6 r i (suc j) ≡ ways_of (i - j * (r - 1)) (suc j))
+      → (i : ℕ) → line6 r i (suc (suc j)) ≡ ways_of (i - suc j * (r - 1)) (suc (suc j))
+  line6-more j fewer zero = no-ways (suc j)
+  line6-more j fewer (suc i) =
       let b : i - (r - 1) - j * (r - 1) ≡ i - suc j * (r - 1) = omega arith in
       line6-suc i (suc j)
-      ∙ omega (arith, line6-ways (suc j) i, rw b at (line6-ways j (i - (r - 1))), ways-after i (suc j * (r - 1)) j)
+      ∙ omega (arith, line6-more j fewer i, rw b at (fewer (i - (r - 1))), ways-after i (suc j * (r - 1)) j)
+
+  line6-ways : (j i : ℕ) → line6 r i (suc j) ≡ ways_of (i - j * (r - 1)) (suc j)
+  line6-ways zero i = line6-one i
+  line6-ways (suc j) i = line6-more j (line6-ways j) i
 
   pub line6-is : (i j : ℕ) → line6 r i j ≡ apart_of (r - 1) i j
   unfolding apart_of

@@ -1,4 +1,5 @@
 -- `refusals::rated_refusal` meets its contract: the tests in the code's order are those of the list of refusals, and for kinds other than 2
+-- the total does not matter. Assumes nothing.
 use mathlib.Core.Path.{◌≡◌, sym, ◌∙◌}
 use mathlib.Core.Bool.{Bool, true, false, cond}
 use mathlib.Core.List.{List}
@@ -12,7 +13,6 @@ use Rattle.rules.proofs.Unread.{unread-total}
 use Rattle.refusals.specs.Shared.{rated_refusal}
 use Rattle.refusals.proofs.rated_refusal.Goals as goal
 
--- the total does not matter. Assumes nothing.
 module _ (rule : Rule) (whole listed n t : ℕ) (more : List ℕ) where
   other : (fits : Bool) → ranged rule n 0 more ≡ fits → (rule.kind ≡ 2 → ⊥) → rated_refusal rule whole listed n t more ≡ cond fits 0 6
   unfolding rated_refusal first_of weights_out

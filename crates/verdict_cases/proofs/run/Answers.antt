@@ -1,5 +1,6 @@
 -- `verdict_cases::run` meets its contract: the next case stands within the file, and the lines so far within the buffer. The measure is the
 use mathlib.Core.Path.{refl}
+use Prim.Native.Nat.{◌-◌}
 use native.Mathlib.Omega.{arith}
 use borrow.Author.Rules.{rules}
 use Rattle.casefile.proofs.Run.{case-passed, run-written}

@@ -1,0 +1,30 @@
+-- `chance_of` refuses another version, or tells the file's own answer, which is within 2^30. Assumes nothing.
+use mathlib.Core.Path.{sym, subst, ◌∙◌}
+use borrow.Author.Rules.{rules}
+use Rattle.rules.specs.declared.Rating.{Rating}
+use Rattle.rules.specs.Doubles.{export_of}
+use Rattle.rules.proofs.Unless.{unless-none, unless-some}
+use Rattle.rules.proofs.Within.{loading-within}
+use Rattle.doubles.specs.Floats.{Over}
+use Rattle.export.specs.Outcome.{Tells}
+use Rattle.export.proofs.chance_of.Goals as goal
+
+pub other_refusal-other-requires : goal.other_refusal-other-requires
+other_refusal-other-requires c = search rules
+
+pub returns-then-other-ne0 : goal.returns-then-other-ne0
+unfolding export_of
+returns-then-other-ne0 c =
+    record { answer = rw (unless-some _ _ _ (λ none. c.if-other-ne0.true (c.other_refusal-other.ensures ∙ none))) c.other_refusal-other.ensures }
+
+pub rate_file-requires : goal.rate_file-requires
+rate_file-requires c = search rules
+
+pub told-requires : goal.told-requires
+told-requires c = rw c.rate_file.ensures (loading-within _ _)
+
+pub returns : goal.returns
+unfolding export_of
+returns c =
+    let none = sym c.other_refusal-other.ensures ∙ c.if-other-ne0.false in
+    record { answer = subst (λ (q : Rating). Tells Over Over q c.told.result) (c.rate_file.ensures ∙ sym (unless-none _ _ _ none)) c.told.ensures }
