@@ -24,18 +24,18 @@ slice_bounds-put_changes-end c = search rules
 
 pub put_changes-last-requires : goal.put_changes-last-requires
 put_changes-last-requires c =
-    let few = mended-few c.args.input.now c.args.filled c.args.rest c.mend-mending.ensures c.requires.within.0 (omega (arith, c.buffer-1.given)) c.requires.rooms.0 (omega arith) c.mending-1.given.1 in
-    (omega (arith, few.0, c.mend-mending.auto), omega (arith, few.0, c.requires.1.1))
+    let few = mended-few c.args.input.now c.args.filled c.args.rest c.mend-mending.ensures c.requires.within.0 (omega (arith, c.buffer-1.given)) c.requires.rooms.0 (omega arith) c.in-Mended.is in
+    record { listed = omega (arith, few.0, c.mend-mending.auto); room = omega (arith, few.0, c.requires.rooms.1) }
 
 pub overflow_add-cut : goal.overflow_add-cut
 overflow_add-cut c =
-    let few = mended-few c.args.input.now c.args.filled c.args.rest c.mend-mending.ensures c.requires.within.0 (omega (arith, c.buffer-1.given)) c.requires.rooms.0 (omega arith) c.mending-1.given.1 in
-    omega (arith, few.1, c.requires.0.0, c.requires.0.1, c.buffer-1.given)
+    let few = mended-few c.args.input.now c.args.filled c.args.rest c.mend-mending.ensures c.requires.within.0 (omega (arith, c.buffer-1.given)) c.requires.rooms.0 (omega arith) c.in-Mended.is in
+    omega (arith, few.1, c.requires.within.0, c.requires.within.1, c.buffer-1.given)
 
 pub put_end-end-requires : goal.put_end-end-requires
 put_end-end-requires c =
-    let few = mended-few c.args.input.now c.args.filled c.args.rest c.mend-mending.ensures c.requires.within.0 (omega (arith, c.buffer-1.given)) c.requires.rooms.0 (omega arith) c.mending-1.given.1 in
-    omega (arith, few.0, c.requires.1.1, c.put_changes-last.auto, c.put_changes-last.ensures.1)
+    let few = mended-few c.args.input.now c.args.filled c.args.rest c.mend-mending.ensures c.requires.within.0 (omega (arith, c.buffer-1.given)) c.requires.rooms.0 (omega arith) c.in-Mended.is in
+    omega (arith, few.0, c.requires.rooms.1, c.put_changes-last.auto, c.put_changes-last.ensures.reach)
 
 pub enum_known-mending-in-Refused-1 : goal.enum_known-mending-in-Refused-1
 enum_known-mending-in-Refused-1 c = search rules
@@ -51,8 +51,8 @@ shape_of-out-in-Mended c = search rules
 
 pub returns-in-Mended : goal.returns-in-Mended
 returns-in-Mended c =
-    mended-whole c.args.input.now c.args.filled c.args.rest c.mend-mending.ensures c.requires.within.0 (omega (arith, c.buffer-1.given)) c.requires.rooms.0 (omega arith) c.mending-1.given.1
-    (added_more c.put_changes-last.ensures.0 c.put_end-end.ensures)
+    mended-whole c.args.input.now c.args.filled c.args.rest c.mend-mending.ensures c.requires.within.0 (omega (arith, c.buffer-1.given)) c.requires.rooms.0 (omega arith) c.in-Mended.is
+    (added_more c.put_changes-last.ensures.added c.put_end-end.ensures)
 
 pub shape_of-file-in-Refused : goal.shape_of-file-in-Refused
 shape_of-file-in-Refused c = search rules
@@ -62,5 +62,5 @@ shape_of-out-in-Refused c = search rules
 
 pub returns-in-Refused : goal.returns-in-Refused
 returns-in-Refused c =
-    refused-whole c.args.input.now c.args.filled c.args.rest c.mend-mending.ensures c.requires.within.0 (omega (arith, c.buffer-1.given)) c.requires.rooms.0 (omega arith) c.mending-in-Refused-1.given.1
+    refused-whole c.args.input.now c.args.filled c.args.rest c.mend-mending.ensures c.requires.within.0 (omega (arith, c.buffer-1.given)) c.requires.rooms.0 (omega arith) c.in-Refused.is
     c.put_refused_file-end.ensures

@@ -1,6 +1,5 @@
 -- `mending::put_changes` meets its contract: the buffer so far has the lines of the changes passed, and room for the rest. The measure is the number of changes left. Assumes
 use mathlib.Core.Path.{◌≡◌, refl}
-use Prim.Native.Nat.{◌-◌}
 use native.Mathlib.Omega.{arith}
 use native.Mathlib.Numerals.{add-one}
 use borrow.Author.Rules.{rules}
