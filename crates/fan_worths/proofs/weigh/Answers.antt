@@ -1,0 +1,61 @@
+-- `fan_worths::weigh` meets its contract: the first entries of the arrays are the file's lists. Assumes nothing.
+use mathlib.Core.Path.{sym, ◌∙◌}
+use mathlib.Core.List.{[]}
+use native.Mathlib.Omega.{arith}
+use lib.ListN.{replicate}
+use lib.Seq.{length-take-le}
+use Rattle.rules.specs.Asked.{question_of, asked_of}
+use Rattle.rules.specs.Refusal.{cells}
+use Rattle.rules.specs.Worth.{worth_of}
+use Rattle.rules.specs.File.{deck_in, system_worth}
+use Rattle.deck.proofs.Kept.{few-fans, few-boards, lent-survival, lent-weights, lent-numbers}
+use borrow.Author.Rules.{rules}
+use Rattle.fan_worths.proofs.weigh.Goals as goal
+
+pub survival_in-survival-requires : goal.survival_in-survival-requires
+survival_in-survival-requires c = search rules
+
+pub weights_in-weights-requires : goal.weights_in-weights-requires
+weights_in-weights-requires c = search rules
+
+pub boards_in-boards-requires : goal.boards_in-boards-requires
+boards_in-boards-requires c = search rules
+
+pub board_survival_in-switchboards-requires : goal.board_survival_in-switchboards-requires
+board_survival_in-switchboards-requires c = search rules
+
+pub system_in-system-requires : goal.system_in-system-requires
+system_in-system-requires c = search rules
+
+pub slice_bounds-survival-end : goal.slice_bounds-survival-end
+slice_bounds-survival-end c =
+    omega (arith, few-fans c.requires.headed)
+
+pub slice_bounds-weigh_lists-end : goal.slice_bounds-weigh_lists-end
+slice_bounds-weigh_lists-end c = sym (length-take-le _ _ (omega (arith, few-fans c.requires.headed)))
+
+pub slice_bounds-weights-end : goal.slice_bounds-weights-end
+slice_bounds-weights-end c =
+    omega (arith, few-fans c.requires.headed)
+
+pub slice_bounds-weigh_lists-end-2 : goal.slice_bounds-weigh_lists-end-2
+slice_bounds-weigh_lists-end-2 c = sym (length-take-le _ _ (omega (arith, few-fans c.requires.headed)))
+
+pub slice_bounds-switchboards-end : goal.slice_bounds-switchboards-end
+slice_bounds-switchboards-end c =
+    omega (arith, few-boards c.requires.headed)
+
+pub slice_bounds-weigh_lists-end-3 : goal.slice_bounds-weigh_lists-end-3
+slice_bounds-weigh_lists-end-3 c = sym (length-take-le _ _ (omega (arith, few-boards c.requires.headed)))
+
+pub weigh_lists-requires : goal.weigh_lists-requires
+weigh_lists-requires c = search rules
+
+pub returns : goal.returns
+unfolding system_worth deck_in
+returns c =
+    let survival = lent-survival c.requires.headed c.survival_in-survival.ensures in
+    let weights = lent-weights c.requires.headed c.weights_in-weights.ensures in
+    let numbers = lent-numbers c.requires.headed c.board_survival_in-switchboards.ensures in
+    c.weigh_lists.ensures
+    ∙ (λ i. worth_of (asked_of (question_of (c.requires.headed.says.version i) (c.system_in-system.ensures i).rule (c.system_in-system.ensures i).a (c.system_in-system.ensures i).b) (survival i) (weights i) [] (c.boards_in-boards.ensures i) (numbers i)) c.args.fan (replicate cells 0))
