@@ -11,6 +11,7 @@ use Rattle.deck.specs.Outcome.{Opens}
 use Rattle.deck.proofs.Outcome.{opened-headed}
 use Rattle.between.proofs.Outcome.{loading-in-unit, enclosed}
 use Rattle.between.proofs.chance_between.Goals as goal
+use Rattle.between.proofs.chance_between.Goals.{After-open-opened}
 
 pub open-opened-requires : goal.open-opened-requires
 open-opened-requires c = search rules
@@ -18,7 +19,7 @@ open-opened-requires c = search rules
 pub returns-then-opened-ne0 : goal.returns-then-opened-ne0
 unfolding loading_of
 returns-then-opened-ne0 c =
-    let own = c.open-opened.ensures.refusal in
+    let own = ((goal.at.returns-then-opened-ne0 c).After-open-opened).open-opened.ensures.refusal in
     record { answer = rw (unless-some _ _ _ (λ none. c.if-opened-ne0.true (own ∙ none))) own }
 
 pub is_decimal-requires : goal.is_decimal-requires
@@ -36,10 +37,10 @@ rate_opened-requires c = search rules
 
 pub told-requires : goal.told-requires
 told-requires c =
-    let is = own-unit _ c.open-opened.ensures c.if-opened-ne0.false (c.whole-unit.ensures ∙ c.is_decimal.ensures) in
+    let is = own-unit _ ((goal.at.told-requires c).After-open-opened).open-opened.ensures c.if-opened-ne0.false (c.whole-unit.ensures ∙ c.is_decimal.ensures) in
     rw (c.rate_opened.ensures, is) (loading-in-unit _ _)
 
 pub returns : goal.returns
 returns c =
-    let is = own-unit _ c.open-opened.ensures c.if-opened-ne0.false (c.whole-unit.ensures ∙ c.is_decimal.ensures) in
+    let is = own-unit _ ((goal.at.returns c).After-open-opened).open-opened.ensures c.if-opened-ne0.false (c.whole-unit.ensures ∙ c.is_decimal.ensures) in
     enclosed _ _ _ is c.rate_opened.ensures c.told.ensures

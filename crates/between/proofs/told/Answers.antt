@@ -1,6 +1,5 @@
 -- `told` goes by the rating's cases. Assumes nothing.
-use mathlib.Core.Path.{refl}
-use borrow.Author.Rules.{rules}
+use Rattle.std.proofs.Common.{refl}
 use Rattle.between.proofs.told.Goals as goal
 
 pub ends_of-requires : goal.ends_of-requires

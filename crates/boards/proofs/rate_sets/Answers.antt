@@ -12,7 +12,6 @@ use Rattle.boards.proofs.Working.{boarded-behind, ratable-kept, few-sets, sets-n
 use Rattle.boards.proofs.rate_sets.Goals as goal
 use Rattle.boards.proofs.rate_sets.Goals.{At-loop-out, Joined-own-out, then-own-out, else-own-out}
 
--- the function's entry, from the loop's head
 -- at most so many sets
 few : (c : At-loop-out) → c.sets_of-sets.result ≤ 16
 few c = rw c.sets_of-sets.ensures (few-sets _ c.requires.boarded.few)

@@ -1,5 +1,5 @@
 -- `told` goes by the rating's cases. Assumes nothing.
-use mathlib.Core.Path.{refl}
+use Rattle.std.proofs.Common.{refl}
 use Rattle.export.proofs.told.Goals as goal
 
 pub ends_of-requires : goal.ends_of-requires

@@ -7,7 +7,6 @@ use Rattle.rules.proofs.Unless.{unless-none, unless-some}
 use Rattle.systems.proofs.Answers.{opened-answer, numbered}
 use borrow.Author.Rules.{rules}
 use Rattle.fan_worths.proofs.weigh_file.Goals as goal
-use Rattle.fan_worths.proofs.weigh_file.Goals.{After-open-opened}
 
 pub open-opened-requires : goal.open-opened-requires
 open-opened-requires c = search rules
@@ -18,18 +17,18 @@ refusal-refused-requires c = search rules
 pub returns-then-refused-ne0 : goal.returns-then-refused-ne0
 unfolding worth_loading_of
 returns-then-refused-ne0 c =
-    ap Refused c.refusal-refused.ensures ∙ sym (opened-answer ((goal.at.returns-then-refused-ne0 c).After-open-opened).open-opened.ensures _ Refused _ ∙ unless-some _ _ _ (λ none. c.if-refused-ne0.true (c.refusal-refused.ensures ∙ none)))
+    ap Refused c.refusal-refused.ensures ∙ sym (opened-answer c.open-opened.ensures _ Refused _ ∙ unless-some _ _ _ (λ none. c.if-refused-ne0.true (c.refusal-refused.ensures ∙ none)))
 
 pub overflow_sub-system : goal.overflow_sub-system
 overflow_sub-system c =
-    omega (arith, (numbered ((goal.at.overflow_sub-system c).After-open-opened).open-opened.ensures _ (sym c.refusal-refused.ensures ∙ c.if-refused-ne0.false)).0)
+    omega (arith, (numbered c.open-opened.ensures _ (sym c.refusal-refused.ensures ∙ c.if-refused-ne0.false)).0)
 
 pub weigh-requires : goal.weigh-requires
 weigh-requires c =
-    (numbered ((goal.at.weigh-requires c).After-open-opened).open-opened.ensures _ (sym c.refusal-refused.ensures ∙ c.if-refused-ne0.false)).1
+    (numbered c.open-opened.ensures _ (sym c.refusal-refused.ensures ∙ c.if-refused-ne0.false)).1
 
 pub returns : goal.returns
 unfolding worth_loading_of
 returns c =
     let none = sym c.refusal-refused.ensures ∙ c.if-refused-ne0.false in
-    c.weigh.ensures ∙ sym (opened-answer ((goal.at.returns c).After-open-opened).open-opened.ensures _ Refused _ ∙ unless-none _ _ _ none)
+    c.weigh.ensures ∙ sym (opened-answer c.open-opened.ensures _ Refused _ ∙ unless-none _ _ _ none)

@@ -4,7 +4,6 @@ use Rattle.gain.proofs.Asking.{swappable, as-it-is, after-within, before-within,
 use Rattle.gain.proofs.rate_spare.Goals as goal
 
 -- the two ratings' figures. Assumes nothing.
--- the points of the code: the entry, and the first rating done
 pub rate-after-requires : goal.rate-after-requires
 rate-after-requires c = swappable _ c.args.spare _ c.requires
 

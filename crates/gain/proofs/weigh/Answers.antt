@@ -9,7 +9,6 @@ use Rattle.gain.proofs.Outcome.{answered-found}
 use Rattle.gain.proofs.weigh.Goals as goal
 use Rattle.gain.proofs.weigh.Goals.{After-fan_refusal-refused}
 
--- the refusal that is worked out is the gain's
 refused : (c : After-fan_refusal-refused) → let x = c.args in
     c.fan_refusal-refused.result
     ≡ gain_refusal (asked_of x.question x.survival.now x.weights.now x.more.now x.boards.now x.switchboards.now) x.spare.fan x.spare.p x.table.now

@@ -9,8 +9,6 @@ use Rattle.gaps.proofs.Whole.{start-begun, reached-as, closed, closed_is, hand_f
 use Rattle.gaps.proofs.ring.Goals as goal
 use Rattle.gaps.proofs.ring.Goals.{After-failed-m, In-loop-i}
 
--- the points of the code before the loop, back to the entry
--- and in it, back to its test
 -- a component is left, and the debt that closes the clean ones where it fails
 left-some : (c : In-loop-i) → c.loop-i.i < length c.args.survival.now
 left-some c = rw c.loop-i.invariant.0 at c.loop-i-test.true

@@ -3,13 +3,14 @@ use mathlib.Core.Path.{sym, ap, ◌∙◌}
 use Prim.Native.Nat.{suc, ◌+◌, ◌-◌}
 use native.Mathlib.Omega.{arith}
 use native.Mathlib.Numerals.{add-one}
-use lib.ListN.{length, take, drop, length-drop}
+use lib.ListN.{length, drop, length-drop}
 use lib.Seq.{take_all}
 use borrow.Author.Tests.{lt-ltb, le-ltb}
 use borrow.Author.Rules.{rules}
 use mathlib.Core.Bool.{cond}
 use Rattle.naming.specs.Named.{minus, up_to, number_in, first_in}
 use Rattle.naming.proofs.last_of.Goals as goal
+use Rattle.naming.proofs.last_of.Goals.{Else-at-part}
 
 pub returns-then-at-part : goal.returns-then-at-part
 returns-then-at-part c =
@@ -21,6 +22,12 @@ overflow_add-at c = search rules
 
 pub slice_bounds-number_of-count : goal.slice_bounds-number_of-count
 slice_bounds-number_of-count c = omega (arith, c.requires.1, c.if-at-part.false)
+
+pub slice_bounds-number_of-start : goal.slice_bounds-number_of-start
+slice_bounds-number_of-start c = omega (arith, c.requires.1, c.if-at-part.false)
+
+pub slice_bounds-number_of-end : goal.slice_bounds-number_of-end
+slice_bounds-number_of-end c = search rules
 
 pub number_of-requires : goal.number_of-requires
 number_of-requires c = search rules

@@ -35,6 +35,12 @@ loop-at-init c = (omega arith, whole-left _ _ _)
 pub slice_bounds-up_to-count : goal.slice_bounds-up_to-count
 slice_bounds-up_to-count c = omega (arith, c.loop-at-test.true)
 
+pub slice_bounds-up_to-start : goal.slice_bounds-up_to-start
+slice_bounds-up_to-start c = omega (arith, c.loop-at-test.true)
+
+pub slice_bounds-up_to-end : goal.slice_bounds-up_to-end
+slice_bounds-up_to-end c = omega arith
+
 pub up_to-requires : goal.up_to-requires
 up_to-requires c = search rules
 
@@ -44,6 +50,14 @@ overflow_add-end c =
 
 pub slice_bounds-name_part-count : goal.slice_bounds-name_part-count
 slice_bounds-name_part-count c = omega arith
+
+pub slice_bounds-name_part-start : goal.slice_bounds-name_part-start
+slice_bounds-name_part-start c =
+    omega (arith, c.loop-at-test.true, rest-short ((goal.at.slice_bounds-name_part-start c).After-up_to))
+
+pub slice_bounds-name_part-end : goal.slice_bounds-name_part-end
+slice_bounds-name_part-end c =
+    omega (arith, c.loop-at-test.true, rest-short ((goal.at.slice_bounds-name_part-end c).After-up_to))
 
 pub name_part-named-requires : goal.name_part-named-requires
 name_part-named-requires c = search rules

@@ -1,6 +1,6 @@
 -- `name_part` meets its contract, test by test: what was read are the part's first and last number (Parts). Assumes nothing.
 use mathlib.Core.Path.{◌≡◌, sym, ap, ◌∙◌}
-use mathlib.Core.Bool.{true, false, cond}
+use mathlib.Core.Bool.{true, cond}
 use native.Mathlib.Omega.{arith}
 use lib.ListN.{take}
 use lib.Seq.{length-take-le}
@@ -21,13 +21,13 @@ first-is c =
 -- what the two tests ask
 first-in : (c : Else-outside) → within 1 (first_in c.args.part.now) c.args.n ≡ true
 first-in c =
-    rw (c.number_of-first.ensures ∙ ap (λ k. number_in (take k c.args.part.now)) c.up_to-at.ensures.0)
-    at (not-false (within 1 c.number_of-first.result c.args.n) (sym c.outside.ensures ∙ c.if-outside.false))
+    let first : c.number_of-first.result ≡ first_in c.args.part.now = c.number_of-first.ensures ∙ ap (λ k. number_in (take k c.args.part.now)) c.up_to-at.ensures.0 in
+    rw first at (not-false (within 1 c.number_of-first.result c.args.n) (sym c.outside.ensures ∙ c.if-outside.false))
 
 last-in : (c : Else-outside-2) → within (first_in c.args.part.now) (last_in c.args.part.now) c.args.n ≡ true
 last-in c =
-    rw (c.number_of-first.ensures ∙ ap (λ k. number_in (take k c.args.part.now)) c.up_to-at.ensures.0, c.last_of-last.ensures)
-    at (not-false (within c.number_of-first.result c.last_of-last.result c.args.n) (sym c.outside-2.ensures ∙ c.if-outside-2.false))
+    let first : c.number_of-first.result ≡ first_in c.args.part.now = c.number_of-first.ensures ∙ ap (λ k. number_in (take k c.args.part.now)) c.up_to-at.ensures.0 in
+    rw (first, c.last_of-last.ensures) at (not-false (within c.number_of-first.result c.last_of-last.result c.args.n) (sym c.outside-2.ensures ∙ c.if-outside-2.false))
 
 pub returns-then-named : goal.returns-then-named
 returns-then-named c = search rules

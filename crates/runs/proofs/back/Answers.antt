@@ -20,7 +20,6 @@ end_value-ends-requires c = search rules
 pub loop-i-init : goal.loop-i-init
 loop-i-init c = rw c.rest-i.ensures (back-first c.requires c.end_value-ends.ensures)
 
--- the points of the code, back to the entry
 -- the numbers of the component
 chance : (c : After-read)
     → Chance (whole c.args.decimal) c.args.survival.now

@@ -22,7 +22,6 @@ pub loop-i-init : goal.loop-i-init
 loop-i-init c y =
     leading-first y (rw (c.works.ensures ∙ le-ltb c.args.k c.args.k (omega arith)) at c.end_value-opened.ensures)
 
--- the points of the code, back to the entry
 -- the numbers of the component
 chance : (c : After-read)
     → Chance (whole c.args.decimal) c.args.survival.now

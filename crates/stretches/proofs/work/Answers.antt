@@ -14,7 +14,6 @@ use Rattle.stretches.proofs.Part.{Handed, inside, fits, listed, handed-able, han
 use Rattle.stretches.proofs.work.Goals as goal
 use Rattle.stretches.proofs.work.Goals.{After-is_decimal-decimal}
 
--- the points of the code that are named below: the entry, where the rule is at hand, and where the lists are
 -- what is asked, and the part of a list that is handed on
 abbrev asked : After-is_decimal-decimal → Asked
 asked c =

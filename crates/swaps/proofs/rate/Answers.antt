@@ -26,7 +26,6 @@ two c = placed _ _ c.requires.none c.args.swap.second c.requires.second
 few : (c : Start) → length_of (asked c) ≤ most
 few c = listed _ _ c.requires.none
 
--- the points of the code: the entry, before the list is copied and after it
 pub overflow_sub-first : goal.overflow_sub-first
 overflow_sub-first c = omega (arith, one ((goal.at.overflow_sub-first c).Start))
 

@@ -13,7 +13,6 @@ abbrev asked : Start → Asked
 asked c =
     asked_of c.args.question c.args.survival.now c.args.weights.now c.args.more.now c.args.boards.now c.args.switchboards.now
 
--- the points of the code: the entry, the unit known, the first rating done
 -- the number of a fan that is sure to work
 unit : (c : After-whole) → c.whole.result ≡ unit_in (asked c.before.before.before.before.before.before.before.before.before)
 unit c = c.whole.ensures ∙ c.is_decimal.ensures

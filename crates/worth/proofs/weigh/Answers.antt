@@ -9,7 +9,6 @@ use Rattle.worth.proofs.Outcome.{answered-found}
 use Rattle.worth.proofs.weigh.Goals as goal
 use Rattle.worth.proofs.weigh.Goals.{After-fan_refusal-refused}
 
--- the refusal that is worked out is the worth's
 refused : (c : After-fan_refusal-refused) → let x = c.args in
     c.fan_refusal-refused.result
     ≡ worth_refusal (asked_of x.question x.survival.now x.weights.now x.more.now x.boards.now x.switchboards.now) x.fan x.table.now

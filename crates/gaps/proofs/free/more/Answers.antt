@@ -10,7 +10,6 @@ worked-requires c = search rules
 pub at_hand-works-requires : goal.at_hand-works-requires
 at_hand-works-requires c = ap (λ m. m.owed) c.worked.ensures ∙ omega (arith, c.requires.none)
 
--- the entry, from where the survival number is read
 pub chance-p-requires : goal.chance-p-requires
 chance-p-requires c = search rules
 

@@ -15,7 +15,6 @@ failed-m-requires c = omega (arith, c.requires.holds.asked.two)
 pub lesser-last-requires : goal.lesser-last-requires
 lesser-last-requires c = search rules
 
--- the points of the code, back to the entry
 -- the debt of a failed component
 debt : (c : After-lesser-last) → c.failed-m.result ≡ owed c.args.s.free.clean (c.args.r - 1)
 debt c = failed-is c.args.r c.args.s.free c.requires.none c.failed-m.ensures

@@ -12,7 +12,6 @@ use Rattle.gaps.proofs.free.reach_paid.Goals.{After-failed-m, In-loop-left}
 pub failed-m-requires : goal.failed-m-requires
 failed-m-requires c = omega (arith, c.requires.holds.asked.two)
 
--- the points of the code, back to the entry
 -- the debt of a failed component
 debt : (c : After-failed-m) → c.failed-m.result ≡ owed c.args.s.free.clean (c.args.r - 1)
 debt c = failed-is c.args.r c.args.s.free (ap (λ m. m.owed) c.requires.free) c.failed-m.ensures

@@ -4,7 +4,6 @@ use native.Mathlib.Omega.{arith}
 use Rattle.gaps.proofs.Paying.{back-first, back_last, back-due, back_more}
 use Rattle.gaps.proofs.owed.back.Goals as goal
 
--- the entry, from the loop's head
 pub loop-i-init : goal.loop-i-init
 loop-i-init c = (c.requires.order, back-first c.requires.value)
 

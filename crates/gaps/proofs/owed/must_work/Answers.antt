@@ -7,7 +7,6 @@ use Rattle.memory.proofs.Moves.{owed-worked-before}
 use Rattle.gaps.proofs.Paying.{due-must, due-more, due-place}
 use Rattle.gaps.proofs.owed.must_work.Goals as goal
 
--- the entry, from where the survival number is read
 pub before-m-requires : goal.before-m-requires
 before-m-requires c = omega (arith, c.requires.alive)
 

@@ -31,7 +31,6 @@ works-requires c = search rules
 pub end_value-ends-requires : goal.end_value-ends-requires
 end_value-ends-requires c = search rules
 
--- the points of the code, back to the entry
 -- the table as it was worked, at the loop's head
 kept : (c : At-loop-i) → Kept c.args.table.now c.loop-i.table
 kept c = kept_trans c.prepare.ensures.kept (kept_trans c.write.ensures.kept c.loop-i.invariant.2.kept)

@@ -23,9 +23,6 @@ loop-i-init c = (omega arith, omega arith, omega arith, refl)
 pub bounds-word-i : goal.bounds-word-i
 bounds-word-i c = omega arith
 
-pub overflow_cast-digit : goal.overflow_cast-digit
-overflow_cast-digit c = omega (arith, c.shared_slice_known-in-loop-i-1.given c.loop-i.i)
-
 pub outside-requires : goal.outside-requires
 outside-requires c = search rules
 

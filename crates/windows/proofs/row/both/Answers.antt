@@ -12,8 +12,6 @@ use Rattle.windows.proofs.row.both.Goals as goal
 use Rattle.windows.proofs.row.both.Goals.{After-failing-fails_older}
 
 -- nothing.
--- the points of the code, from the last value that is read back to the entry
--- and from the first value that is written back to that one
 -- what is read: where the component works, where it fails, and where it fails of the older one
 abbrev Follows : After-failing-fails_older → Bool → Ends → Type 0
 Follows c must e =

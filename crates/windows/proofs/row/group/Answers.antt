@@ -6,7 +6,6 @@ use Rattle.windows.specs.Groups.{list_at, count_at}
 use Rattle.windows.proofs.Working.{partly_none, entry-same, ready-still, partly_more}
 use Rattle.windows.proofs.row.group.Goals as goal
 
--- the list's begin and the entry, from the loop's head
 pub list_at-at-requires : goal.list_at-at-requires
 list_at-at-requires c = tt
 

@@ -3,7 +3,6 @@ use borrow.Author.Rules.{rules}
 use Rattle.windows.proofs.Levels.{handed, handed-second, handed-third, handed-fourth, all-swept}
 use Rattle.windows.proofs.row.sweep.Goals as goal
 
--- the call before each
 pub group-requires : goal.group-requires
 group-requires c = handed c.requires.midway _ _
 

@@ -15,7 +15,6 @@ shifted : {n left : ℕ} → n ≤ 64 → left < n → 1 * 2 ^ (n - (left + 1)) 
 shifted {n} {left} size more =
     shl_exact 1 (n - (left + 1)) 64 (omega arith) (omega arith) ∙ one-mul (2 ^ (n - (left + 1))) ∙ ap (λ x. 2 ^ (n - x)) (add-one left)
 
--- the lists cut, and the entry, from where the survival number is read
 pub overflow_add-left : goal.overflow_add-left
 overflow_add-left c = search rules
 

@@ -1,0 +1,22 @@
+-- `fitted::put_parts` meets its contract: a pair is no longer than its room. Assumes nothing.
+use Rattle.text.specs.Decimal.{text}
+use native.Mathlib.Omega.{arith}
+use Rattle.text.proofs.Adding.{pair-reach}
+use borrow.Author.Rules.{rules}
+use Rattle.telling.proofs.fitted.put_parts.Goals as goal
+
+pub overflow_sub-out : goal.overflow_sub-out
+overflow_sub-out c = search rules
+
+pub returns-then-out-at-lt-ROOM : goal.returns-then-out-at-lt-ROOM
+returns-then-out-at-lt-ROOM c = search rules
+
+pub put_pair-requires : goal.put_pair-requires
+put_pair-requires c = search rules
+
+pub shape_of-out : goal.shape_of-out
+shape_of-out c = search rules
+
+pub returns : goal.returns
+returns c =
+    omega (arith, pair-reach (text " low ") c.args.low (text " high ") c.args.high c.put_pair.ensures)
