@@ -11,15 +11,13 @@ use Rattle.season_stream.specs.Reading.{season_in}
 use Rattle.season_stream.proofs.Empty.{none-decks, none_open}
 use Rattle.season_stream.proofs.Going.{season-from}
 use borrow.Author.Rules.{rules}
-use Rattle.season_stream.proofs.start.Statement.{statement}
-use Rattle.season_stream.proofs.start.Tie as tie
+use Rattle.season_stream.proofs.start.Goals as goal
 
-none-requires : tie.Need-none-requires
-none-requires c κs = search rules
+pub none-totals-requires : goal.none-totals-requires
+none-totals-requires c = search rules
 
-returns : tie.Need-returns
+pub returns : goal.returns
 returns c =
-    let none = c.none.ensures in
     record {
       sane = record {
         room = length-replicate {A = ℕ} longest 0;
@@ -28,12 +26,9 @@ returns c =
           few = omega arith;
           asking = omega (arith, shortest-least []);
           full = λ f. refl;
-          decks = omega (arith, none-decks none);
-          spare = λ l. none_open none;
+          decks = omega (arith, none-decks c.none-totals.ensures);
+          spare = λ l. none_open c.none-totals.ensures;
         };
       };
-      on = λ rest. season-from rest ∙ ap (λ t. season_in most_files t rest) (sym none);
+      on = λ rest. season-from rest ∙ ap (λ t. season_in most_files t rest) (sym c.none-totals.ensures);
     }
-
-pub start_spec : {M : Type 1} → statement M
-start_spec = tie.close (tie.spec none-requires returns)
