@@ -23,12 +23,6 @@ overflow_add-end c = omega (arith, c.wanted.ensures.1)
 pub slice_bounds-taken-count : goal.slice_bounds-taken-count
 slice_bounds-taken-count c = omega arith
 
-pub slice_bounds-taken-start : goal.slice_bounds-taken-start
-slice_bounds-taken-start c = omega arith
-
-pub slice_bounds-taken-end : goal.slice_bounds-taken-end
-slice_bounds-taken-end c = omega (arith, c.wanted.ensures.1)
-
 pub taken-next-requires : goal.taken-next-requires
 taken-next-requires c =
     let one : c.loop-at.at + c.wanted.result - c.loop-at.at ≡ c.wanted.result = omega arith in

@@ -1,7 +1,9 @@
 -- `lacks` meets its contract: one byte, or what the file still asks for. Assumes nothing.
 use mathlib.Core.Path.{sym}
+use Prim.Native.Nat.{◌-◌}
 use native.Mathlib.Omega.{arith}
 use lib.Seq.{length-take-le}
+use Rattle.ending.specs.Ending.{asks}
 use Rattle.season_stream.proofs.Feeding.{takes-closed, takes-full}
 use borrow.Author.Rules.{rules}
 use Rattle.season_stream.proofs.lacks.Goals as goal

@@ -1,0 +1,68 @@
+-- `mending::put_changes` meets its contract: the buffer so far has the lines of the changes passed, and room for the rest. The measure is the number of changes left. Assumes
+use mathlib.Core.Path.{◌≡◌, refl}
+use native.Mathlib.Omega.{arith}
+use native.Mathlib.Numerals.{add-one}
+use borrow.Author.Rules.{rules}
+use Rattle.text.proofs.Adding.{none-added, added_more}
+use Rattle.deckmend.specs.Lines.{changes_text}
+use Rattle.deckmend.proofs.Lengths.{changes-short}
+use Rattle.deckmend.proofs.mending.put_changes.Goals as goal
+
+pub loop-i-init : goal.loop-i-init
+unfolding changes_text
+loop-i-init c = (omega arith, refl, none-added c.args.out.now 0)
+
+pub overflow_mul-at : goal.overflow_mul-at
+overflow_mul-at c = omega (arith, c.requires.listed)
+
+pub offset_bounds-list-at : goal.offset_bounds-list-at
+offset_bounds-list-at c = search rules
+
+pub bounds-list-at : goal.bounds-list-at
+bounds-list-at c =
+    omega (arith, c.requires.listed)
+
+pub overflow_add-at : goal.overflow_add-at
+overflow_add-at c =
+    omega (arith, c.requires.listed)
+
+pub offset_bounds-list-at-in-loop-i : goal.offset_bounds-list-at-in-loop-i
+offset_bounds-list-at-in-loop-i c = search rules
+
+pub bounds-list-at-in-loop-i : goal.bounds-list-at-in-loop-i
+bounds-list-at-in-loop-i c =
+    omega (arith, c.requires.listed)
+
+pub overflow_add-at-in-loop-i : goal.overflow_add-at-in-loop-i
+overflow_add-at-in-loop-i c =
+    omega (arith, c.requires.listed)
+
+pub offset_bounds-list-at-in-loop-i-2 : goal.offset_bounds-list-at-in-loop-i-2
+offset_bounds-list-at-in-loop-i-2 c = search rules
+
+pub bounds-list-at-in-loop-i-2 : goal.bounds-list-at-in-loop-i-2
+bounds-list-at-in-loop-i-2 c =
+    omega (arith, c.requires.listed)
+
+pub put_change-end-requires : goal.put_change-end-requires
+put_change-end-requires c =
+    omega (arith, c.requires.room, c.loop-i.invariant.1, c.loop-i.invariant.2.ends, changes-short c.loop-i.i c.args.list.now)
+
+pub overflow_add-i : goal.overflow_add-i
+overflow_add-i c = search rules
+
+pub loop-i-smaller : goal.loop-i-smaller
+loop-i-smaller c = omega arith
+
+pub loop-i-preserved : goal.loop-i-preserved
+unfolding changes_text
+loop-i-preserved c =
+    (omega arith, omega (arith, c.put_change-end.auto, c.loop-i.invariant.1), rw add-one (added_more c.loop-i.invariant.2 c.put_change-end.ensures))
+
+pub shape_of-out : goal.shape_of-out
+shape_of-out c = c.loop-i.invariant.1
+
+pub returns : goal.returns
+returns c =
+    let e : c.loop-i.i ≡ c.args.changed = omega (arith, c.loop-i.invariant.0) in
+    record { added = rw e at c.loop-i.invariant.2; reach = omega (arith, e, c.loop-i.invariant.2.ends, changes-short c.loop-i.i c.args.list.now) }
