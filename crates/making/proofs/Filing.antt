@@ -1,20 +1,17 @@
 -- What is written where the writer does not refuse: the room's front is the file. And what follows where nothing is told, or something. Assumes nothing.
-use mathlib.Core.Path.{◌≡◌, refl, sym, ap, ◌∙◌}
-use mathlib.Core.Bool.{false, cond}
-use mathlib.Core.List.{List, [], ◌∷◌, ◌++◌}
-use Prim.Native.Nat.{ℕ, ◌+◌, ◌≤◌}
+use mathlib.Core.Path.{◌≡◌, sym, ap, ◌∙◌}
+use mathlib.Core.List.{List, [], ◌++◌}
+use Prim.Native.Nat.{ℕ, ◌≤◌}
 use native.Mathlib.Omega.{arith}
-use lib.Dec.{eqb}
-use lib.ListN.{length, take, drop, length-append, length-take}
+use lib.ListN.{length, take, drop, length-append}
 use lib.Seq.{length-take-le, take-append_seam}
-use borrow.Author.Tests.{eq-eqb, ne_eqb, le-ltb}
+use borrow.Author.Tests.{le-ltb}
 use Rattle.io.specs.Counts.{IsPrefixLen}
-use Rattle.rules.specs.declared.Writing.{Writing}
 use Rattle.rules.specs.declared.Writing.TheVariants.{Written, Refused}
-use Rattle.rules.specs.Writing.{Typed, bytes_for, short_for, write_refusal, room_written}
+use Rattle.rules.specs.Writing.{Typed, bytes_for, write_refusal, room_written}
 use Rattle.rules.proofs.Unless.{unless-none}
 use Rattle.writer.specs.Outcome.{Wrote}
-use Rattle.grammar.specs.Text.{Listed, Fault, nothing, with_lines, last_faults, typed_by}
+use Rattle.grammar.specs.Text.{nothing, with_lines, last_faults, typed_by}
 use Rattle.grammar.proofs.Accepted.{lines-written}
 use Rattle.making.specs.Made.{file_room}
 use Rattle.making.proofs.Lengths.{listed-short}

@@ -1,22 +1,19 @@
 -- How long what is written can be: a file of what is listed fits the longest file's room, and warnings are so many times the longest. Assumes nothing.
-use mathlib.Core.Path.{◌≡◌, sym}
 use mathlib.Core.Bool.{Bool, true, false, cond}
-use mathlib.Core.List.{List, [], ◌++◌}
-use Prim.Native.Nat.{ℕ, zero, suc, ◌+◌, ◌*◌, ◌/◌, ◌≤◌}
+use mathlib.Core.List.{List, []}
+use Prim.Native.Nat.{ℕ, zero, suc, ◌*◌, ◌≤◌}
 use native.Mathlib.Omega.{arith}
 use lib.ListN.{length, length-append}
 use Rattle.rules.specs.declared.Rating.{Rating}
 use Rattle.rules.specs.declared.Rating.TheVariants.{Range, Refused}
 use Rattle.rules.specs.Boards.{has_boards, boards_read}
-use Rattle.rules.specs.File.{most_systems, per_system, loading_of}
+use Rattle.rules.specs.File.{most_systems, loading_of}
 use Rattle.rules.specs.Writing.{deck_of, bytes_for}
-use Rattle.text.specs.Decimal.{text, decimal}
-use Rattle.text.specs.Lines.{named}
 use Rattle.text.proofs.Digits.{decimal-short}
 use Rattle.deck.proofs.File.{file-length}
 use Rattle.layout.proofs.Versions.{header-bounds}
 use Rattle.writer.proofs.Writable.{count-is}
-use Rattle.grammar.specs.Text.{Listed, nothing, with_lines, numbers_of, typed_by}
+use Rattle.grammar.specs.Text.{Listed, nothing, with_lines, typed_by}
 use Rattle.grammar.proofs.Listing.{Kept, kept_read}
 use Rattle.grammar.proofs.Accepted.{fives}
 use Rattle.making.specs.Lines.{warning_text, warning_room, warnings_text}

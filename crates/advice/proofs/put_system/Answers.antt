@@ -63,5 +63,5 @@ shape_of-out-in_default c = search rules
 pub returns-in_default : goal.returns-in_default
 unfolding forms
 returns-in_default c =
-    let last : c.args.why.row ≡ too_heavy = omega (arith, c.requires.row, c.in_default.in_default-own.rest.1, c.in_default.in_default-own.rest.0.1, c.in_default.in_default-own.rest.0.0.1, c.in_default.in_default-own.rest.0.0.0.1) in
+    let last : c.args.why.row ≡ too_heavy = omega (arith, c.requires.row) in
     worded c.args.why too_heavy last refl c.numbers_of-numbers.ensures c.put_form-in_default.ensures

@@ -30,12 +30,6 @@ offset_bounds-weights-from c = omega (arith, in-stretch c.args.a c.args.b c.args
 pub slice_bounds-result-count-2 : goal.slice_bounds-result-count-2
 slice_bounds-result-count-2 c = omega (arith, in-stretch c.args.a c.args.b c.args.n c.requires)
 
--- WAS slice-bounds-result-start-3
--- part-result-start-3 c = omega (arith, in-stretch c.before.before.before.args.a c.before.before.before.args.b c.before.before.before.args.n c.before.before.before.requires)
-
--- WAS slice-bounds-result-end-3
--- part-result-end-3 c = omega (arith, in-stretch c.before.before.before.args.a c.before.before.before.args.b c.before.before.before.args.n c.before.before.before.requires, c.if2.false)
-
 pub returns : goal.returns
 unfolding rated_of
 returns c = rw (eq-eqb _ _ c.if-rule-ne-WEIGHT.false, eq-eqb _ _ c.if-weights-n.false) (part-is _ _ _ _ c.requires)

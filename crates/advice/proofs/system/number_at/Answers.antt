@@ -1,5 +1,4 @@
 -- `system::number_at` meets its contract: behind a list's end there is 0. Assumes nothing.
-use native.Mathlib.Omega.{arith}
 use mathlib.Core.Path.{sym}
 use lib.ListN.{get_or-eq_default}
 use borrow.Author.Rules.{rules}
@@ -10,9 +9,6 @@ offset_bounds-numbers-i c = search rules
 
 pub bounds-numbers-i : goal.bounds-numbers-i
 bounds-numbers-i c = search rules
-
-pub overflow_cast-result : goal.overflow_cast-result
-overflow_cast-result c = omega (arith, c.shared_slice_known-1.given c.args.i)
 
 pub returns-then-i-numbers : goal.returns-then-i-numbers
 returns-then-i-numbers c = search rules

@@ -34,7 +34,7 @@ returns-then-number-eq-SURVIVAL c =
 pub weight_from-weight-requires : goal.weight_from-weight-requires
 weight_from-weight-requires c =
     let on-deck = in-stretch c.args.system.a c.args.system.b (length c.args.survival.now) c.requires.stretch in
-    (omega (arith, on-deck), omega (arith, on-deck, c.requires.alike), omega (arith, c.requires.alike, c.requires.few.0))
+    (omega (arith, on-deck), omega (arith, on-deck, c.requires.alike), omega (arith, c.requires.alike, c.requires.few))
 
 pub because-requires : goal.because-requires
 because-requires c = search rules

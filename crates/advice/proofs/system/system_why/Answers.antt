@@ -1,6 +1,7 @@
 -- `system::system_why` meets its contract: the first entries of the arrays are the file's lists. Assumes nothing.
-use mathlib.Core.Path.{sym, ◌∙◌}
+use mathlib.Core.Path.{◌≡◌, sym, ◌∙◌}
 use native.Mathlib.Omega.{arith}
+use lib.ListN.{length, take}
 use lib.Seq.{length-take-le}
 use Rattle.rules.specs.File.{deck_in}
 use Rattle.deck.proofs.Kept.{few-fans, few-boards, lent-survival, lent-weights, lent-numbers}
@@ -43,9 +44,9 @@ slice_bounds-lists_why-end-3 c = sym (length-take-le _ _ (omega (arith, few-boar
 
 pub lists_why-requires : goal.lists_why-requires
 lists_why-requires c =
-    let fans = length-take-le c.args.head.fans c.survival_in-survival.result (omega (arith, few-fans c.requires.headed)) in
-    let weights = length-take-le c.args.head.fans c.weights_in-weights.result (omega (arith, few-fans c.requires.headed)) in
-    let boards = length-take-le c.args.head.boards c.board_survival_in-switchboards.result (omega (arith, few-boards c.requires.headed)) in
+    let fans : length (take c.args.head.fans c.survival_in-survival.result) ≡ c.args.head.fans = length-take-le _ _ (omega (arith, few-fans c.requires.headed)) in
+    let weights : length (take c.args.head.fans c.weights_in-weights.result) ≡ c.args.head.fans = length-take-le _ _ (omega (arith, few-fans c.requires.headed)) in
+    let boards : length (take c.args.head.boards c.board_survival_in-switchboards.result) ≡ c.args.head.boards = length-take-le _ _ (omega (arith, few-boards c.requires.headed)) in
     record { alike = weights ∙ sym fans; few = (omega (arith, fans, few-fans c.requires.headed), omega (arith, boards, few-boards c.requires.headed)) }
 
 pub returns : goal.returns

@@ -1,5 +1,4 @@
 -- `why::above_from` meets its contract: what is found from the place at hand on is what is found from the first. The measure is what is left. Assumes nothing.
-use Prim.Native.Nat.{◌-◌}
 use native.Mathlib.Omega.{arith}
 use Rattle.advice.proofs.Scanning.{none-searched, one-searched, found, not_found}
 use Rattle.advice.proofs.why.above_from.Goals as goal
@@ -12,9 +11,6 @@ offset_bounds-numbers-i c = omega (arith, c.loop-i-test.true, c.requires)
 
 pub bounds-numbers-i : goal.bounds-numbers-i
 bounds-numbers-i c = omega (arith, c.loop-i-test.true, c.requires)
-
-pub overflow_cast-numbers : goal.overflow_cast-numbers
-overflow_cast-numbers c = omega (arith, c.shared_slice_known-1.given c.loop-i.i)
 
 pub returns-then-numbers-i : goal.returns-then-numbers-i
 returns-then-numbers-i c =

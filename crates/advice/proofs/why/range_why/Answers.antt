@@ -1,4 +1,5 @@
 -- `why::range_why` meets its contract: each arm is the row of its kind, and what is left are the kinds of failed ones in a row. Assumes nothing.
+use native.Mathlib.Omega.{arith}
 use borrow.Author.Tests.{ne_eqb}
 use Rattle.advice.specs.System.{range_why}
 use borrow.Author.Rules.{rules}
@@ -52,5 +53,5 @@ returns-in-8 c = rw c.in-8.is c.because-in-8.ensures
 pub returns-in_default : goal.returns-in_default
 unfolding range_why
 returns-in_default c =
-    rw (ne_eqb c.args.rule.kind 1 c.in_default.in_default-own.rest.0.0.0.0.0.1, ne_eqb c.args.rule.kind 2 c.in_default.in_default-own.rest.0.0.0.0.1, ne_eqb c.args.rule.kind 3 c.in_default.in_default-own.rest.0.0.0.1, ne_eqb c.args.rule.kind 6 c.in_default.in_default-own.rest.0.0.1, ne_eqb c.args.rule.kind 7 c.in_default.in_default-own.rest.0.1, ne_eqb c.args.rule.kind 8 c.in_default.in_default-own.rest.1)
+    rw (ne_eqb c.args.rule.kind 1 (λ e. omega arith), ne_eqb c.args.rule.kind 2 (λ e. omega arith), ne_eqb c.args.rule.kind 3 (λ e. omega arith), ne_eqb c.args.rule.kind 6 (λ e. omega arith), ne_eqb c.args.rule.kind 7 (λ e. omega arith), ne_eqb c.args.rule.kind 8 (λ e. omega arith))
     c.one_why-in_default.ensures
