@@ -1,0 +1,36 @@
+-- `showing::put_boards` meets its contract: the buffer so far has the lines of the boards passed, and room for the rest. The measure is the number of boards
+use mathlib.Core.Path.{sym}
+use Prim.Native.Nat.{◌-◌}
+use native.Mathlib.Omega.{arith}
+use Rattle.rules.specs.Refusal.{most_boards}
+use Rattle.rules.specs.File.{deck_in}
+use Rattle.deck.proofs.Kept.{few-boards}
+use Rattle.printing.proofs.Lined.{no_lines, room-left, one_more, all_lines}
+use Rattle.wording.specs.Lines.{board_room}
+use Rattle.deckshow.proofs.Lengths.{board-line}
+use Rattle.deckshow.proofs.Shown.{boards-shown}
+use Rattle.deckshow.proofs.showing.put_boards.Goals as goal
+
+pub loop-i-init : goal.loop-i-init
+loop-i-init c = no_lines _ _ _ _
+
+pub put_board-end-requires : goal.put_board-end-requires
+put_board-end-requires c = record { headed = c.requires.headed; place = c.loop-i-test.true; room = room-left c.loop-i.invariant board_room most_boards (board-line (deck_in c.args.file.now)) c.loop-i-test.true (few-boards c.requires.headed) c.requires.room }
+
+pub overflow_add-i : goal.overflow_add-i
+overflow_add-i c =
+    omega (arith, c.loop-i-test.true, few-boards c.requires.headed)
+
+pub loop-i-smaller : goal.loop-i-smaller
+loop-i-smaller c = omega (arith, c.loop-i-test.true)
+
+pub loop-i-preserved : goal.loop-i-preserved
+loop-i-preserved c =
+    one_more c.loop-i.invariant c.loop-i-test.true (omega (arith, c.put_board-end.auto)) c.put_board-end.ensures
+
+pub shape_of-out : goal.shape_of-out
+shape_of-out c = c.loop-i.invariant.same
+
+pub returns : goal.returns
+returns c =
+    rw (sym (boards-shown c.requires.headed)) at (all_lines c.loop-i.invariant c.loop-i-test.false)

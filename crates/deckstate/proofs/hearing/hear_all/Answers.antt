@@ -1,0 +1,24 @@
+-- `hearing::hear_all` meets what it calls: nothing of a refused file, else all words. Assumes nothing.
+use Rattle.deck.proofs.Outcome.{opened-accepted, opened-headed}
+use Rattle.deck.proofs.Kept.{few-fans}
+use Rattle.deckstate.proofs.Words.{boards-few}
+use borrow.Author.Rules.{rules}
+use Rattle.deckstate.proofs.hearing.hear_all.Goals as goal
+
+pub silence-hearing-requires : goal.silence-hearing-requires
+silence-hearing-requires c = search rules
+
+pub returns-then-opened-ne0 : goal.returns-then-opened-ne0
+returns-then-opened-ne0 c = search rules
+
+pub boards_in-boards-requires : goal.boards_in-boards-requires
+boards_in-boards-requires c = opened-headed c.requires c.if-opened-ne0.false
+
+pub hear_words-requires : goal.hear_words-requires
+hear_words-requires c = (
+  few-fans (opened-headed c.requires c.if-opened-ne0.false),
+  rw c.boards_in-boards.ensures (boards-few _ (opened-accepted c.requires c.if-opened-ne0.false)),
+)
+
+pub returns : goal.returns
+returns c = search rules

@@ -1,0 +1,53 @@
+-- `telling::put_wrong` meets its contract: the front of the word as it is shown stands between its number and what was wanted. Assumes nothing.
+use native.Mathlib.Omega.{arith}
+use lib.ListN.{take}
+use Rattle.text.specs.Decimal.{text}
+use Rattle.text.proofs.Adding.{added-counts, added_more, named-added, named-reach}
+use Rattle.saying.proofs.Texts.{three-ends, shown-short}
+use borrow.Author.Rules.{rules}
+use Rattle.deckstate.proofs.telling.put_wrong.Goals as goal
+
+pub slice_bounds-put_shown-end : goal.slice_bounds-put_shown-end
+slice_bounds-put_shown-end c = search rules
+
+pub put_shown-length-requires : goal.put_shown-length-requires
+put_shown-length-requires c = search rules
+
+pub put_named-start-requires : goal.put_named-start-requires
+put_named-start-requires c = search rules
+
+pub slice_bounds-put_three-end-2 : goal.slice_bounds-put_three-end-2
+slice_bounds-put_three-end-2 c = search rules
+
+pub slice_bounds-front-end : goal.slice_bounds-front-end
+slice_bounds-front-end c =
+    (added-counts c.put_shown-length.ensures).0
+
+-- WAS slice-aggregate-put-three-2
+-- slice-aggregate-put-three-2 c =
+--     let named = c.before.before.before.before in
+--     let told = named.before.before.before.before in
+--     (added-counts told.put-shown.ensures).1
+
+pub put_three-quoted-requires : goal.put_three-quoted-requires
+put_three-quoted-requires c =
+    let first = named-added (omega (arith, c.requires)) c.put_named-start.ensures in
+    let reach = named-reach (text "deckstate: word ") c.args.wrong first in
+    let counts = (added-counts c.put_shown-length.ensures).1 in
+    omega (arith, c.requires, c.put_named-start.auto, reach, counts, c.put_shown-length.ensures.ends, shown-short c.args.word.now)
+
+pub put_wanted-requires : goal.put_wanted-requires
+put_wanted-requires c =
+    let first = named-added (omega (arith, c.requires)) c.put_named-start.ensures in
+    let reach = named-reach (text "deckstate: word ") c.args.wrong first in
+    let counts = (added-counts c.put_shown-length.ensures).1 in
+    let ends = three-ends (text ", \"") (take c.put_shown-length.result _) (text "\": ") c.put_three-quoted.ensures in
+    omega (arith, c.requires, c.put_named-start.auto, c.put_three-quoted.auto, reach, ends, counts, c.put_shown-length.ensures.ends, shown-short c.args.word.now)
+
+pub shape_of-out : goal.shape_of-out
+shape_of-out c = search rules
+
+pub returns : goal.returns
+returns c =
+    let first = named-added (omega (arith, c.requires)) c.put_named-start.ensures in
+    added_more (added_more first (rw c.put_shown-length.ensures.stands at c.put_three-quoted.ensures)) c.put_wanted.ensures
