@@ -20,11 +20,6 @@ pub slice_bounds-front-end : goal.slice_bounds-front-end
 slice_bounds-front-end c =
     (added-counts c.put_shown-length.ensures).0
 
--- WAS slice-aggregate-put-three-2
--- slice-aggregate-put-three-2 c =
---     let told = c.before.before.before in
---     (added-counts told.put-shown.ensures).1
-
 pub put_three-end-requires : goal.put_three-end-requires
 put_three-end-requires c =
     omega (arith, c.requires.named, c.requires.room, (added-counts c.put_shown-length.ensures).1, c.put_shown-length.ensures.ends, shown-short c.args.word.now)

@@ -23,12 +23,6 @@ pub slice_bounds-front-end : goal.slice_bounds-front-end
 slice_bounds-front-end c =
     (added-counts c.put_shown-length.ensures).0
 
--- WAS slice-aggregate-put-three-2
--- slice-aggregate-put-three-2 c =
---     let named = c.before.before.before.before in
---     let told = named.before.before.before.before in
---     (added-counts told.put-shown.ensures).1
-
 pub put_three-quoted-requires : goal.put_three-quoted-requires
 put_three-quoted-requires c =
     let first = named-added (omega (arith, c.requires)) c.put_named-start.ensures in
