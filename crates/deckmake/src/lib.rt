@@ -1,7 +1,7 @@
 // Makes the deck file that a text lists, or says what cannot be read of it.
 #![tactic(auto)]
 
-mod text; // text.rt: the loop over a text of any length
+mod heard; // heard.rt: the loop over a text of any length
 
 ghost use Rattle.std.specs.Prelude.{◌+◌, ◌≤◌, ◌<◌, length};
 ghost use Rattle.listing.specs.Holds.{most_lines};
@@ -11,9 +11,9 @@ ghost use Rattle.shell.specs.Status.{Status};
 ghost use Rattle.text_stream.specs.Feeding.{line_room, Sane};
 ghost use Rattle.deckmake.specs.Made.{MadeFrom, EndsBy};
 
+use heard::Text;
 use making::Made;
 use shell::starting;
-use text::Text;
 use text_stream::Feeding;
 
 const PROGRAM: [u8; 8] = *b"deckmake";
@@ -73,6 +73,6 @@ pub fn run(rt: &HostRuntime) -> i32
     let asked = heard.asked;
     let mut line = [0u8; text_stream::LINE];
     let mut out = [0u8; making::SAID];
-    let text = text::read_asked(rt, asked, &mut line, &mut out);
+    let text = heard::read_asked(rt, asked, &mut line, &mut out);
     hand_text(rt, text, &line, &mut out, asked.given[OUT])
 }
