@@ -11,7 +11,7 @@ major := $(firstword $(subst ., ,$(version)))
 sources := crates.txt $(shell find crates -mindepth 2 \( -name must-fail -o -name out \) -prune -o -print)
 # the programs: each is a function, NAME_run, that answers the exit status, and a crate NAME_program whose main calls it; those of `make run` stand in a
 # library of their own, so that it proves no more
-called = $(shell sed -n 's/^pub fn \([a-z]*\)_run(.*/\1/p' crates/$(1)/src/lib.rt)
+called = $(shell sed -n 's/^pub fn \([a-z]*\)_run\W.*/\1/p' crates/$(1)/src/lib.rt)
 first := $(call called,first_programs)
 further := $(call called,further_programs)
 programs := $(first) $(further)

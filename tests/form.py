@@ -1,5 +1,6 @@
 """No bare refusal number, kind, limit, unit or version in the code: `rules` has each by its name, with the document's sentence (crates/rules/src: kind, limit,
-refusal, version). And the form that the house keeps: no function of more than eight parameters, forty lines or one loop, no line of code over 120 columns but for texts."""
+refusal, version). And the form that the house keeps: no function of more than eight parameters beside the
+runtime's handle, forty lines or one loop, no line of code over 120 columns but for texts and imports."""
 
 import re
 import sys
@@ -39,7 +40,7 @@ def functions(text):
         while depth:
             depth += {"(": 1, ")": -1}.get(text[at], 0)
             at += 1
-        parameters = [one for one in text[found.end():at - 1].split(",") if one.strip()]
+        parameters = [one for one in text[found.end():at - 1].split(",") if one.strip() and not one.strip().startswith("rt:")]
         indent = " " * (len(found[0]) - len(found[0].lstrip()))
         body = text[text.index(f"\n{indent}{{\n", at) if f"\n{indent}{{\n" in text[at:text.find(f"\n{indent}}}", at)] else at:text.index(f"\n{indent}}}", at)]
         yield found[2], len(parameters), body.count("\n"), len(LOOP.findall(CODE.sub("", body))), bool(found[1]) or found[2].startswith("foambeetle_")
@@ -48,7 +49,7 @@ def functions(text):
 def misshapen(file, text):
     place = file.relative_to(root)
     for number, line in enumerate(text.split("\n"), 1):
-        if len(line) > WIDEST and 'b"' not in line and "\\n" not in line:
+        if len(line) > WIDEST and 'b"' not in line and "\\n" not in line and not line.startswith("ghost use "):
             yield f"{place}:{number}: {len(line)} columns"
     for name, parameters, lines, loops, for_c in functions(text):
         if parameters > PARAMETERS and not for_c:

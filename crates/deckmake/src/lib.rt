@@ -27,7 +27,8 @@ const OUT: usize = 0;
 // Makes the deck of all bytes that were fed, and says what is to be said of it.
 fn make_fed(feeding: Feeding, line: &[u8], file: &mut [u8], out: &mut [u8]) -> Made
     requires sane { Sane feeding out.old × (feeding.listing.lines + 1 < most_lines) }
-    requires line_room_in_bounds { (line_room ≤ length line.now) × (file_room ≤ length file.old) × (warnings_room ≤ length out.old) }
+    requires line_room_in_bounds { (line_room ≤ length line.now) ×
+        (file_room ≤ length file.old) × (warnings_room ≤ length out.old) }
     ensures { MadeFrom feeding line.now out.old file.new out.new result }
 {
     let listing = text_stream::finish(feeding, line, out);

@@ -1,4 +1,5 @@
-// The exports of `loading`: the loading computer's calls under their names for C. Each states its call's contract again.
+// The exports of `loading`: the loading computer's calls under their names for C.
+// Each states its contract again.
 #![tactic(auto)]
 
 ghost use Rattle.loading.specs.Outcome.{Answered, Parted, Told, Gained};

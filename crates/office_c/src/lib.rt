@@ -1,4 +1,5 @@
-// The exports of `office`: the office's calls under their names for C. Each states its call's contract again.
+// The exports of `office`: the office's calls under their names for C.
+// Each states its contract again.
 #![tactic(auto)]
 
 ghost use Rattle.rules.specs.State.{rule_of};

@@ -1,4 +1,5 @@
-// The exports of `ratings`: the calls that the benchmark times under their names for C. Each states its call's contract again.
+// The exports of `ratings`: the calls that the benchmark times under their names for C.
+// Each states its contract again.
 #![tactic(auto)]
 
 ghost use Rattle.ratings.specs.Outcome.{Timed, TimedWorth, TimedCounts};

@@ -6,8 +6,8 @@ use std::env::{Env, FillError};
 // No program has more words.
 pub const MOST_WORDS: usize = 4294967296;
 
-// Puts the word at a place at the front of a buffer and answers its length: 0 where there is none, or one that is longer
-// than the buffer.
+// Puts the word at a place at the front of a buffer and answers its length: 0 where there is none, or one that is
+// longer than the buffer.
 pub fn put_word(rt: &HostRuntime, place: usize, out: &mut [u8]) -> usize
     ensures { IsPrefixLen result out.new }
 {

@@ -6,18 +6,18 @@ use native.Mathlib.Omega.{arith}
 use Rattle.rules.specs.Asked.{Asked, asked_of, unit_in}
 use Rattle.worth.proofs.Asking.{swappable, within, found}
 use Rattle.worth.proofs.rate_sure.Goals as goal
-use Rattle.worth.proofs.rate_sure.Goals.{After-whole, Start}
+use Rattle.worth.proofs.rate_sure.Goals.{After-whole}
 
 -- differences of the two ratings' figures. Assumes nothing.
-abbrev asked : Start → Asked
+abbrev asked : After-whole → Asked
 asked c =
     asked_of c.args.question c.args.survival.now c.args.weights.now c.args.more.now c.args.boards.now c.args.switchboards.now
 
 -- the number of a fan that is sure to work
-unit : (c : After-whole) → c.whole.result ≡ unit_in (asked c.before.before.before.before.before.before.before.before.before)
+unit : (c : After-whole) → c.whole.result ≡ unit_in (asked c)
 unit c = c.whole.ensures ∙ c.is_decimal.ensures
 
-not-above : (c : After-whole) → c.whole.result ≤ unit_in (asked c.before.before.before.before.before.before.before.before.before)
+not-above : (c : After-whole) → c.whole.result ≤ unit_in (asked c)
 not-above c = omega (arith, unit c)
 
 pub is_decimal-requires : goal.is_decimal-requires
