@@ -39,9 +39,6 @@ slice_bounds-finish-end-2 c = search rules
 pub slice_bounds-out-end : goal.slice_bounds-out-end
 slice_bounds-out-end c = search rules
 
--- WAS slice-aggregate-finish-2
--- slice-aggregate-finish-2 c = sym (length-take-le _ _ c.before.before.before.put-file.ensures)
-
 pub finish-requires : goal.finish-requires
 finish-requires c = search rules
 
