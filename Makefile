@@ -35,6 +35,8 @@ installed := $(programs:%=bin/%) $(foreach name,$(libraries),$(call library_file
     $(package:python/foambeetle/%=$(package_place)/%) \
     $(foreach page,$(pages),share/man/man$(subst .,,$(suffix $(page)))/$(notdir $(page)))
 progress := tests/progress.py target/build.log
+# programs and archives run on every processor of the kind
+processor := x86-64
 # a compiler for x86-64, and the kit's C code for programs that take words or open files
 cc = $(shell tests/tools.sh | head -n 1)
 kit_code = $(addprefix $(shell dirname "$$(dirname "$$(readlink -f "$$(command -v rt)")")")/c/,libos_c.a liblibc_c.a)
@@ -96,13 +98,13 @@ $(linked): target/programs/%: target/objects/%.o
 # rt builds a program to run it, and every program has its version to tell.
 $(programs:%=target/objects/%.o): target/objects/%.o: $(sources)
 	@mkdir -p $(@D)
-	@$(progress) $*_program rt run -- --version
+	@$(progress) $*_program rt run --cpu $(processor) -- --version
 	@cp crates/$*_program/out/$*_program.o $@
 
 archived := $(foreach name,$(libraries),$(crate_of_$(name))) ratings_c
 $(archived:%=target/staticlib/lib%.a): target/staticlib/lib%.a: $(sources)
 	@mkdir -p $(@D)
-	@$(progress) $* rt lib
+	@$(progress) $* rt lib --cpu $(processor)
 	@cp crates/$*/out/lib$*.a $@
 
 $(foreach name,$(libraries),$(eval target/lib/lib$(name).a: target/staticlib/lib$(crate_of_$(name)).a))

@@ -7,7 +7,7 @@ import sys
 from tests.common import reported, root
 
 LONGEST = 4
-CHAIN = re.compile(r"[\w'-]+(?:\.before\b(?![-\w])){%d,}" % (LONGEST + 1))
+CHAIN = re.compile(r"[\w')-]+(?:\.before\b(?![-\w])){%d,}" % (LONGEST + 1))
 
 
 def ladders(file, text):

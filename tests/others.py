@@ -56,7 +56,7 @@ TESTS = tuple(Test(*line) for line in (
     ("the programs' words, percents and failures", "python3 -m tests.program"),
     ("the office's writer against the second program", "python3 -m tests.office"),
     ("the guide and README.md are true as printed", "python3 -m tests.walk"),
-    ("each must-fail edit is refused for a fact, within their time", "python3 -m tests.edits", False),
+    ("each must-fail edit is refused for a fact", "python3 -m tests.edits", False),
     ("one version everywhere", "python3 -m tests.version"),
     ("the list of proofs names what there is", "python3 -m tests.names", False),
     ("the library's calls hold within the stack that the ship grants", "python3 -m tests.stack"),

@@ -37,8 +37,11 @@ pub slice_bounds-rate-end-in-loop-j : goal.slice_bounds-rate-end-in-loop-j
 slice_bounds-rate-end-in-loop-j c = search rules
 
 -- a turn's second place is one of the stretch
-in_row : (c : In-loop-j) → c.loop-j.j < size_of (asked c.before.before.before.before.before.before.before.before)
-in_row c = omega (arith, c.loop-j-test.true, stretch-in c.before.before.before.before.before.before.before.before)
+in_row : (c : In-loop-j) → let entered = c.before.before.before.before in
+    c.loop-j.j < size_of (asked entered.before.before.before.before)
+in_row c =
+    let entered = c.before.before.before.before in
+    omega (arith, c.loop-j-test.true, stretch-in entered.before.before.before.before)
 
 pub rate-ends-requires : goal.rate-ends-requires
 rate-ends-requires c =

@@ -65,7 +65,9 @@ handed : (c : After-numbers_of-numbers) → let x = c.args in
     let list = take (length x.survival.now) c.numbers_of-numbers.result in
     (length list ≡ length x.survival.now) × (stretch x.a x.b list ≡ map (whole_of x.up) (stretch x.a x.b (bits_of x.survival.now)))
 handed c =
-    filled-stretch c.args.up c.args.a c.args.b c.args.survival.now (inside c.before.before.before.before.before.before.before) _ (small c.before.before.before.before.before.before.before) c.numbers_of-numbers.ensures
+    let called = c.before.before.before.before in
+    let start = called.before.before.before in
+    filled-stretch c.args.up c.args.a c.args.b c.args.survival.now (inside start) _ (small start) c.numbers_of-numbers.ensures
 
 pub work-requires : goal.work-requires
 work-requires c =
