@@ -208,8 +208,8 @@ def calls(program, words, log):
 
 
 def each_call_failed(program):
-    """Each read, write, opening, renaming and closing is failed once: status 2 and a line, OUT the old one, and nothing left beside it; one that a signal
-    interrupts is tried again."""
+    """Each read, write, opening, syncing and renaming is failed once: status 2 and a line, OUT the old one, and nothing left beside it; one that a signal
+    interrupts is tried again. A closing that fails changes nothing: what was written is on its disk before."""
     if tools()[1] or not shutil.which(STRACE):
         print(f"skipped: calls failed one by one, for which there is no {STRACE} here")
         return True
@@ -224,7 +224,7 @@ def each_call_failed(program):
                 done = subprocess.run(inject, stdin=open(taken(program)), capture_output=True, timeout=60)
                 whole = out.read_bytes() == wanted if program in OUT else done.stdout == wanted
                 old = not (program in OUT) or out.read_bytes() == OLD
-                failed = done.returncode == FAILED and old and (program in OUT or done.stdout != wanted or call == "close")
+                failed = done.returncode == FAILED and old and (program in OUT or done.stdout != wanted) and call != "close"
                 fine = done.returncode == DONE and whole
                 right = (fine if error == "EINTR" else failed or fine) and beside(out) == [out.name]
                 if not right:
