@@ -25,7 +25,6 @@ INSTRUCTION = re.compile(r"^\s+[0-9a-f]+:\s+([a-z]\S*)\s*(.*)$")
 TARGET = re.compile(r"^\s+[0-9a-f]+: R_X86_64_PLT32\s+(?:\.text\.)?([^\s+-]+)")
 INSIDE = re.compile(r"<([^+>]+)>$")  # a call that the compiler has settled itself, of the function that it stands in
 BELOW = re.compile(r"^\$(0x[0-9a-f]+|\d+),%(rsp|r11)$")
-PAGE = 0x1000
 
 
 def disassembled(library):
@@ -41,8 +40,8 @@ def disassembled(library):
 
 
 def moved(code, wrong, name):
-    """How far a function's instructions move the stack down: pushes, and what is subtracted. A frame of more than a page is made page by page up to
-    a mark that is worked out first; the mark is what counts."""
+    """How far a function's instructions move the stack down: pushes, and what is subtracted. A frame of more than a page is made step by step up to
+    a mark that is worked out first: the mark is what counts, and the step behind it is of the loop."""
     depth, marked = 0, False
     for word, rest in code:
         below = BELOW.match(rest)
@@ -51,7 +50,7 @@ def moved(code, wrong, name):
         elif word.startswith("sub") and below and below[2] == "r11":
             depth, marked = depth + int(below[1], 0), True
         elif word.startswith("sub") and below:
-            depth += 0 if marked and int(below[1], 0) == PAGE else int(below[1], 0)
+            depth, marked = depth + (0 if marked else int(below[1], 0)), False
         elif rest.endswith(",%rsp") and not word.startswith(("add", "cmp", "test")):
             wrong.append(f"{name}: {word} {rest} moves the stack in a way that is not known")
     return depth
