@@ -37,7 +37,7 @@ fn last_digits(n: u64) -> [u8; POINT_DIGITS]
     let mut digits = [0u8; POINT_DIGITS];
     let mut left = n;
     let mut k = POINT_DIGITS;
-    while k > 0 {
+    'places: while k > 0 {
         k -= 1;
         digits[k] = ZERO + (left % 10) as u8;
         left = left / 10;

@@ -42,7 +42,8 @@ fn plain(byte: u8) -> u8
     if byte < 32 {
         return b'?';
     }
-    if byte > 126 {
+    let beyond = byte > 126;
+    if beyond {
         return b'?';
     }
     byte

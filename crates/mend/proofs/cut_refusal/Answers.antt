@@ -11,6 +11,7 @@ use Rattle.deck.proofs.Checks.{none_left}
 use Rattle.deck.proofs.Outcome.{head-is}
 use Rattle.mend.specs.Looked.{cut_refusal}
 use borrow.Author.Rules.{rules}
+use Rattle.std.proofs.Common.{◌≢◌}
 use Rattle.mend.proofs.cut_refusal.Goals as goal
 use Rattle.mend.proofs.cut_refusal.Goals.{After-counts_refusal-counted}
 
@@ -28,7 +29,8 @@ pub returns-then-miscounted : goal.returns-then-miscounted
 unfolding cut_refusal
 returns-then-miscounted c =
     let e = counted ((goal.at.returns-then-miscounted c).After-counts_refusal-counted) in
-    e ∙ sym (after-some _ _ (λ none. c.if-miscounted.true (e ∙ none)))
+    let some : c.counts_refusal-counted.result ≢ 0 = c.if-miscounted.true in
+    e ∙ sym (after-some _ _ (λ none. some (e ∙ none)))
 
 pub returns-then-early : goal.returns-then-early
 unfolding cut_refusal

@@ -6,8 +6,8 @@ use lib.ListN.{length, length-set}
 use Rattle.percent.proofs.Digits.{digit-more, all_digits}
 use Rattle.percent.proofs.last_digits.Goals as goal
 
-pub loop-k-init : goal.loop-k-init
-loop-k-init c = (omega arith, omega arith, append-nil _)
+pub places-init : goal.places-init
+places-init c = (omega arith, omega arith, append-nil _)
 
 pub overflow_sub-k : goal.overflow_sub-k
 overflow_sub-k c = omega arith
@@ -21,16 +21,16 @@ overflow_add-digits c = omega arith
 pub bounds-digits-k : goal.bounds-digits-k
 bounds-digits-k c = omega arith
 
-pub loop-k-smaller : goal.loop-k-smaller
-loop-k-smaller c = omega arith
+pub places-smaller : goal.places-smaller
+places-smaller c = omega arith
 
-pub loop-k-preserved : goal.loop-k-preserved
-loop-k-preserved c = (
+pub places-preserved : goal.places-preserved
+places-preserved c = (
   omega arith,
-  length-set c.loop-k.digits _ _ ∙ c.loop-k.invariant.1,
-  digit-more c.loop-k.k c.loop-k.left c.loop-k.digits c.loop-k-test.true (omega arith) ∙ c.loop-k.invariant.2,
+  length-set c.places.digits _ _ ∙ c.places.invariant.1,
+  digit-more c.places.k c.places.left c.places.digits c.places-test.true (omega arith) ∙ c.places.invariant.2,
 )
 
 pub returns : goal.returns
 returns c =
-    sym (all_digits c.loop-k.k c.loop-k.left c.loop-k.digits (omega arith)) ∙ c.loop-k.invariant.2
+    sym (all_digits c.places.k c.places.left c.places.digits (omega arith)) ∙ c.places.invariant.2

@@ -5,8 +5,8 @@ use Rattle.saying.proofs.plain.Goals as goal
 pub returns-then-byte-lt32 : goal.returns-then-byte-lt32
 returns-then-byte-lt32 c = simp (lt-leb _ _ c.if-byte-lt32.true)
 
-pub returns-then-byte-gt126 : goal.returns-then-byte-gt126
-returns-then-byte-gt126 c = simp (le-leb _ _ c.if-byte-lt32.false, lt-leb _ _ c.if-byte-gt126.true)
+pub returns-then-beyond : goal.returns-then-beyond
+returns-then-beyond c = simp (le-leb _ _ c.if-byte-lt32.false, lt-leb _ _ c.if-beyond.true)
 
 pub returns : goal.returns
-returns c = simp (le-leb _ _ c.if-byte-lt32.false, le-leb _ _ c.if-byte-gt126.false)
+returns c = simp (le-leb _ _ c.if-byte-lt32.false, le-leb _ _ c.if-beyond.false)
