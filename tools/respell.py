@@ -6,11 +6,13 @@ definition becomes an underscore (kind-low: kind_low), where no lemma has it. Ty
 kit has stays too. It writes .antt and .rt files, and in other files nothing.
 """
 
+import os
 import pathlib
 import re
+import shutil
 import sys
 
-KIT = pathlib.Path("/opt/rattle/rattle")
+KIT = pathlib.Path(os.path.realpath(shutil.which("rt"))).parent.parent / "rattle"
 WORD = re.compile(r"[^\s(){}\[\].;,@\"«»\\]+")
 DECLARED = re.compile(r"^\s*(?:(?:abbrev|unfoldable|pub|record|data)\s+)*([A-Za-z][\w'-]*)\s*:(?:\s|$)")
 CAMEL = re.compile(r"(?<=[a-z0-9])[A-Z]")
