@@ -116,8 +116,9 @@ $(headers): target/lib/%: include/%
 	@mkdir -p $(@D)
 	@cp $< $@
 
+# the shorter names are copies: rt takes no link below the checkout
 $(shared): target/lib/lib%.so.$(version): target/lib/lib%.a
 	@$(cc) -shared -nostartfiles -Wl,-soname,lib$*.so.$(major),--no-undefined -Wl,-z,noexecstack \
 	    -o $@ -Wl,--whole-archive $< -Wl,--no-whole-archive
-	@ln -sf $(@F) $(@D)/lib$*.so.$(major)
-	@ln -sf $(@F) $(@D)/lib$*.so
+	@cp $@ $(@D)/lib$*.so.$(major)
+	@cp $@ $(@D)/lib$*.so

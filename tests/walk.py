@@ -11,11 +11,14 @@ import re
 import shutil
 import subprocess
 import sys
+import tempfile
+from pathlib import Path
 
-from tests.common import EVERY_PROGRAM, STRICT, held, make, plus, prove, ready, room, root, run, tools
+from tests.common import EVERY_PROGRAM, STRICT, held, make, plus, prove, ready, root, run, tools
 
 GUIDE = root / "docs/GUIDE.md"
-FOLDER = room / "guide"
+# outside the checkout, below which rt takes no link
+FOLDER = Path(tempfile.gettempdir()) / f"foambeetle-guide-{os.getpid()}"
 SOURCES = (".c", ".cc", ".py")
 
 
@@ -125,7 +128,10 @@ def main():
     prove()
     prepared()
     checks = (every_text_has_its_command, commands_print_as_said, python_prints_as_said, list_is_the_sample, readme_begins_with_it, make_run_prints_it)
-    return 0 if held(*checks) else 1
+    try:
+        return 0 if held(*checks) else 1
+    finally:
+        shutil.rmtree(FOLDER)
 
 
 if __name__ == "__main__":
