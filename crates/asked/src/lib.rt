@@ -3,12 +3,12 @@
 
 ghost use Rattle.std.specs.Prelude.{◌≡◌, false, ◌≤◌, length};
 ghost use Rattle.rules.specs.State.{S};
-ghost use Rattle.rules.specs.Asked.{asked_of};
+ghost use Rattle.rules.specs.Asked.{asked_by};
 ghost use Rattle.rules.specs.Refusal.{bad_stretch, some_above, above_unit, figures_refusal};
 ghost use Rattle.asked.specs.Parts.{rated_of, place_refusal, lists_refusal, part_refusal};
 
 use rules::limit::CELLS;
-use rules::{Question, Rule, kind};
+use rules::{Question, RatedLists, Rule, kind};
 
 // Refusal 3.
 pub fn stretch_out(a: u64, b: u64, n: u64) -> bool
@@ -102,54 +102,46 @@ pub fn part_refusal(rule: Rule, a: u64, b: u64, n: usize, weights: &[u16], more:
 }
 
 // Refusals 20, 21 and 4 of a stretch that lies in the list: the boards' lists, then every survival number that is read.
-fn lists_refusal(question: Question, survival: &[u32], boards: &[u8], switchboards: &[u32]) -> u64
-    requires { bad_stretch question.a question.b (length survival.now) ≡ false }
-    ensures { result ≡ lists_refusal question survival.now boards.now switchboards.now }
+fn lists_refusal(question: Question, lists: &RatedLists) -> u64
+    requires { bad_stretch question.a question.b (length lists.now.survival.now) ≡ false }
+    ensures { result ≡ lists_refusal question lists.now.survival.now lists.now.boards.now lists.now.switchboards.now }
 {
     let version = question.version;
     let from = question.a as usize - 1;
     let upto = question.b as usize;
-    let g = switchboards.len() as u64;
-    let boarded = board_lists::refusal(version, survival.len(), g, &boards[..], from, upto);
+    let n = lists.survival.len();
+    let g = lists.switchboards.len() as u64;
+    let boarded = board_lists::refusal(version, n, g, lists.boards, from, upto);
     if boarded != 0 {
         return boarded;
     }
-    let own = board_lists::numbers_read(version, &switchboards[..]);
+    let own = board_lists::numbers_read(version, lists.switchboards);
     let all = units::whole(units::is_decimal(version));
-    if numbers_out(all, &survival[from..upto], own) {
+    if numbers_out(all, &lists.survival[from..upto], own) {
         return rules::refusal::SURVIVAL;
     }
     0
 }
 
 // Refusals 11, then 1 to 7 with 20 and 21 before 4, the first that applies; 0 for none.
-pub fn refusal(
-    question: Question,
-    survival: &[u32],
-    weights: &[u16],
-    more: &[u64],
-    boards: &[u8],
-    switchboards: &[u32],
-    table: &[u64],
-) -> u64
-    ensures { let q = asked_of question survival.now weights.now more.now
-        boards.now switchboards.now in
+pub fn refusal(question: Question, lists: &RatedLists, table: &[u64]) -> u64
+    ensures { let q = asked_by question lists.now in
         result ≡ figures_refusal q table.now }
 {
     if refusals::version_out(question.version) {
         return rules::refusal::VERSION;
     }
     let rule = question.rule;
-    let n = survival.len();
+    let n = lists.survival.len();
     let place = place_refusal(rule, question.a, question.b, n as u64);
     if place != 0 {
         return place;
     }
-    let listed = lists_refusal(question, &survival[..], &boards[..], &switchboards[..]);
+    let listed = lists_refusal(question, lists);
     if listed != 0 {
         return listed;
     }
-    let part = part_refusal(rule, question.a, question.b, n, weights, more);
+    let part = part_refusal(rule, question.a, question.b, n, lists.weights, lists.more);
     if part != 0 {
         return part;
     }

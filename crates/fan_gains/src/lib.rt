@@ -2,7 +2,7 @@
 #![tactic(auto)]
 
 ghost use Rattle.std.specs.Prelude.{[], ◌≡◌, replicate};
-ghost use Rattle.rules.specs.Asked.{question_of, asked_of};
+ghost use Rattle.rules.specs.Asked.{question_of, asked_by};
 ghost use Rattle.rules.specs.Refusal.{cells};
 ghost use Rattle.rules.specs.Gain.{gain_of};
 ghost use Rattle.rules.specs.File.{gain_in, gain_loading_of};
@@ -17,14 +17,10 @@ fn weigh_lists(
     version: u64,
     system: System,
     spare: Spare,
-    survival: &[u32],
-    weights: &[u16],
-    boards: &[u8],
-    switchboards: &[u32],
+    lists: &RatedLists,
 ) -> Worth
     ensures { let question = question_of version system.rule system.a system.b in
-        let q = asked_of question survival.now weights.now []
-        boards.now switchboards.now in
+        let q = asked_by question lists.now in
         result ≡ gain_of q spare.fan spare.p (replicate cells 0) }
 {
     let rule = system.rule;
@@ -38,11 +34,7 @@ fn weigh_lists(
     gain::weigh(
         question,
         spare,
-        survival,
-        weights,
-        &NO_MORE,
-        boards,
-        switchboards,
+        lists,
         &mut working,
     )
 }

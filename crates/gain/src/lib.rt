@@ -2,12 +2,12 @@
 #![tactic(auto)]
 
 ghost use Rattle.std.specs.Prelude.{◌≡◌};
-ghost use Rattle.rules.specs.Asked.{asked_of};
+ghost use Rattle.rules.specs.Asked.{asked_by};
 ghost use Rattle.rules.specs.Refusal.{rating_refusal};
 ghost use Rattle.rules.specs.Gain.{spare_above, gain_refusal};
 ghost use Rattle.gain.specs.Outcome.{with_spare, Found, Answered, Gained};
 
-use rules::{Question, Spare, Worth};
+use rules::{Question, RatedLists, Spare, Worth};
 use swaps::Swap;
 
 // The figures' own refusal with the spare's number among those of 4: it comes before 5, 6 and 7, and after the rest.
@@ -28,48 +28,20 @@ fn with_spare(above: bool, own: u64) -> u64
 }
 
 // The refusals of the figures with a spare's number among those of 4, the first that applies; 0 for none.
-pub fn refusal(
-    question: Question,
-    p: u64,
-    survival: &[u32],
-    weights: &[u16],
-    more: &[u64],
-    boards: &[u8],
-    switchboards: &[u32],
-    table: &[u64],
-) -> u64
-    ensures { let q = asked_of question survival.now weights.now more.now
-        boards.now switchboards.now in
+pub fn refusal(question: Question, p: u64, lists: &RatedLists, table: &[u64]) -> u64
+    ensures { let q = asked_by question lists.now in
         result ≡ rating_refusal (spare_above q p) q table.now }
 {
-    let own = asked::refusal(
-        question,
-        survival,
-        weights,
-        more,
-        boards,
-        switchboards,
-        table,
-    );
+    let own = asked::refusal(question, lists, table);
     let all = units::whole(units::is_decimal(question.version));
     with_spare(all < p, own)
 }
 
 // The gain of a spare that is not refused: the stretch is rated with the spare in the fan's place, then as it is.
-fn rate_spare(
-    question: Question,
-    spare: Spare,
-    survival: &[u32],
-    weights: &[u16],
-    more: &[u64],
-    boards: &[u8],
-    switchboards: &[u32],
-    table: &mut [u64],
-) -> Worth
-    requires { let q = asked_of question survival.now weights.now more.now boards.now switchboards.now in
+fn rate_spare(question: Question, spare: Spare, lists: &RatedLists, table: &mut [u64]) -> Worth
+    requires { let q = asked_by question lists.now in
         gain_refusal q spare.fan spare.p table.old ≡ 0 }
-    ensures { let q = asked_of question survival.now weights.now more.now
-        boards.now switchboards.now in
+    ensures { let q = asked_by question lists.now in
         Found q spare table.old table.new result }
 {
     let swap = Swap {
@@ -77,95 +49,31 @@ fn rate_spare(
         second: spare.fan,
         p: spare.p,
     };
-    let after = swaps::rate(
-        question,
-        swap,
-        survival,
-        weights,
-        more,
-        boards,
-        switchboards,
-        table,
-    );
-    let before = stretches::work(
-        question,
-        survival,
-        weights,
-        more,
-        boards,
-        switchboards,
-        table,
-    );
+    let after = swaps::rate(question, swap, lists, table);
+    let before = stretches::work(question, lists, table);
     swaps::difference(after, before)
 }
 
 // The gain of a spare in the place of a fan of the stretch from component a to component b. The table is left as it was
 // worked. The exact difference lies between its ends: `gain-between` of rules/proofs/Gain.
-pub fn weigh(
-    question: Question,
-    spare: Spare,
-    survival: &[u32],
-    weights: &[u16],
-    more: &[u64],
-    boards: &[u8],
-    switchboards: &[u32],
-    table: &mut [u64],
-) -> Worth
-    ensures { let q = asked_of question survival.now weights.now more.now
-        boards.now switchboards.now in
+pub fn weigh(question: Question, spare: Spare, lists: &RatedLists, table: &mut [u64]) -> Worth
+    ensures { let q = asked_by question lists.now in
         Answered q spare table.old table.new result }
 {
-    let rated = refusal(
-        question,
-        spare.p,
-        survival,
-        weights,
-        more,
-        boards,
-        switchboards,
-        table,
-    );
+    let rated = refusal(question, spare.p, lists, table);
     let refused = swaps::fan_refusal(rated, question.a, spare.fan, question.b);
     if refused != 0 {
         return Worth::Refused(refused);
     }
-    rate_spare(
-        question,
-        spare,
-        survival,
-        weights,
-        more,
-        boards,
-        switchboards,
-        table,
-    )
+    rate_spare(question, spare, lists, table)
 }
 
 // The same in a lent table, which is handed back clear.
-pub fn gain(
-    question: Question,
-    spare: Spare,
-    survival: &[u32],
-    weights: &[u16],
-    more: &[u64],
-    boards: &[u8],
-    switchboards: &[u32],
-    table: &mut [u64],
-) -> Worth
-    ensures { let q = asked_of question survival.now weights.now more.now
-        boards.now switchboards.now in
+pub fn gain(question: Question, spare: Spare, lists: &RatedLists, table: &mut [u64]) -> Worth
+    ensures { let q = asked_by question lists.now in
         Gained q spare table.old table.new result }
 {
-    let gain = weigh(
-        question,
-        spare,
-        survival,
-        weights,
-        more,
-        boards,
-        switchboards,
-        table,
-    );
+    let gain = weigh(question, spare, lists, table);
     stretches::clear(swaps::is_ends(gain), table);
     gain
 }

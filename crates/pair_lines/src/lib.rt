@@ -6,7 +6,7 @@ mod progress; // progress.rt: how far it is
 
 ghost use Rattle.std.specs.Prelude.{[], ◌≡◌, ◌+◌, ◌≤◌, ◌<◌, length};
 ghost use Rattle.rules.specs.State.{S};
-ghost use Rattle.rules.specs.Asked.{asked_of, size_of};
+ghost use Rattle.rules.specs.Asked.{asked_by, size_of};
 ghost use Rattle.units.specs.Step.{whole};
 ghost use Rattle.text.specs.Added.{Added};
 ghost use Rattle.spares.specs.Places.{spare_refusal};
@@ -69,15 +69,11 @@ fn best_pair(
     rt: &HostRuntime,
     question: Question,
     two: Two,
-    survival: &[u32],
-    weights: &[u16],
-    boards: &[u8],
-    switchboards: &[u32],
+    lists: &RatedLists,
 ) -> Best
-    requires { let q = asked_of question survival.now weights.now [] boards.now switchboards.now in
+    requires { let q = asked_by question lists.now in
         spare_refusal q two.p ≡ 0 }
-    ensures { let q = asked_of question survival.now weights.now []
-        boards.now switchboards.now in
+    ensures { let q = asked_by question lists.now in
         TriedBelow q two.p (size_of q) result }
 {
     let size = (question.b - question.a) as usize + 1;
@@ -90,10 +86,7 @@ fn best_pair(
             two.p,
             i,
             best,
-            survival,
-            weights,
-            boards,
-            switchboards,
+            lists,
         );
         i += 1;
     }
@@ -106,24 +99,20 @@ pub fn put_two(
     rt: &HostRuntime,
     question: Question,
     two: Two,
-    survival: &[u32],
-    weights: &[u16],
-    boards: &[u8],
-    switchboards: &[u32],
+    lists: &RatedLists,
     out: &mut [u8],
     at: usize,
 ) -> usize
-    requires accepted { let q = asked_of question survival.now weights.now [] boards.now switchboards.now in
+    requires accepted { let q = asked_by question lists.now in
         spare_refusal q two.p ≡ 0 }
     requires room { at + two_room ≤ length out.old }
-    ensures { let q = asked_of question survival.now weights.now []
-        boards.now switchboards.now in
+    ensures { let q = asked_by question lists.now in
         Added (two_text two.s two.p q) out.old at out.new result }
 {
     if question.a == question.b {
         return put_one(two.s, out, at);
     }
-    let best = best_pair(rt, question, two, survival, weights, boards, switchboards);
+    let best = best_pair(rt, question, two, lists);
     let decimal = units::is_decimal(question.version);
     put_fans(two.s, question.a, decimal, best, out, at)
 }

@@ -3,7 +3,7 @@
 #![tactic(auto)]
 
 ghost use Rattle.std.specs.Prelude.{[], ◌≡◌, ◌+◌, ◌*◌, ◌<◌};
-ghost use Rattle.rules.specs.Asked.{asked_of, size_of};
+ghost use Rattle.rules.specs.Asked.{asked_by, size_of};
 ghost use Rattle.rules.specs.Refusal.{most};
 ghost use Rattle.spares.specs.Places.{spare_refusal};
 ghost use Rattle.pairs.specs.Tried.{stays, with_pair, TriedBelow};
@@ -78,19 +78,15 @@ pub fn rate_row(
     p: u64,
     first: usize,
     best: Best,
-    survival: &[u32],
-    weights: &[u16],
-    boards: &[u8],
-    switchboards: &[u32],
+    lists: &RatedLists,
 ) -> Best
-    requires accepted { let q = asked_of question survival.now weights.now [] boards.now switchboards.now in
+    requires accepted { let q = asked_by question lists.now in
         spare_refusal q p ≡ 0 }
-    requires place { let q = asked_of question survival.now weights.now [] boards.now switchboards.now in
+    requires place { let q = asked_by question lists.now in
         first < size_of q }
-    requires tried { let q = asked_of question survival.now weights.now [] boards.now switchboards.now in
+    requires tried { let q = asked_by question lists.now in
         TriedBelow q p first best }
-    ensures { let q = asked_of question survival.now weights.now []
-        boards.now switchboards.now in
+    ensures { let q = asked_by question lists.now in
         TriedBelow q p (first + 1) result }
 {
     let a = question.a;
@@ -107,11 +103,7 @@ pub fn rate_row(
         let ends = swaps::rate(
             question,
             swap,
-            survival,
-            weights,
-            &NO_MORE,
-            boards,
-            switchboards,
+            lists,
             &mut working,
         );
         best = with_pair(best, first, j, ends);

@@ -3,6 +3,7 @@
 use Rattle.std.specs.Prelude.{Bool, true, false, List, ℕ, suc, ◌+◌, ◌-◌, length}
 use Rattle.rules.specs.declared.Rule.{Rule}
 use Rattle.rules.specs.declared.Question.{Question}
+use Rattle.rules.specs.declared.RatedLists.{RatedLists}
 use Rattle.rules.specs.State.{unit_of, beside_of}
 use Rattle.rules.specs.Figure.{Third}
 use Rattle.rules.specs.Boards.{boards_read, figure_behind, exact_behind}
@@ -38,6 +39,9 @@ asked_of question survival weights more boards switchboards = record {
   boards = boards;
   switchboards = switchboards;
 }
+
+abbrev pub asked_by : Question → RatedLists → Asked
+asked_by question lists = asked_of question lists.survival.now lists.weights.now lists.more.now lists.boards.now lists.switchboards.now
 
 -- "Conditions two and three read S as the file's own unit"
 abbrev pub unit_in : Asked → ℕ

@@ -1,6 +1,8 @@
 -- Document 01, "Refusal numbers": each condition of the table, and each call's refusal, "the lowest number that applies, and none otherwise".
-use Rattle.std.specs.Prelude.{Bool, false, cond, not, ◌&&◌, ◌||◌, List, [], ◌∷◌, ℕ, zero, suc, ◌^◌, ltb, leb, eqb, length, get_or}
+use Rattle.std.specs.Prelude.{Result, Ok, Err, Bool, false, cond, not, ◌&&◌, ◌||◌, List, [], ◌∷◌, ℕ, zero, suc, ◌^◌, ltb, leb, eqb, length, get_or}
 use Rattle.rules.specs.declared.Rule.{Rule}
+use Rattle.rules.specs.declared.refusal.Refusal.{Refusal}
+use Rattle.rules.specs.declared.refusal.Refusal.TheVariants as refusal
 use Rattle.rules.specs.Below.{some, total, within, row_of}
 use Rattle.rules.specs.State.{beside_of}
 use Rattle.rules.specs.Pairs.{pairs_of, in_range8, bad_more}
@@ -165,3 +167,33 @@ numbers_above q = above_unit (unit_in q) (part_of q) (switchboards_of q)
 
 unfoldable pub figures_refusal : Asked → (table : List ℕ) → ℕ
 figures_refusal q table = rating_refusal (numbers_above q) q table
+
+-- the table's number of a refusal
+abbrev pub number : Refusal → ℕ
+number refusal.Kind = 1
+number refusal.Size = 2
+number refusal.Stretch = 3
+number refusal.Survival = 4
+number refusal.Weights = 5
+number refusal.Range = 6
+number refusal.Table = 7
+number refusal.CountRoom = 8
+number refusal.State = 9
+number refusal.Short = 10
+number refusal.Version = 11
+number refusal.Systems = 12
+number refusal.Layout = 13
+number refusal.System = 14
+number refusal.Uncounted = 15
+number refusal.Room = 16
+number refusal.Fan = 17
+number refusal.Chance = 18
+number refusal.Grid = 19
+number refusal.Boards = 20
+number refusal.Board = 21
+number refusal.Cut = 22
+
+-- what a test answers that may refuse, as a number: 0 where it does not
+abbrev pub told : {A : Type 0} → Result A Refusal → ℕ
+told (Ok answer) = 0
+told (Err refused) = number refused

@@ -42,6 +42,17 @@ pub struct Question {
     pub b: u64,
 }
 
+// The lists that a rating reads: the survival numbers and the weights of a deck's fans, kind 8's further pairs, the
+// fans' boards, and the boards' own survival numbers.
+#[derive(Clone, Copy)]
+pub struct RatedLists<'a> {
+    pub survival: &'a [u32],
+    pub weights: &'a [u16],
+    pub more: &'a [u64],
+    pub boards: &'a [u8],
+    pub switchboards: &'a [u32],
+}
+
 // The verdict on one state. Where the system fails a place is named: the lowest component at which a failing window
 // starts, or 0 where the rule has no windows.
 #[derive(Clone, Copy)]

@@ -1,5 +1,7 @@
 // Document 01, "Refusal numbers", and those that the requests of document 02 add. Each is given when what stands above
 // it holds.
+ghost use Rattle.std.specs.Prelude.{◌≡◌};
+ghost use Rattle.rules.specs.Refusal.{number};
 
 // "kind not 1..7"; since request 05 "for kinds not 1..8"
 pub const KIND: u64 = 1;
@@ -68,3 +70,62 @@ pub const BOARD: u64 = 21;
 
 // Request 14: "the file ends before its last system is whole"
 pub const CUT: u64 = 22;
+
+// A refusal by its name.
+#[derive(Clone, Copy, PartialEq, Eq)]
+pub enum Refusal {
+    Kind,
+    Size,
+    Stretch,
+    Survival,
+    Weights,
+    Range,
+    Table,
+    CountRoom,
+    State,
+    Short,
+    Version,
+    Systems,
+    Layout,
+    System,
+    Uncounted,
+    Room,
+    Fan,
+    Chance,
+    Grid,
+    Boards,
+    Board,
+    Cut,
+}
+
+impl Refusal {
+    // The number that a call answers with.
+    pub fn number(self) -> u64
+        ensures { result ≡ number self }
+    {
+        match self {
+            Refusal::Kind => KIND,
+            Refusal::Size => SIZE,
+            Refusal::Stretch => STRETCH,
+            Refusal::Survival => SURVIVAL,
+            Refusal::Weights => WEIGHTS,
+            Refusal::Range => RANGE,
+            Refusal::Table => TABLE,
+            Refusal::CountRoom => COUNT_ROOM,
+            Refusal::State => STATE,
+            Refusal::Short => SHORT,
+            Refusal::Version => VERSION,
+            Refusal::Systems => SYSTEMS,
+            Refusal::Layout => LAYOUT,
+            Refusal::System => SYSTEM,
+            Refusal::Uncounted => UNCOUNTED,
+            Refusal::Room => ROOM,
+            Refusal::Fan => FAN,
+            Refusal::Chance => CHANCE,
+            Refusal::Grid => GRID,
+            Refusal::Boards => BOARDS,
+            Refusal::Board => BOARD,
+            Refusal::Cut => CUT,
+        }
+    }
+}

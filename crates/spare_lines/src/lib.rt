@@ -6,7 +6,7 @@ mod best; // best.rt: the best places
 
 ghost use Rattle.std.specs.Prelude.{[], ◌≡◌, ◌+◌, ◌≤◌, length};
 ghost use Rattle.rules.specs.State.{S};
-ghost use Rattle.rules.specs.Asked.{asked_of};
+ghost use Rattle.rules.specs.Asked.{asked_by};
 ghost use Rattle.text.specs.Added.{Added};
 ghost use Rattle.spare_lines.specs.Lines.{gain_line, gain_lines, gain_room, gains_room, FewPlaces, InUnit};
 ghost use Rattle.spare_lines.specs.System.{system_text, system_room};
@@ -76,21 +76,17 @@ pub fn put_asked(
     rt: &HostRuntime,
     question: Question,
     job: Job,
-    survival: &[u32],
-    weights: &[u16],
-    boards: &[u8],
-    switchboards: &[u32],
+    lists: &RatedLists,
     out: &mut [u8],
     at: usize,
 ) -> usize
     requires place { job.s ≤ 64 }
     requires room { at + system_room ≤ length out.old }
-    ensures { let q = asked_of question survival.now weights.now []
-        boards.now switchboards.now in
+    ensures { let q = asked_by question lists.now in
         Added (system_text job q) out.old at out.new result }
 {
     let s = job.s as u64 + 1;
-    let refused = spares::refusal(question, job.p, survival, weights, boards, switchboards);
+    let refused = spares::refusal(question, job.p, lists);
     if refused != 0 {
         let end = text::put_named(b"system ", s, out, at);
         return lines::put_refused(refused, out, end);
@@ -101,16 +97,13 @@ pub fn put_asked(
             rt,
             question,
             two,
-            survival,
-            weights,
-            boards,
-            switchboards,
+            lists,
             out,
             at,
         );
     }
-    let before = spares::rate_now(question, survival, weights, boards, switchboards);
-    let places = spares::rate_places(question, job.p, survival, weights, boards, switchboards);
+    let before = spares::rate_now(question, lists);
+    let places = spares::rate_places(question, job.p, lists);
     let a = question.a;
     let size = (question.b - a) as usize + 1;
     if job.best == 0 {

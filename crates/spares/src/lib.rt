@@ -2,7 +2,7 @@
 #![tactic(auto)]
 
 ghost use Rattle.std.specs.Prelude.{[], ◌≡◌, replicate};
-ghost use Rattle.rules.specs.Asked.{asked_of, low_of, high_of};
+ghost use Rattle.rules.specs.Asked.{asked_by, low_of, high_of};
 ghost use Rattle.rules.specs.Refusal.{cells, figures_refusal};
 ghost use Rattle.spares.specs.Places.{spare_refusal, Placed, AsItIs};
 
@@ -22,24 +22,16 @@ pub struct Places {
 pub fn refusal(
     question: Question,
     p: u64,
-    survival: &[u32],
-    weights: &[u16],
-    boards: &[u8],
-    switchboards: &[u32],
+    lists: &RatedLists,
 ) -> u64
-    ensures { let q = asked_of question survival.now weights.now []
-        boards.now switchboards.now in
+    ensures { let q = asked_by question lists.now in
         result ≡ spare_refusal q p }
 {
     let working = [0u64; CELLS];
     gain::refusal(
         question,
         p,
-        survival,
-        weights,
-        &NO_MORE,
-        boards,
-        switchboards,
+        lists,
         &working,
     )
 }
@@ -47,25 +39,17 @@ pub fn refusal(
 // The figures as they are.
 pub fn rate_now(
     question: Question,
-    survival: &[u32],
-    weights: &[u16],
-    boards: &[u8],
-    switchboards: &[u32],
+    lists: &RatedLists,
 ) -> Ends
-    requires { let q = asked_of question survival.now weights.now [] boards.now switchboards.now in
+    requires { let q = asked_by question lists.now in
         figures_refusal q (replicate cells 0) ≡ 0 }
-    ensures { let q = asked_of question survival.now weights.now []
-        boards.now switchboards.now in
+    ensures { let q = asked_by question lists.now in
         AsItIs q result }
 {
     let mut working = [0u64; CELLS];
     stretches::work(
         question,
-        survival,
-        weights,
-        &NO_MORE,
-        boards,
-        switchboards,
+        lists,
         &mut working,
     )
 }
@@ -74,15 +58,11 @@ pub fn rate_now(
 pub fn rate_places(
     question: Question,
     p: u64,
-    survival: &[u32],
-    weights: &[u16],
-    boards: &[u8],
-    switchboards: &[u32],
+    lists: &RatedLists,
 ) -> Places
-    requires { let q = asked_of question survival.now weights.now [] boards.now switchboards.now in
+    requires { let q = asked_by question lists.now in
         spare_refusal q p ≡ 0 }
-    ensures { let q = asked_of question survival.now weights.now []
-        boards.now switchboards.now in
+    ensures { let q = asked_by question lists.now in
         Placed q p result }
 {
     let a = question.a;
@@ -101,11 +81,7 @@ pub fn rate_places(
         let ends = swaps::rate(
             question,
             swap,
-            survival,
-            weights,
-            &NO_MORE,
-            boards,
-            switchboards,
+            lists,
             &mut working,
         );
         low[i] = ends.low;

@@ -2,46 +2,37 @@
 #![tactic(auto)]
 
 ghost use Rattle.std.specs.Prelude.{◌≡◌, true, ◌≤◌, length};
-ghost use Rattle.rules.specs.Asked.{asked_of};
+ghost use Rattle.rules.specs.Asked.{asked_by};
 ghost use Rattle.rules.specs.Refusal.{cells, figures_refusal};
 ghost use Rattle.stretches.specs.Outcome.{Worked, is_range, cleared_if};
 
 use places::Ends;
 use rules::limit::CELLS;
-use rules::{Question, Rating};
+use rules::{Question, RatedLists, Rating};
 
 // Low and high of a stretch that is not refused, worked on that part of the lent lists where it stands. The table is
 // left as it was worked.
-pub fn work(
-    question: Question,
-    survival: &[u32],
-    weights: &[u16],
-    more: &[u64],
-    boards: &[u8],
-    switchboards: &[u32],
-    table: &mut [u64],
-) -> Ends
-    requires { let q = asked_of question survival.now weights.now more.now boards.now switchboards.now in
+pub fn work(question: Question, lists: &RatedLists, table: &mut [u64]) -> Ends
+    requires { let q = asked_by question lists.now in
         figures_refusal q table.old ≡ 0 }
-    ensures { let q = asked_of question survival.now weights.now more.now
-        boards.now switchboards.now in
+    ensures { let q = asked_by question lists.now in
         Worked q table.old table.new result }
 {
     let version = question.version;
     let rule = question.rule;
     let start = question.a as usize - 1;
     let end = question.b as usize;
-    let rated = asked::rated_weights(rule, survival.len(), &weights[..], question.a, question.b);
-    // lent anew, a list has no copy in memory at each call on the way here (docs/DECISIONS.md, "The two units")
-    let placed = board_lists::boards_read(version, &boards[..], start, end);
-    let own = board_lists::numbers_read(version, &switchboards[..]);
+    let n = lists.survival.len();
+    let rated = asked::rated_weights(rule, n, lists.weights, question.a, question.b);
+    let placed = board_lists::boards_read(version, lists.boards, start, end);
+    let own = board_lists::numbers_read(version, lists.switchboards);
     let decimal = units::is_decimal(version);
     boards::rate(
         decimal,
         rule,
-        &survival[start..end],
+        &lists.survival[start..end],
         rated,
-        more,
+        lists.more,
         placed,
         own,
         table,

@@ -6,7 +6,7 @@ ghost use Rattle.std.specs.Prelude.{◌≡◌, true, ◌≤◌, length};
 ghost use Rattle.std.proofs.Math.IntN.{sub_ℕ};
 ghost use Rattle.rules.specs.declared.Worth.TheVariants.{Ends as Between};
 ghost use Rattle.rules.specs.State.{S};
-ghost use Rattle.rules.specs.Asked.{asked_of};
+ghost use Rattle.rules.specs.Asked.{asked_by};
 ghost use Rattle.rules.specs.Refusal.{most};
 ghost use Rattle.stretches.specs.Outcome.{Worked};
 ghost use Rattle.swaps.specs.Copied.{Copied};
@@ -15,7 +15,7 @@ ghost use Rattle.swaps.specs.Compared.{fan_refusal, is_ends};
 
 use places::Ends;
 use rules::limit::FANS;
-use rules::{Question, Worth};
+use rules::{Question, RatedLists, Worth};
 
 // A survival number, and the two fans of the list that get it; one fan twice where there is one.
 #[derive(Clone, Copy)]
@@ -57,40 +57,22 @@ fn copied(from: usize, upto: usize, survival: &[u32]) -> [u32; FANS]
 
 // Low and high of a stretch that is not refused, with a survival number in the place of one fan or of two: a copy of
 // the stretch's numbers is rated. The table is left as it was worked.
-pub fn rate(
-    question: Question,
-    swap: Swap,
-    survival: &[u32],
-    weights: &[u16],
-    more: &[u64],
-    boards: &[u8],
-    switchboards: &[u32],
-    table: &mut [u64],
-) -> Ends
-    requires { let q = asked_of question survival.now weights.now more.now boards.now switchboards.now in
+pub fn rate(question: Question, swap: Swap, lists: &RatedLists, table: &mut [u64]) -> Ends
+    requires { let q = asked_by question lists.now in
         Swappable q swap table.old }
-    ensures { let q = asked_of question survival.now weights.now more.now
-        boards.now switchboards.now in
+    ensures { let q = asked_by question lists.now in
         Worked (swap_in swap q) table.old table.new result }
 {
-    let n = survival.len();
+    let n = lists.survival.len();
     let a = question.a;
     let first = swap.first as usize - 1;
     let second = swap.second as usize - 1;
     let p = swap.p as u32;
-    let mut numbers = copied(a as usize - 1, question.b as usize, survival);
+    let mut numbers = copied(a as usize - 1, question.b as usize, lists.survival);
     numbers[first] = p;
     numbers[second] = p;
-    // the boards' lists lent anew, as in `stretches::work`
-    stretches::work(
-        question,
-        &numbers[..n],
-        weights,
-        more,
-        &boards[..],
-        &switchboards[..],
-        table,
-    )
+    let survival = &numbers[..n];
+    stretches::work(question, &RatedLists { survival, ..*lists }, table)
 }
 
 // The difference of two figures.

@@ -2,7 +2,7 @@
 #![tactic(auto)]
 
 ghost use Rattle.std.specs.Prelude.{[], ◌≡◌, replicate};
-ghost use Rattle.rules.specs.Asked.{question_of, asked_of};
+ghost use Rattle.rules.specs.Asked.{question_of, asked_by};
 ghost use Rattle.rules.specs.Refusal.{cells};
 ghost use Rattle.rules.specs.Answer.{figures_of};
 ghost use Rattle.rules.specs.File.{answer_in, loading_of};
@@ -17,14 +17,10 @@ use rules::{NO_MORE, Question, Rating, System};
 fn rate_lists(
     version: u64,
     system: System,
-    survival: &[u32],
-    weights: &[u16],
-    boards: &[u8],
-    switchboards: &[u32],
+    lists: &RatedLists,
 ) -> Rating
     ensures { let question = question_of version system.rule system.a system.b in
-        let q = asked_of question survival.now weights.now []
-        boards.now switchboards.now in
+        let q = asked_by question lists.now in
         result ≡ figures_of q (replicate cells 0) }
 {
     let rule = system.rule;
@@ -37,11 +33,7 @@ fn rate_lists(
     let mut table = [0u64; CELLS];
     figures::rate(
         question,
-        survival,
-        weights,
-        &NO_MORE,
-        boards,
-        switchboards,
+        lists,
         &mut table,
     )
 }

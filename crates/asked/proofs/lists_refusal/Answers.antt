@@ -25,16 +25,16 @@ abbrev four : Asked → ℕ
 four q = first_of ((4, above_unit (unit_in q) (part_of q) (switchboards_of q)) ∷ [])
 
 -- the refusal by that of the boards' lists, and past it
-boarded : (c : After-refusal-boarded) → let q = asked c.args.question c.args.survival.now c.args.boards.now c.args.switchboards.now in
+boarded : (c : After-refusal-boarded) → let q = asked c.args.question c.args.lists.now.survival.now c.args.lists.now.boards.now c.args.lists.now.switchboards.now in
     lists_refusal c.args.question q.survival q.boards q.switchboards
     ≡ after c.refusal-boarded.result (four q)
 boarded c =
     let x = c.args in
-    boards-first x.question x.survival.now x.boards.now x.switchboards.now c.requires
-    ∙ ap (λ r. after r (four (asked x.question x.survival.now x.boards.now x.switchboards.now))) (sym c.refusal-boarded.ensures)
+    boards-first x.question x.lists.now.survival.now x.lists.now.boards.now x.lists.now.switchboards.now c.requires
+    ∙ ap (λ r. after r (four (asked x.question x.lists.now.survival.now x.lists.now.boards.now x.lists.now.switchboards.now))) (sym c.refusal-boarded.ensures)
 
 -- past them, the answer about the numbers
-above : (c : After-numbers_out) → let q = asked c.args.question c.args.survival.now c.args.boards.now c.args.switchboards.now in
+above : (c : After-numbers_out) → let q = asked c.args.question c.args.lists.now.survival.now c.args.lists.now.boards.now c.args.lists.now.switchboards.now in
     above_unit (unit_in q) (part_of q) (switchboards_of q) ≡ c.numbers_out.result
 above c =
     let unit = c.whole-all.ensures ∙ c.is_decimal.ensures in
@@ -42,21 +42,21 @@ above c =
     sym (c.numbers_out.ensures ∙ (λ i. above_unit (unit i) (part i) (c.numbers_read-own.ensures i)))
 
 pub overflow_sub-from : goal.overflow_sub-from
-overflow_sub-from c = omega (arith, in-stretch c.args.question.a c.args.question.b (length c.args.survival.now) c.requires)
+overflow_sub-from c = omega (arith, in-stretch c.args.question.a c.args.question.b (length c.args.lists.now.survival.now) c.requires)
 
 pub refusal-boarded-requires : goal.refusal-boarded-requires
 refusal-boarded-requires c =
-    let h = in-stretch c.args.question.a c.args.question.b (length c.args.survival.now) c.requires in
+    let h = in-stretch c.args.question.a c.args.question.b (length c.args.lists.now.survival.now) c.requires in
     (omega arith, omega arith)
 
 pub returns-then-boarded-ne0 : goal.returns-then-boarded-ne0
 returns-then-boarded-ne0 c = sym (boarded ((goal.at.returns-then-boarded-ne0 c).After-refusal-boarded) ∙ after-some _ _ c.if-boarded-ne0.true)
 
-pub offset_bounds-survival-from : goal.offset_bounds-survival-from
-offset_bounds-survival-from c = omega (arith, in-stretch c.args.question.a c.args.question.b (length c.args.survival.now) c.requires)
+pub offset_bounds-lists-from : goal.offset_bounds-lists-from
+offset_bounds-lists-from c = omega (arith, in-stretch c.args.question.a c.args.question.b (length c.args.lists.now.survival.now) c.requires)
 
 pub slice_bounds-numbers_out-count : goal.slice_bounds-numbers_out-count
-slice_bounds-numbers_out-count c = omega (arith, in-stretch c.args.question.a c.args.question.b (length c.args.survival.now) c.requires)
+slice_bounds-numbers_out-count c = omega (arith, in-stretch c.args.question.a c.args.question.b (length c.args.lists.now.survival.now) c.requires)
 
 pub numbers_out-requires : goal.numbers_out-requires
 numbers_out-requires c = omega (arith, c.whole-all.ensures, whole-most c.is_decimal.result)

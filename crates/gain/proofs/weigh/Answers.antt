@@ -1,7 +1,7 @@
 -- `weigh` refuses, or answers what the two ratings of what is not refused come to. Assumes nothing.
 use borrow.Author.Rules.{rules}
 use mathlib.Core.Path.{◌≡◌, sym, ap, ◌∙◌}
-use Rattle.rules.specs.Asked.{asked_of}
+use Rattle.rules.specs.Asked.{asked_by}
 use Rattle.rules.specs.Gain.{gain_refusal}
 use Rattle.swaps.specs.Compared.{fan_refusal}
 use Rattle.swaps.proofs.Compared.{compared-refused}
@@ -11,7 +11,7 @@ use Rattle.gain.proofs.weigh.Goals.{After-fan_refusal-refused}
 
 refused : (c : After-fan_refusal-refused) → let x = c.args in
     c.fan_refusal-refused.result
-    ≡ gain_refusal (asked_of x.question x.survival.now x.weights.now x.more.now x.boards.now x.switchboards.now) x.spare.fan x.spare.p x.table.now
+    ≡ gain_refusal (asked_by x.question x.lists.now) x.spare.fan x.spare.p x.table.now
 refused c =
     c.fan_refusal-refused.ensures ∙ ap (λ own. fan_refusal own c.args.question.a c.args.spare.fan c.args.question.b) c.refusal-rated.ensures
 

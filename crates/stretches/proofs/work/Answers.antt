@@ -6,7 +6,7 @@ use Prim.Native.Nat.{ℕ, ◌-◌}
 use native.Mathlib.Omega.{arith}
 use lib.ListN.{take, drop}
 use borrow.Author.Rules.{rules}
-use Rattle.rules.specs.Asked.{Asked, asked_of}
+use Rattle.rules.specs.Asked.{Asked, asked_by}
 use Rattle.rules.specs.Boards.{boards_read}
 use Rattle.units.specs.Step.{whole}
 use Rattle.asked.proofs.Refused.{part-is}
@@ -17,7 +17,7 @@ use Rattle.stretches.proofs.work.Goals.{After-is_decimal-decimal}
 -- what is asked, and the part of a list that is handed on
 abbrev asked : After-is_decimal-decimal → Asked
 asked c =
-    asked_of c.args.question c.args.survival.now c.args.weights.now c.args.more.now c.args.boards.now c.args.switchboards.now
+    asked_by c.args.question c.args.lists.now
 
 abbrev part : List ℕ → After-is_decimal-decimal → List ℕ
 part xs c = let q = asked c in take (q.b - (q.a - 1)) (drop (q.a - 1) xs)
@@ -52,8 +52,8 @@ numbers_read-own-requires c = search rules
 pub is_decimal-decimal-requires : goal.is_decimal-decimal-requires
 is_decimal-decimal-requires c = search rules
 
-pub offset_bounds-survival-start : goal.offset_bounds-survival-start
-offset_bounds-survival-start c = omega (arith, fits _ _ c.requires)
+pub offset_bounds-lists-start : goal.offset_bounds-lists-start
+offset_bounds-lists-start c = omega (arith, fits _ _ c.requires)
 
 pub slice_bounds-rate-count : goal.slice_bounds-rate-count
 slice_bounds-rate-count c = omega (arith, fits _ _ c.requires)

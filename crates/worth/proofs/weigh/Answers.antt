@@ -1,7 +1,7 @@
 -- `weigh` refuses, or answers what the two ratings of what is not refused come to. Assumes nothing.
 use borrow.Author.Rules.{rules}
 use mathlib.Core.Path.{◌≡◌, sym, ap, ◌∙◌}
-use Rattle.rules.specs.Asked.{asked_of}
+use Rattle.rules.specs.Asked.{asked_by}
 use Rattle.rules.specs.Worth.{worth_refusal}
 use Rattle.swaps.specs.Compared.{fan_refusal}
 use Rattle.swaps.proofs.Compared.{compared-refused}
@@ -11,7 +11,7 @@ use Rattle.worth.proofs.weigh.Goals.{After-fan_refusal-refused}
 
 refused : (c : After-fan_refusal-refused) → let x = c.args in
     c.fan_refusal-refused.result
-    ≡ worth_refusal (asked_of x.question x.survival.now x.weights.now x.more.now x.boards.now x.switchboards.now) x.fan x.table.now
+    ≡ worth_refusal (asked_by x.question x.lists.now) x.fan x.table.now
 refused c =
     c.fan_refusal-refused.ensures ∙ ap (λ own. fan_refusal own c.args.question.a c.args.fan c.args.question.b) c.refusal-own.ensures
 

@@ -1,0 +1,34 @@
+-- A refusal's number is not 0: by cases on the refusal. So what a test told is 0 where it did not refuse, and only there. Assumes nothing.
+use mathlib.Core.Path.{◌≡◌}
+use Prim.Native.Nat.{ℕ, ◌<◌}
+use native.Mathlib.Omega.{arith}
+use Rattle.rules.specs.declared.refusal.Refusal.{Refusal}
+use Rattle.rules.specs.declared.refusal.Refusal.TheVariants as refusal
+use Rattle.rules.specs.Refusal.{number}
+
+pub number-positive : (r : Refusal) → 0 < number r
+number-positive refusal.Kind = omega arith
+number-positive refusal.Size = omega arith
+number-positive refusal.Stretch = omega arith
+number-positive refusal.Survival = omega arith
+number-positive refusal.Weights = omega arith
+number-positive refusal.Range = omega arith
+number-positive refusal.Table = omega arith
+number-positive refusal.CountRoom = omega arith
+number-positive refusal.State = omega arith
+number-positive refusal.Short = omega arith
+number-positive refusal.Version = omega arith
+number-positive refusal.Systems = omega arith
+number-positive refusal.Layout = omega arith
+number-positive refusal.System = omega arith
+number-positive refusal.Uncounted = omega arith
+number-positive refusal.Room = omega arith
+number-positive refusal.Fan = omega arith
+number-positive refusal.Chance = omega arith
+number-positive refusal.Grid = omega arith
+number-positive refusal.Boards = omega arith
+number-positive refusal.Board = omega arith
+number-positive refusal.Cut = omega arith
+
+pub number-some : (r : Refusal) → number r ≡ 0 → ⊥
+number-some r e = omega (arith, number-positive r)
