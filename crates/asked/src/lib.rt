@@ -30,12 +30,10 @@ fn above_unit(all: u64, survival: &[u32]) -> bool
 {
     let most = all as u32;
     let mut above = false;
-    let mut i: usize = 0;
-    while i < survival.len() {
-        if most < survival[i] {
+    for number in survival {
+        if most < *number {
             above = true;
         }
-        i += 1;
     }
     above
 }

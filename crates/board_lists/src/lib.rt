@@ -33,14 +33,7 @@ pub fn boards_out(version: u64, g: u64) -> bool
 fn some_above(g: u64, boards: &[u8]) -> bool
     ensures { result ≡ some_above g boards.now }
 {
-    let mut i: usize = 0;
-    while i < boards.len() {
-        if g < boards[i] as u64 {
-            return true;
-        }
-        i += 1;
-    }
-    false
+    boards.iter().any(|board| g < u64::from(*board))
 }
 
 // Refusal 21, of n fans of which those from place `from` up to `upto` are rated.

@@ -58,10 +58,8 @@ pub fn total_of(weights: &[u16]) -> u64
     ensures { result ≡ total weights.now }
 {
     let mut sum: u64 = 0;
-    let mut i: usize = 0;
-    while i < weights.len() {
-        sum += weights[i] as u64;
-        i += 1;
+    for weight in weights {
+        sum += u64::from(*weight);
     }
     sum
 }

@@ -24,14 +24,8 @@ fn more_out(n: u64, more: &[u64]) -> bool
     requires { length more.now ≤ most_more }
     ensures { result ≡ not (in_range8 n (pairs_in more.now)) }
 {
-    let mut i: usize = 0;
-    while i + 1 < more.len() {
-        if pair_out(more[i], more[i + 1], n) {
-            return true;
-        }
-        i += 2;
-    }
-    false
+    more.chunks_exact(2)
+        .any(|pair| pair_out(pair[0], pair[1], n))
 }
 
 // Is a pair bad, or their number?

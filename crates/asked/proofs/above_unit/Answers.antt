@@ -1,6 +1,4 @@
 -- `above_unit` says whether one of the numbers it passed is above the unit. Assumes nothing.
-use borrow.Author.Rules.{rules}
-use Prim.Native.Nat.{◌-◌}
 use mathlib.Core.Path.{◌≡◌, refl, sym, ◌∙◌}
 use mathlib.Core.Bool.{or-true, or-false}
 use native.Mathlib.Omega.{arith}
@@ -11,41 +9,24 @@ use borrow.Author.Tests.{lt-ltb, le-ltb}
 use Rattle.rules.specs.Below.{some}
 use Rattle.rules.specs.Refusal.{some_above}
 use Rattle.asked.proofs.above_unit.Goals as goal
-use Rattle.asked.proofs.above_unit.Goals.{then-most-survival, else-most-survival}
+use Rattle.asked.proofs.above_unit.Goals.{then-most-number, else-most-number}
 
-pub overflow_cast-most : goal.overflow_cast-most
-overflow_cast-most c = omega (arith, c.requires)
-
-pub loop-i-init : goal.loop-i-init
+pub loop-number-init : goal.loop-number-init
 unfolding some
-loop-i-init c = (omega arith, refl)
+loop-number-init c = refl
 
-pub offset_bounds-survival-i : goal.offset_bounds-survival-i
-offset_bounds-survival-i c = search rules
-
-pub bounds-survival-i : goal.bounds-survival-i
-bounds-survival-i c = search rules
-
-pub overflow_add-i : goal.overflow_add-i
-overflow_add-i c = search rules
-
-pub loop-i-smaller : goal.loop-i-smaller
-loop-i-smaller c = search rules
-
-pub loop-i-preserved : goal.loop-i-preserved
+pub loop-number-preserved : goal.loop-number-preserved
 unfolding some
-loop-i-preserved c =
-    let passed = some (λ k. ltb c.args.all (get_or c.args.survival.now k 0)) c.loop-i.i in (
-      omega arith,
-      rw add-one
-          (elim c.if-most-survival.branch [
-            | then-most-survival w ↦ w.above-is ∙ rw (lt-ltb _ _ w.if-most-survival.true) (sym (or-true passed))
-            | else-most-survival w ↦ w.above-is ∙ c.loop-i.invariant.1 ∙ rw (le-ltb _ _ w.if-most-survival.false) (sym (or-false passed))
-          ]),
-    )
+loop-number-preserved c =
+    let passed = some (λ k. ltb c.args.all (get_or c.args.survival.now k 0)) c.loop-number.number-index in
+    rw add-one
+    (elim c.if-most-number.branch [
+      | then-most-number w ↦ w.above-is ∙ rw (lt-ltb _ _ w.if-most-number.true) (sym (or-true passed))
+      | else-most-number w ↦ w.above-is ∙ c.loop-number.invariant ∙ rw (le-ltb _ _ w.if-most-number.false) (sym (or-false passed))
+    ])
 
 pub returns : goal.returns
 unfolding some_above
 returns c =
-    let e : c.loop-i.i ≡ length c.args.survival.now = omega arith in
-    rw e at c.loop-i.invariant.1
+    let e : c.loop-number.number-index ≡ length c.args.survival.now = omega arith in
+    rw e at c.loop-number.invariant

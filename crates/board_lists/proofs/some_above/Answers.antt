@@ -1,44 +1,26 @@
--- `some_above` meets its contract: none of the numbers that were passed is above the limit. Assumes nothing.
-use Prim.Native.Nat.{◌-◌}
-use mathlib.Core.Path.{◌≡◌, refl, sym}
-use mathlib.Core.Bool.{false}
-use native.Mathlib.Omega.{arith}
-use native.Mathlib.Numerals.{add-one}
-use lib.Dec.{ltb}
-use lib.ListN.{length}
+-- `some_above` meets its contract: a number that is found is above the limit at its place, and where none is found none is at any. Assumes nothing.
+use mathlib.Core.Path.{◌≡◌, sym}
+use mathlib.Core.Bool.{Bool, true, false}
+use mathlib.Core.List.{List}
+use Prim.Native.Nat.{ℕ, ◌≤◌, ◌<◌}
+use lib.ListN.{length, get_or}
 use borrow.Author.Rules.{rules}
-use borrow.Author.Tests.{lt-ltb, le-ltb}
-use Rattle.rules.specs.Below.{some}
+use borrow.Author.Tests.{tests, lt-ltb, le-ltb}
+use native.Mathlib.Omega.{arith}
+use Rattle.std.specs.Bool.{MatchBool}
+use Rattle.std.specs.List.{HoldsAt, AllWithin}
+use Rattle.std.proofs.lemmas.Iterator.{cases_from_any, YieldsList-from_slice}
 use Rattle.rules.specs.Refusal.{some_above}
-use Rattle.rules.proofs.Windows.{some-found}
+use Rattle.rules.proofs.Windows.{some-found, some-none}
 use Rattle.board_lists.proofs.some_above.Goals as goal
 
-pub loop-i-init : goal.loop-i-init
-unfolding some
-loop-i-init c = (omega arith, refl)
-
-pub bounds-boards-i : goal.bounds-boards-i
-bounds-boards-i c = search rules
-
-pub overflow_cast-boards : goal.overflow_cast-boards
-overflow_cast-boards c = omega (arith, c.shared_slice_known-1.given c.loop-i.i)
-
-pub returns-then-g-boards : goal.returns-then-g-boards
+found : (g : ℕ) (xs : List ℕ) (r : Bool) → MatchBool r ((k : ℕ) × (k < length xs) × HoldsAt (λ x. g < x) xs k) (AllWithin (λ x. x ≤ g) xs 0 (length xs)) → r ≡ some_above g xs
 unfolding some_above
-returns-then-g-boards c = sym (some-found _ _ c.loop-i.i c.loop-i-test.true (lt-ltb _ _ c.if-g-boards.true))
-
-pub overflow_add-i : goal.overflow_add-i
-overflow_add-i c = search rules
-
-pub loop-i-smaller : goal.loop-i-smaller
-loop-i-smaller c = search rules
-
-pub loop-i-preserved : goal.loop-i-preserved
-unfolding some
-loop-i-preserved c = (omega arith, rw (add-one, c.loop-i.invariant.1) (le-ltb _ _ c.if-g-boards.false))
+found g xs true h = sym (some-found _ _ h.0 h.1 (lt-ltb _ _ (h.2 0)))
+found g xs false h = sym ((some-none _ _).1 (λ k l e. let no = le-ltb g (get_or xs k 0) (h k 0 (omega arith) l) in cc))
 
 pub returns : goal.returns
-unfolding some_above
 returns c =
-    let e : c.loop-i.i ≡ length c.args.boards.now = omega arith in
-    sym (rw e at c.loop-i.invariant.1)
+    found _ _ _
+    (cases_from_any _ _ _ (λ x. c.args.g < x) (λ x. x ≤ c.args.g) c.any.ensures.ran (YieldsList-from_slice c.args.boards.now cc)
+    (λ x q k. search (rules, tests)) (λ x q k. search (rules, tests)))
