@@ -4,10 +4,11 @@
 ghost use Rattle.std.specs.Prelude.{◌≡◌, false, ◌≤◌, length};
 ghost use Rattle.rules.specs.State.{S};
 ghost use Rattle.rules.specs.Asked.{asked_by};
-ghost use Rattle.rules.specs.Refusal.{bad_stretch, some_above, above_unit, figures_refusal};
+ghost use Rattle.rules.specs.Refusal.{bad_stretch, some_above, above_unit, figures_refusal, refusal_in};
 ghost use Rattle.asked.specs.Parts.{rated_of, place_refusal, lists_refusal, part_refusal};
 
 use rules::limit::CELLS;
+use rules::refusal::Refusal;
 use rules::{Question, RatedLists, Rule, kind};
 
 // Refusal 3.
@@ -54,20 +55,20 @@ pub fn rated_weights(rule: Rule, n: usize, weights: &[u16], a: u64, b: u64) -> &
     &weights[from..upto]
 }
 
-// Refusals 1, 2 and 3 of a list of n, the first that applies; 0 for none.
-pub fn place_refusal(rule: Rule, a: u64, b: u64, n: u64) -> u64
-    ensures { result ≡ place_refusal rule a b n }
+// Refusals 1, 2 and 3 of a list of n, the first that applies.
+pub fn place_refusal(rule: Rule, a: u64, b: u64, n: u64) -> Result<(), Refusal>
+    ensures { refusal_in result ≡ place_refusal rule a b n }
 {
     if refusals::kind_out(rule) {
-        return rules::refusal::KIND;
+        return Err(Refusal::Kind);
     }
     if refusals::size_out(n) {
-        return rules::refusal::SIZE;
+        return Err(Refusal::Size);
     }
     if stretch_out(a, b, n) {
-        return rules::refusal::STRETCH;
+        return Err(Refusal::Stretch);
     }
-    0
+    Ok(())
 }
 
 // Refusal 4, of the components rated and of the boards.
@@ -82,9 +83,16 @@ fn numbers_out(all: u64, survival: &[u32], own: &[u32]) -> bool
 }
 
 // Refusals 5 and 6 of a stretch that lies in a list of n.
-pub fn part_refusal(rule: Rule, a: u64, b: u64, n: usize, weights: &[u16], more: &[u64]) -> u64
+pub fn part_refusal(
+    rule: Rule,
+    a: u64,
+    b: u64,
+    n: usize,
+    weights: &[u16],
+    more: &[u64],
+) -> Result<(), Refusal>
     requires { place_refusal rule a b n ≡ 0 }
-    ensures { result ≡ part_refusal rule a b n weights.now more.now }
+    ensures { refusal_in result ≡ part_refusal rule a b n weights.now more.now }
 {
     let from = a as usize - 1;
     let upto = b as usize;
@@ -100,51 +108,39 @@ pub fn part_refusal(rule: Rule, a: u64, b: u64, n: usize, weights: &[u16], more:
 }
 
 // Refusals 20, 21 and 4 of a stretch that lies in the list: the boards' lists, then every survival number that is read.
-fn lists_refusal(question: Question, lists: &RatedLists) -> u64
+fn lists_refusal(question: Question, lists: &RatedLists) -> Result<(), Refusal>
     requires { bad_stretch question.a question.b (length lists.now.survival.now) ≡ false }
-    ensures { result ≡ lists_refusal question lists.now.survival.now lists.now.boards.now lists.now.switchboards.now }
+    ensures { refusal_in result ≡ lists_refusal question lists.now.survival.now lists.now.boards.now lists.now.switchboards.now }
 {
     let version = question.version;
     let from = question.a as usize - 1;
     let upto = question.b as usize;
     let n = lists.survival.len();
     let g = lists.switchboards.len() as u64;
-    let boarded = board_lists::refusal(version, n, g, lists.boards, from, upto);
-    if boarded != 0 {
-        return boarded;
-    }
+    board_lists::refusal(version, n, g, lists.boards, from, upto)?;
     let own = board_lists::numbers_read(version, lists.switchboards);
     let all = units::whole(units::is_decimal(version));
     if numbers_out(all, &lists.survival[from..upto], own) {
-        return rules::refusal::SURVIVAL;
+        return Err(Refusal::Survival);
     }
-    0
+    Ok(())
 }
 
-// Refusals 11, then 1 to 7 with 20 and 21 before 4, the first that applies; 0 for none.
-pub fn refusal(question: Question, lists: &RatedLists, table: &[u64]) -> u64
+// Refusals 11, then 1 to 7 with 20 and 21 before 4, the first that applies.
+pub fn refusal(question: Question, lists: &RatedLists, table: &[u64]) -> Result<(), Refusal>
     ensures { let q = asked_by question lists.now in
-        result ≡ figures_refusal q table.now }
+        refusal_in result ≡ figures_refusal q table.now }
 {
     if refusals::version_out(question.version) {
-        return rules::refusal::VERSION;
+        return Err(Refusal::Version);
     }
     let rule = question.rule;
     let n = lists.survival.len();
-    let place = place_refusal(rule, question.a, question.b, n as u64);
-    if place != 0 {
-        return place;
-    }
-    let listed = lists_refusal(question, lists);
-    if listed != 0 {
-        return listed;
-    }
-    let part = part_refusal(rule, question.a, question.b, n, lists.weights, lists.more);
-    if part != 0 {
-        return part;
-    }
+    place_refusal(rule, question.a, question.b, n as u64)?;
+    lists_refusal(question, lists)?;
+    part_refusal(rule, question.a, question.b, n, lists.weights, lists.more)?;
     if table.len() < CELLS {
-        return rules::refusal::TABLE;
+        return Err(Refusal::Table);
     }
-    0
+    Ok(())
 }

@@ -3,11 +3,12 @@
 
 ghost use Rattle.std.specs.Prelude.{true, ◌≡◌, ◌-◌, ◌≤◌, length, take, drop};
 ghost use Rattle.rules.specs.Boards.{has_boards, boards_read};
-ghost use Rattle.rules.specs.Refusal.{some_above, bad_boards, misplaced};
+ghost use Rattle.rules.specs.Refusal.{some_above, bad_boards, misplaced, refusal_in};
 ghost use Rattle.board_lists.specs.Refused.{boards_refusal};
 
 use refusals::outside;
 use rules::limit;
+use rules::refusal::Refusal;
 
 // The most boards of a deck.
 const MOST: u64 = limit::BOARDS as u64;
@@ -51,22 +52,29 @@ pub fn misplaced(version: u64, n: usize, g: u64, boards: &[u8], from: usize, upt
     false
 }
 
-// Refusals 20 and 21, in that order; 0 for none, which a version without boards is told at once.
-pub fn refusal(version: u64, n: usize, g: u64, boards: &[u8], from: usize, upto: usize) -> u64
+// Refusals 20 and 21, in that order; a version without boards has neither.
+pub fn refusal(
+    version: u64,
+    n: usize,
+    g: u64,
+    boards: &[u8],
+    from: usize,
+    upto: usize,
+) -> Result<(), Refusal>
     requires { (from ≤ upto) × (upto ≤ n) }
     ensures { let placed = boards.now in
-        result ≡ boards_refusal version n g placed (take (upto - from) (drop from placed)) }
+        refusal_in result ≡ boards_refusal version n g placed (take (upto - from) (drop from placed)) }
 {
     if !has_boards(version) {
-        return 0;
+        return Ok(());
     }
     if boards_out(version, g) {
-        return rules::refusal::BOARDS;
+        return Err(Refusal::Boards);
     }
     if misplaced(version, n, g, boards, from, upto) {
-        return rules::refusal::BOARD;
+        return Err(Refusal::Board);
     }
-    0
+    Ok(())
 }
 
 // What is read of the board numbers of the fans from place `from` up to `upto`: nothing where the version has no

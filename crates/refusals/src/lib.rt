@@ -5,10 +5,11 @@ mod pairs; // pairs.rt: kind 8's pairs
 
 ghost use Rattle.std.specs.Prelude.{not, ◌≡◌, ◌≤◌, length};
 ghost use Rattle.rules.specs.Below.{total, within};
-ghost use Rattle.rules.specs.Refusal.{most, bad_version, bad_kind, not_counted, bad_size, range_one, range_two, ranged};
+ghost use Rattle.rules.specs.Refusal.{most, bad_version, bad_kind, not_counted, bad_size, range_one, range_two, ranged, refusal_in};
 ghost use Rattle.refusals.specs.Shared.{rated_refusal, rule_refusal};
 
-use rules::{Rule, kind, limit, refusal};
+use rules::refusal::Refusal;
+use rules::{Rule, kind, limit};
 
 // The most components of a list.
 const MOST: u64 = limit::FANS as u64;
@@ -110,38 +111,38 @@ pub fn rated_refusal(
     n: u64,
     rated: &[u16],
     more: &[u64],
-) -> u64
+) -> Result<(), Refusal>
     requires { (whole ≤ most) × (length rated.now ≤ listed) }
-    ensures { result ≡ rated_refusal rule whole listed n (total rated.now) more.now }
+    ensures { refusal_in result ≡ rated_refusal rule whole listed n (total rated.now) more.now }
 {
     if rule.kind != kind::WEIGHT {
         if range_out(rule, n, 0, more) {
-            return refusal::RANGE;
+            return Err(Refusal::Range);
         }
-        return 0;
+        return Ok(());
     }
     if listed != whole {
-        return refusal::WEIGHTS;
+        return Err(Refusal::Weights);
     }
     let total = total_of(rated);
     if limit::WEIGHT < total {
-        return refusal::WEIGHTS;
+        return Err(Refusal::Weights);
     }
     if range_out(rule, n, total, more) {
-        return refusal::RANGE;
+        return Err(Refusal::Range);
     }
-    0
+    Ok(())
 }
 
-// Refusals 1, 2, 5 and 6, the lowest that applies; 0 for none.
-pub fn rule_refusal(rule: Rule, n: u64, weights: &[u16], more: &[u64]) -> u64
-    ensures { result ≡ rule_refusal rule n weights.now more.now }
+// Refusals 1, 2, 5 and 6, the lowest that applies.
+pub fn rule_refusal(rule: Rule, n: u64, weights: &[u16], more: &[u64]) -> Result<(), Refusal>
+    ensures { refusal_in result ≡ rule_refusal rule n weights.now more.now }
 {
     if kind_out(rule) {
-        return refusal::KIND;
+        return Err(Refusal::Kind);
     }
     if size_out(n) {
-        return refusal::SIZE;
+        return Err(Refusal::Size);
     }
     rated_refusal(rule, n, weights.len() as u64, n, weights, more)
 }

@@ -12,7 +12,7 @@ pub mod Monotone
 pub mod Near
 pub mod Units
 pub mod Unless
-pub mod Told
+pub mod Numbers
 pub mod Answer
 pub mod Dead
 pub mod Reading

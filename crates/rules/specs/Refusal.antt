@@ -194,6 +194,6 @@ number refusal.Board = 21
 number refusal.Cut = 22
 
 -- what a test answers that may refuse, as a number: 0 where it does not
-abbrev pub told : {A : Type 0} → Result A Refusal → ℕ
-told (Ok answer) = 0
-told (Err refused) = number refused
+abbrev pub refusal_in : {A : Type 0} → Result A Refusal → ℕ
+refusal_in (Ok answer) = 0
+refusal_in (Err refused) = number refused

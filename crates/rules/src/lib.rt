@@ -1,5 +1,5 @@
 // The words that every call shares: a rule, a system of a deck, what each call answers, and the documents' numbers.
-// They hold no code.
+// They hold no code but a refusal's number.
 #![tactic(auto)]
 
 pub mod kind; // kind.rt: the kinds of a rule

@@ -6,8 +6,10 @@ use mathlib.Core.List.{List, [], ◌∷◌}
 use Prim.Native.Nat.{ℕ}
 use borrow.Author.Tests.{lt-ltb, le-ltb}
 use Rattle.rules.specs.Asked.{Asked, question_in, asked_by, length_of}
-use Rattle.rules.specs.Refusal.{bad_version, after, short_table, first_of, figures_refusal}
+use Rattle.rules.specs.declared.refusal.Refusal.{Refusal}
+use Rattle.rules.specs.Refusal.{number, bad_version, after, short_table, first_of, figures_refusal}
 use Rattle.rules.proofs.Accepted.{first-of, first-after}
+use Rattle.rules.proofs.Numbers.{number-some, handed_on}
 use Rattle.rules.proofs.Unless.{after_none, after-some}
 use Rattle.asked.specs.Parts.{place_refusal, lists_refusal, part_refusal}
 use Rattle.asked.proofs.Refused.{placed, past-version}
@@ -50,48 +52,48 @@ module _ (q : Asked) (table : List ℕ) where
   past4 : bad_version q.version ≡ false → place ≡ 0 → lists ≡ 0 → part ≡ 0 → refused ≡ last
   past4 version e f g = past3 version e f ∙ after_none _ _ g
 
--- an answer that is a refusal is the first of what is left
-given : (rest : ℕ) {answer part whole : ℕ} → answer ≡ part → (answer ≡ 0 → ⊥)
-    → whole ≡ after part rest → answer ≡ whole
-given rest e some h = e ∙ sym (h ∙ after-some _ _ (λ none. some (e ∙ none)))
+-- a refusal by a part is the first of what is left
+given : (rest : ℕ) (r : Refusal) {part whole : ℕ} → number r ≡ part → whole ≡ after part rest → number r ≡ whole
+given rest r e h = e ∙ sym (h ∙ after-some _ _ (λ none. number-some r (e ∙ none)))
 
 pub returns-then-version_out : goal.returns-then-version_out
 unfolding figures_refusal
 returns-then-version_out c = sym (first-of 11 _ _ (sym c.version_out.ensures ∙ c.if-version_out.true))
 
-pub returns-then-place-ne0 : goal.returns-then-place-ne0
-returns-then-place-ne0 c =
-    let q = asked ((goal.at.returns-then-place-ne0 c).After-version_out) in
-    given _ c.place_refusal-place.ensures c.if-place-ne0.true
-    (past1 q c.args.table.now (sym c.version_out.ensures ∙ c.if-version_out.false))
+pub returns-in_err-place_refusal : goal.returns-in_err-place_refusal
+returns-in_err-place_refusal c =
+    let q = asked ((goal.at.returns-in_err-place_refusal c).After-version_out) in
+    handed_on _ _ c.from_residual.ensures.1
+    (given _ _ c.in_err-place_refusal.ensures (past1 q c.args.table.now (sym c.version_out.ensures ∙ c.if-version_out.false)))
 
-pub lists_refusal-listed-requires : goal.lists_refusal-listed-requires
-lists_refusal-listed-requires c = (placed _ _ _ _ (sym c.place_refusal-place.ensures ∙ c.if-place-ne0.false)).inside
+pub lists_refusal-requires : goal.lists_refusal-requires
+lists_refusal-requires c = (placed _ _ _ _ (sym c.in_ok-place_refusal.ensures)).inside
 
-pub returns-then-listed-ne0 : goal.returns-then-listed-ne0
-returns-then-listed-ne0 c =
-    let q = asked ((goal.at.returns-then-listed-ne0 c).After-version_out) in
-    given _ c.lists_refusal-listed.ensures c.if-listed-ne0.true
-    (past2 q c.args.table.now (sym c.version_out.ensures ∙ c.if-version_out.false) (sym c.place_refusal-place.ensures ∙ c.if-place-ne0.false))
+pub returns-in_err-lists_refusal : goal.returns-in_err-lists_refusal
+returns-in_err-lists_refusal c =
+    let q = asked ((goal.at.returns-in_err-lists_refusal c).After-version_out) in
+    handed_on _ _ c.from_residual-in_err-lists_refusal.ensures.1
+    (given _ _ c.in_err-lists_refusal.ensures
+    (past2 q c.args.table.now (sym c.version_out.ensures ∙ c.if-version_out.false) (sym c.in_ok-place_refusal.ensures)))
 
-pub returns-then-part-ne0 : goal.returns-then-part-ne0
-returns-then-part-ne0 c =
-    let q = asked ((goal.at.returns-then-part-ne0 c).After-version_out) in
-    given _ c.part_refusal-part.ensures c.if-part-ne0.true
-    (past3 q c.args.table.now (sym c.version_out.ensures ∙ c.if-version_out.false) (sym c.place_refusal-place.ensures ∙ c.if-place-ne0.false)
-    (sym c.lists_refusal-listed.ensures ∙ c.if-listed-ne0.false))
+pub returns-in_err-part_refusal : goal.returns-in_err-part_refusal
+returns-in_err-part_refusal c =
+    let q = asked ((goal.at.returns-in_err-part_refusal c).After-version_out) in
+    handed_on _ _ c.from_residual-in_err-part_refusal.ensures.1
+    (given _ _ c.in_err-part_refusal.ensures
+    (past3 q c.args.table.now (sym c.version_out.ensures ∙ c.if-version_out.false) (sym c.in_ok-place_refusal.ensures) (sym c.in_ok-lists_refusal.ensures)))
 
 pub returns-then-table-lt-CELLS : goal.returns-then-table-lt-CELLS
 returns-then-table-lt-CELLS c =
     let q = asked ((goal.at.returns-then-table-lt-CELLS c).After-version_out) in
-    sym (past4 q c.args.table.now (sym c.version_out.ensures ∙ c.if-version_out.false) (sym c.place_refusal-place.ensures ∙ c.if-place-ne0.false)
-    (sym c.lists_refusal-listed.ensures ∙ c.if-listed-ne0.false) (sym c.part_refusal-part.ensures ∙ c.if-part-ne0.false)
+    sym (past4 q c.args.table.now (sym c.version_out.ensures ∙ c.if-version_out.false) (sym c.in_ok-place_refusal.ensures)
+    (sym c.in_ok-lists_refusal.ensures) (sym c.in_ok-part_refusal.ensures)
     ∙ first-of 7 _ [] (lt-ltb _ _ c.if-table-lt-CELLS.true))
 
 pub returns : goal.returns
 unfolding first_of
 returns c =
     let q = asked ((goal.at.returns c).After-version_out) in
-    sym (past4 q c.args.table.now (sym c.version_out.ensures ∙ c.if-version_out.false) (sym c.place_refusal-place.ensures ∙ c.if-place-ne0.false)
-    (sym c.lists_refusal-listed.ensures ∙ c.if-listed-ne0.false) (sym c.part_refusal-part.ensures ∙ c.if-part-ne0.false)
+    sym (past4 q c.args.table.now (sym c.version_out.ensures ∙ c.if-version_out.false) (sym c.in_ok-place_refusal.ensures)
+    (sym c.in_ok-lists_refusal.ensures) (sym c.in_ok-part_refusal.ensures)
     ∙ first-after 7 _ [] (le-ltb _ _ c.if-table-lt-CELLS.false))

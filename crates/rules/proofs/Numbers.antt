@@ -1,10 +1,13 @@
--- A refusal's number is not 0: by cases on the refusal. So what a test told is 0 where it did not refuse, and only there. Assumes nothing.
+-- A refusal's number is not 0: by cases on the refusal. What a `?` hands on has the number of the refusal that it met. Assumes nothing.
 use mathlib.Core.Path.{◌≡◌}
+use Rattle.std.proofs.Common.{Result}
+use Rattle.std.specs.Result.{IsErrAnd}
+use Rattle.std.proofs.lemmas.Result.{err_from_is_err_and}
 use Prim.Native.Nat.{ℕ, ◌<◌}
 use native.Mathlib.Omega.{arith}
 use Rattle.rules.specs.declared.refusal.Refusal.{Refusal}
 use Rattle.rules.specs.declared.refusal.Refusal.TheVariants as refusal
-use Rattle.rules.specs.Refusal.{number}
+use Rattle.rules.specs.Refusal.{number, refusal_in}
 
 pub number-positive : (r : Refusal) → 0 < number r
 number-positive refusal.Kind = omega arith
@@ -32,3 +35,6 @@ number-positive refusal.Cut = omega arith
 
 pub number-some : (r : Refusal) → number r ≡ 0 → ⊥
 number-some r e = omega (arith, number-positive r)
+
+pub handed_on : {A : Type 0} (r : Result A Refusal) (met : Refusal) {refused : ℕ} → IsErrAnd r (λ e. e ≡ met) → number met ≡ refused → refusal_in r ≡ refused
+handed_on r met err n = let p = err_from_is_err_and r err in rw (p.1, p.2) n
