@@ -58,12 +58,10 @@ fn first_window(n: u64, width: u64, need: u64, w: u64, starts: u64) -> u64
     requires { (1 ≤ width) × (width ≤ n) × (n ≤ most) × (w < 2 ^ n) × (starts ≤ n) }
     ensures { result ≡ first (λ a. leb need (held_in n a w width)) starts }
 {
-    let mut a: u64 = 0;
-    while a < starts {
+    for a in 0..starts {
         if need <= held_from(n, a, w, width) {
             return a;
         }
-        a += 1;
     }
     starts
 }
@@ -118,10 +116,8 @@ fn weighed(n: u64, weights: &[u16], w: u64) -> u64
     ensures { result ≡ weight_down n weights.now w }
 {
     let mut sum: u64 = 0;
-    let mut i: usize = 0;
-    while i < weights.len() {
-        sum += ones_in(w, i as u64, 1) * weights[i] as u64;
-        i += 1;
+    for (i, weight) in weights.iter().enumerate() {
+        sum += ones_in(w, i as u64, 1) * u64::from(*weight);
     }
     sum
 }

@@ -25,12 +25,10 @@ fn further_lacks(more: &[u64], n: u64, a: u64, w: u64) -> bool
     requires start { From n w a (pairs_in more.now) }
     ensures { result ≡ any_of (lacking_from n w a) (pairs_in more.now) }
 {
-    let mut i: usize = 0;
-    while i + 1 < more.len() {
-        if lacks(more[i], more[i + 1], n, a, w) {
+    for pair in more.chunks_exact(2) {
+        if lacks(pair[0], pair[1], n, a, w) {
             return true;
         }
-        i += 2;
     }
     false
 }
@@ -53,12 +51,10 @@ fn first_lacking(k: u64, r: u64, more: &[u64], n: u64, w: u64) -> u64
     requires pairs { Judgeable n w (pairs_of k r more.now) }
     ensures { result ≡ first (λ a. any_of (lacking_from n w a) (pairs_of k r more.now)) n }
 {
-    let mut a: u64 = 0;
-    while a < n {
+    for a in 0..n {
         if some_lacks(k, r, more, n, a, w) {
             return a;
         }
-        a += 1;
     }
     n
 }

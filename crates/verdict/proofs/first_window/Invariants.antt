@@ -1,14 +1,10 @@
 -- `verdict::first_window` meets its contract: no start that was passed has a failing window. Assumes nothing.
 use mathlib.Core.Path.{◌≡◌}
 use mathlib.Core.Bool.{false}
-use Prim.Native.Nat.{◌-◌, ◌≤◌}
 use lib.Dec.{leb}
 use Rattle.rules.specs.Below.{some}
 use Rattle.rules.specs.State.{held_in}
 use Rattle.verdict.proofs.first_window.Given as goal
 
 abbrev pub invariant-loop-a : goal.invariant-loop-a
-invariant-loop-a l = (l.a ≤ l.starts) × (some (λ s. leb l.need (held_in l.n s l.w l.width)) l.a ≡ false)
-
-abbrev pub decreases-loop-a : goal.decreases-loop-a
-decreases-loop-a l = l.starts - l.a
+invariant-loop-a l = some (λ s. leb l.need (held_in l.n s l.w l.width)) l.a ≡ false

@@ -14,24 +14,12 @@ use Rattle.std.proofs.lemmas.Iterator.Search.{any_from_yields_List}
 use Rattle.std.proofs.Common.{Option, None, Some}
 use Rattle.rules.specs.declared.Pair.{Pair}
 use Rattle.rules.specs.Pairs.{pair_of, pairs_in, all_of, in_range8, good_pair}
+use Rattle.refusals.proofs.Twos.{short, front}
 use Rattle.refusals.proofs.pairs.more_out.Goals as goal
 
 -- the pair in a chunk of two
 abbrev pair_at : Bor (List ℕ) → Pair
 pair_at x = pair_of (get_or x.now 0 0) (get_or x.now 1 0)
-
-short : (xs : List ℕ) → length xs < 2 → pairs_in xs ≡ []
-unfolding pairs_in
-short [] l = refl
-short (a ∷ []) l = refl
-short (a ∷ b ∷ xs) l = absurd (omega arith)
-
-front : (x rest : List ℕ) → length x ≡ 2 → pairs_in (x ++ rest) ≡ pair_of (get_or x 0 0) (get_or x 1 0) ∷ pairs_in rest
-unfolding pairs_in
-front [] rest e = absurd (omega arith)
-front (a ∷ []) rest e = absurd (omega arith)
-front (a ∷ b ∷ []) rest e = refl
-front (a ∷ b ∷ c ∷ xs) rest e = absurd (omega arith)
 
 -- an iterator that gives two numbers at a time, while it has two
 module _ {S : Type 0} (steps : S → Option (Bor (List ℕ)) → S → Type 0) (left : S → List ℕ) (size : S → ℕ) (stop : (s t : S) → steps s None t → length (left s) < size s)

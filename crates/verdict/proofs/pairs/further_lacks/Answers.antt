@@ -1,60 +1,42 @@
 -- `verdict::pairs::further_lacks` meets its contract: none of the pairs that were passed lacks, so some does where one of those not yet read does.
 -- Assumes nothing.
-use mathlib.Core.Path.{refl, sym, ◌∙◌}
-use Prim.Native.Nat.{◌-◌}
+use mathlib.Core.Path.{◌≡◌, ap, ◌∙◌}
+use mathlib.Core.List.{◌∷◌}
+use lib.ListN.{get_or}
 use native.Mathlib.Omega.{arith}
-use borrow.Author.Rules.{rules}
-use Rattle.rules.specs.Pairs.{lacking_from}
-use Rattle.rules.proofs.Further.{pairs-step, any_found, any_next, any_last}
+use Rattle.std.specs.Slice.Iter.{chunks_exact_rest}
+use Rattle.rules.specs.Pairs.{pair_of, pairs_in, any_of}
+use Rattle.refusals.proofs.Twos.{short, front}
 use Rattle.verdict.proofs.InRange.{alone, rest}
 use Rattle.verdict.proofs.pairs.further_lacks.Goals as goal
+use Rattle.verdict.proofs.pairs.further_lacks.Goals.{In-Some}
 
-pub loop-i-init : goal.loop-i-init
-loop-i-init c = (omega arith, refl, c.requires.start)
-
-pub overflow_add-i : goal.overflow_add-i
-overflow_add-i c = omega (arith, c.requires.few)
-
-pub offset_bounds-more-i : goal.offset_bounds-more-i
-offset_bounds-more-i c = search rules
-
-pub bounds-more-i : goal.bounds-more-i
-bounds-more-i c = omega arith
-
-pub overflow_add-i-in-loop-i : goal.overflow_add-i-in-loop-i
-overflow_add-i-in-loop-i c = omega (arith, c.requires.few)
-
-pub offset_bounds-more-i-in-loop-i : goal.offset_bounds-more-i-in-loop-i
-offset_bounds-more-i-in-loop-i c = search rules
-
-pub bounds-more-i-in-loop-i : goal.bounds-more-i-in-loop-i
-bounds-more-i-in-loop-i c = omega arith
+-- the pair that is looked at is the first of those that are left
+turn : (c : In-Some) → let x = c.in-Some.pair.now in
+    pairs_in (chunks_exact_rest c.loop-pair.pair-iterator) ≡ pair_of (get_or x 0 0) (get_or x 1 0) ∷ pairs_in (chunks_exact_rest c.next.new.self)
+turn c =
+    let h = c.in-Some.ensures.steps in
+    ap pairs_in h.1.0 ∙ front c.in-Some.pair.now _ (h.1.1 ∙ c.loop-pair.invariant.by_two)
 
 pub lacks-requires : goal.lacks-requires
-lacks-requires c =
-    alone (rw (pairs-step c.args.more.now c.loop-i.i c.loop-i-test.true) at c.loop-i.invariant.2)
+lacks-requires c = alone (rw (turn ((goal.at.lacks-requires c).In-Some)) at c.loop-pair.invariant.handed)
 
 pub returns-then-lacks : goal.returns-then-lacks
-returns-then-lacks c =
-    sym
-    (sym c.loop-i.invariant.1
-    ∙ any_found c.args.more.now c.loop-i.i (lacking_from c.args.n c.args.w c.args.a) c.loop-i-test.true
-    (sym c.lacks.ensures ∙ c.if-lacks.true))
+unfolding any_of
+returns-then-lacks c = rw (← c.loop-pair.invariant.as_far, turn ((goal.at.returns-then-lacks c).In-Some), ← c.lacks.ensures, c.if-lacks.true)
 
-pub overflow_add-i-in-loop-i-2 : goal.overflow_add-i-in-loop-i-2
-overflow_add-i-in-loop-i-2 c =
-    omega (arith, c.requires.few)
-
-pub loop-i-smaller : goal.loop-i-smaller
-loop-i-smaller c = omega arith
-
-pub loop-i-preserved : goal.loop-i-preserved
-loop-i-preserved c = (
-  omega arith,
-  any_next c.args.more.now c.loop-i.i (lacking_from c.args.n c.args.w c.args.a) c.loop-i-test.true (sym c.lacks.ensures ∙ c.if-lacks.false) ∙ c.loop-i.invariant.1,
-  rest (rw (pairs-step c.args.more.now c.loop-i.i c.loop-i-test.true) at c.loop-i.invariant.2),
-)
+pub loop-pair-preserved : goal.loop-pair-preserved
+unfolding any_of
+loop-pair-preserved c =
+    let e = turn ((goal.at.loop-pair-preserved c).In-Some) in
+    record {
+      by_two = c.in-Some.ensures.steps.0 ∙ c.loop-pair.invariant.by_two;
+      as_far = rw (← c.loop-pair.invariant.as_far, e, ← c.lacks.ensures, c.if-lacks.false);
+      handed = rest (rw e at c.loop-pair.invariant.handed);
+    }
 
 pub returns : goal.returns
+unfolding any_of
 returns c =
-    sym (sym c.loop-i.invariant.1 ∙ any_last c.args.more.now c.loop-i.i (lacking_from c.args.n c.args.w c.args.a) c.loop-i-test.false)
+    let h = c.in-None.ensures.steps in
+    rw (← c.loop-pair.invariant.as_far, short (chunks_exact_rest c.loop-pair.pair-iterator) (omega (arith, h.1.0, c.loop-pair.invariant.by_two)))
