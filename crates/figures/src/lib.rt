@@ -12,9 +12,8 @@ pub fn rate(question: Question, lists: &RatedLists, table: &mut [u64]) -> Rating
     ensures { let q = asked_by question lists.now in
         Answered q table.old table.new result }
 {
-    let refused = asked::refusal(question, lists, table);
-    if refused != 0 {
-        return Rating::Refused(refused);
+    if let Err(refused) = asked::refusal(question, lists, table) {
+        return Rating::Refused(refused.number());
     }
     let ends = stretches::work(question, lists, table);
     let low = ends.low;

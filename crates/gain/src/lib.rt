@@ -3,34 +3,34 @@
 
 ghost use Rattle.std.specs.Prelude.{◌≡◌};
 ghost use Rattle.rules.specs.Asked.{asked_by};
-ghost use Rattle.rules.specs.Refusal.{rating_refusal};
+ghost use Rattle.rules.specs.Refusal.{rating_refusal, refusal_in};
 ghost use Rattle.rules.specs.Gain.{spare_above, gain_refusal};
 ghost use Rattle.gain.specs.Outcome.{with_spare, Found, Answered, Gained};
 
+use rules::refusal::{self, Refusal};
 use rules::{Question, RatedLists, Spare, Worth};
 use swaps::Swap;
 
 // The figures' own refusal with the spare's number among those of 4: it comes before 5, 6 and 7, and after the rest.
-fn with_spare(above: bool, own: u64) -> u64
-    ensures { result ≡ with_spare above own }
+fn with_spare(above: bool, own: Result<(), Refusal>) -> Result<(), Refusal>
+    ensures { refusal_in result ≡ with_spare above (refusal_in own) }
 {
     if !above {
         return own;
     }
-    if own == 0 {
-        return rules::refusal::SURVIVAL;
+    if let Err(refused) = own {
+        let earlier = refusals::outside(refusal::WEIGHTS, refused.number(), refusal::TABLE);
+        if earlier {
+            return Err(refused);
+        }
     }
-    let earlier = refusals::outside(rules::refusal::WEIGHTS, own, rules::refusal::TABLE);
-    if earlier {
-        return own;
-    }
-    rules::refusal::SURVIVAL
+    Err(Refusal::Survival)
 }
 
-// The refusals of the figures with a spare's number among those of 4, the first that applies; 0 for none.
-pub fn refusal(question: Question, p: u64, lists: &RatedLists, table: &[u64]) -> u64
+// The refusals of the figures with a spare's number among those of 4, the first that applies.
+pub fn refusal(question: Question, p: u64, lists: &RatedLists, table: &[u64]) -> Result<(), Refusal>
     ensures { let q = asked_by question lists.now in
-        result ≡ rating_refusal (spare_above q p) q table.now }
+        refusal_in result ≡ rating_refusal (spare_above q p) q table.now }
 {
     let own = asked::refusal(question, lists, table);
     let all = units::whole(units::is_decimal(question.version));
@@ -61,9 +61,8 @@ pub fn weigh(question: Question, spare: Spare, lists: &RatedLists, table: &mut [
         Answered q spare table.old table.new result }
 {
     let rated = refusal(question, spare.p, lists, table);
-    let refused = swaps::fan_refusal(rated, question.a, spare.fan, question.b);
-    if refused != 0 {
-        return Worth::Refused(refused);
+    if let Err(refused) = swaps::fan_refusal(rated, question.a, spare.fan, question.b) {
+        return Worth::Refused(refused.number());
     }
     rate_spare(question, spare, lists, table)
 }

@@ -7,7 +7,7 @@ ghost use Rattle.std.proofs.Math.IntN.{sub_ℕ};
 ghost use Rattle.rules.specs.declared.Worth.TheVariants.{Ends as Between};
 ghost use Rattle.rules.specs.State.{S};
 ghost use Rattle.rules.specs.Asked.{asked_by};
-ghost use Rattle.rules.specs.Refusal.{most};
+ghost use Rattle.rules.specs.Refusal.{most, refusal_in};
 ghost use Rattle.stretches.specs.Outcome.{Worked};
 ghost use Rattle.swaps.specs.Copied.{Copied};
 ghost use Rattle.swaps.specs.Swapping.{swap_in, Swappable};
@@ -15,6 +15,7 @@ ghost use Rattle.swaps.specs.Compared.{fan_refusal, is_ends};
 
 use places::Ends;
 use rules::limit::FANS;
+use rules::refusal::Refusal;
 use rules::{Question, RatedLists, Worth};
 
 // A survival number, and the two fans of the list that get it; one fan twice where there is one.
@@ -26,18 +27,15 @@ pub struct Swap {
 }
 
 // A rating's own refusal, then 17: the fan is outside the stretch.
-pub fn fan_refusal(own: u64, a: u64, fan: u64, b: u64) -> u64
-    ensures { result ≡ fan_refusal own a fan b }
+pub fn fan_refusal(own: Result<(), Refusal>, a: u64, fan: u64, b: u64) -> Result<(), Refusal>
+    ensures { refusal_in result ≡ fan_refusal (refusal_in own) a fan b }
 {
-    let refused = own != 0;
     let outside = refusals::outside(a, fan, b);
-    if refused {
-        return own;
-    }
+    own?;
     if outside {
-        return rules::refusal::FAN;
+        return Err(Refusal::Fan);
     }
-    0
+    Ok(())
 }
 
 // A copy of the survival numbers from one place up to another, each in its own place: the lent list is never written,

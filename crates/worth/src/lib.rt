@@ -38,9 +38,8 @@ pub fn weigh(question: Question, fan: u64, lists: &RatedLists, table: &mut [u64]
         Answered q fan table.old table.new result }
 {
     let own = asked::refusal(question, lists, table);
-    let refused = swaps::fan_refusal(own, question.a, fan, question.b);
-    if refused != 0 {
-        return Worth::Refused(refused);
+    if let Err(refused) = swaps::fan_refusal(own, question.a, fan, question.b) {
+        return Worth::Refused(refused.number());
     }
     rate_sure(question, fan, lists, table)
 }

@@ -3,36 +3,26 @@ use borrow.Author.Rules.{rules}
 use mathlib.Core.Path.{◌≡◌, sym, ap, ◌∙◌}
 use Rattle.rules.specs.Asked.{asked_by}
 use Rattle.rules.specs.Gain.{gain_refusal}
+use Rattle.rules.specs.Refusal.{refusal_in}
+use Rattle.rules.proofs.Numbers.{number-some}
 use Rattle.swaps.specs.Compared.{fan_refusal}
 use Rattle.swaps.proofs.Compared.{compared-refused}
 use Rattle.gain.proofs.Outcome.{answered-found}
 use Rattle.gain.proofs.weigh.Goals as goal
-use Rattle.gain.proofs.weigh.Goals.{After-fan_refusal-refused}
+use Rattle.gain.proofs.weigh.Goals.{After-fan_refusal}
 
-refused : (c : After-fan_refusal-refused) → let x = c.args in
-    c.fan_refusal-refused.result
+refused : (c : After-fan_refusal) → let x = c.args in
+    refusal_in c.fan_refusal.result
     ≡ gain_refusal (asked_by x.question x.lists.now) x.spare.fan x.spare.p x.table.now
 refused c =
-    c.fan_refusal-refused.ensures ∙ ap (λ own. fan_refusal own c.args.question.a c.args.spare.fan c.args.question.b) c.refusal-rated.ensures
+    c.fan_refusal.ensures ∙ ap (λ own. fan_refusal own c.args.question.a c.args.spare.fan c.args.question.b) c.refusal-rated.ensures
 
-pub refusal-rated-requires : goal.refusal-rated-requires
-refusal-rated-requires c = search rules
-
-pub fan_refusal-refused-requires : goal.fan_refusal-refused-requires
-fan_refusal-refused-requires c = search rules
-
-pub shape_of-table-then-refused-ne0 : goal.shape_of-table-then-refused-ne0
-shape_of-table-then-refused-ne0 c = search rules
-
-pub returns-then-refused-ne0 : goal.returns-then-refused-ne0
-returns-then-refused-ne0 c = record { outcome = compared-refused (refused ((goal.at.returns-then-refused-ne0 c).After-fan_refusal-refused)) c.if-refused-ne0.true }
+pub returns-in-Err : goal.returns-in-Err
+returns-in-Err c = record { outcome = compared-refused (c.number.ensures ∙ sym (ap refusal_in c.in-Err.is) ∙ refused ((goal.at.returns-in-Err c).After-fan_refusal)) (λ none. number-some _ (sym c.number.ensures ∙ none)) }
 
 pub rate_spare-requires : goal.rate_spare-requires
-rate_spare-requires c = sym (refused ((goal.at.rate_spare-requires c).After-fan_refusal-refused)) ∙ c.if-refused-ne0.false
-
-pub shape_of-table : goal.shape_of-table
-shape_of-table c = search rules
+rate_spare-requires c = sym (refused ((goal.at.rate_spare-requires c).After-fan_refusal)) ∙ ap refusal_in c.in_default.is
 
 pub returns : goal.returns
 returns c =
-    answered-found (sym (refused ((goal.at.returns c).After-fan_refusal-refused)) ∙ c.if-refused-ne0.false) c.rate_spare.ensures
+    answered-found (sym (refused ((goal.at.returns c).After-fan_refusal)) ∙ ap refusal_in c.in_default.is) c.rate_spare.ensures

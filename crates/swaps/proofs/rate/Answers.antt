@@ -58,8 +58,8 @@ bounds-numbers-second c = omega (arith, two ((goal.at.bounds-numbers-second c).S
 pub slice_bounds-numbers-end : goal.slice_bounds-numbers-end
 slice_bounds-numbers-end c = simp length-set (omega (arith, few ((goal.at.slice_bounds-numbers-end c).Start)))
 
-pub slice_bounds-work-end : goal.slice_bounds-work-end
-slice_bounds-work-end c = sym (length-take-le _ _ (simp length-set (omega (arith, few ((goal.at.slice_bounds-work-end c).Start)))))
+pub slice_bounds-survival-end : goal.slice_bounds-survival-end
+slice_bounds-survival-end c = sym (length-take-le _ _ (simp length-set (omega (arith, few ((goal.at.slice_bounds-survival-end c).Start)))))
 
 pub work-requires : goal.work-requires
 work-requires c =
