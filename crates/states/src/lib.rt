@@ -53,11 +53,9 @@ pub fn board_failed(boards: &[u8], board: u64, state: u64) -> u64
     ensures { result ≡ board_failed boards.now board state }
 {
     let mut after: u64 = 0;
-    let mut i: usize = 0;
-    while i < boards.len() {
-        let failed = failed_with(boards[i], board, i as u64, state);
+    for (i, own) in boards.iter().enumerate() {
+        let failed = failed_with(*own, board, i as u64, state);
         after += bit_of(failed, i as u64);
-        i += 1;
     }
     after
 }
