@@ -6,31 +6,30 @@ mod sums; // sums.rt: kind 2, a row of sums for each number failed
 mod ways; // ways.rt: kinds 1, 3, 6 and 7, which Pascal's table answers
 
 ghost use Rattle.std.specs.Prelude.{◌≡◌};
+ghost use Rattle.rules.specs.Refusal.{refusal_in};
 ghost use Rattle.counts.specs.Tally.{refusal_of, Countable, Tallied};
 ghost use Rattle.counts.specs.Outcome.{Outcome};
 
 use rules::limit::CELLS;
+use rules::refusal::Refusal;
 use rules::{Counting, NO_MORE, Rule, kind};
 
-// Refusals 1, 15, 2, 5, 6, 7 and 8, the first that applies; 0 for none. A kind without a count table is never
+// Refusals 1, 15, 2, 5, 6, 7 and 8, the first that applies. A kind without a count table is never
 // refused by 1, so that 15 may be looked at first.
-fn refusal(rule: Rule, n: u64, weights: &[u16], lent: usize, slots: usize) -> u64
-    ensures { result ≡ refusal_of rule n weights.now lent slots }
+fn refusal(rule: Rule, n: u64, weights: &[u16], lent: usize, slots: usize) -> Result<(), Refusal>
+    ensures { refusal_in result ≡ refusal_of rule n weights.now lent slots }
 {
     if refusals::uncounted(rule) {
-        return rules::refusal::UNCOUNTED;
+        return Err(Refusal::Uncounted);
     }
-    let first = refusals::rule_refusal(rule, n, weights, &NO_MORE);
-    if first != 0 {
-        return first;
-    }
+    refusals::rule_refusal(rule, n, weights, &NO_MORE)?;
     if lent < CELLS {
-        return rules::refusal::TABLE;
+        return Err(Refusal::Table);
     }
     if slots as u64 <= n {
-        return rules::refusal::COUNT_ROOM;
+        return Err(Refusal::CountRoom);
     }
-    0
+    Ok(())
 }
 
 // The counts of an accepted rule, in the first n + 1 cells of the room.
@@ -57,9 +56,8 @@ pub fn counts(rule: Rule, n: u64, weights: &[u16], table: &mut [u64], room: &mut
         let table₀ = table.old in
         Outcome rule n beside table₀ room.old result table.new room.new }
 {
-    let given = refusal(rule, n, weights, table.len(), room.len());
-    if given != 0 {
-        return Counting::Refused(given);
+    if let Err(refused) = refusal(rule, n, weights, table.len(), room.len()) {
+        return Counting::Refused(refused.number());
     }
     tally(rule, n as usize, weights, table, room);
     places::zero(table, CELLS);

@@ -9,7 +9,7 @@ ghost use Rattle.deckspare.specs.Lines.{system_lines, systems_text, list_text, o
 
 use deck::Head;
 use printing::INPUT;
-use rules::Question;
+use rules::{NO_MORE, Question, RatedLists};
 use spare_lines::Job;
 
 // Room for all lines: 218 bytes for each of 64 fans of 32 systems.
@@ -49,17 +49,14 @@ fn put_system(
         a: system.a,
         b: system.b,
     };
-    spare_lines::put_asked(
-        rt,
-        question,
-        job,
-        &survival[..n],
-        &weights[..n],
+    let lists = RatedLists {
+        survival: &survival[..n],
+        weights: &weights[..n],
+        more: &NO_MORE,
         boards,
-        &switchboards[..g],
-        out,
-        at,
-    )
+        switchboards: &switchboards[..g],
+    };
+    spare_lines::put_asked(rt, question, job, &lists, out, at)
 }
 
 // The lines of its systems, of a spare with survival number p.

@@ -1,7 +1,7 @@
 // The worth of a fan to a system of a file.
 #![tactic(auto)]
 
-ghost use Rattle.std.specs.Prelude.{[], ◌≡◌, replicate};
+ghost use Rattle.std.specs.Prelude.{◌≡◌, replicate};
 ghost use Rattle.rules.specs.Asked.{question_of, asked_by};
 ghost use Rattle.rules.specs.Refusal.{cells};
 ghost use Rattle.rules.specs.Worth.{worth_of};
@@ -10,15 +10,10 @@ ghost use Rattle.deck.specs.Outcome.{Placed};
 
 use deck::Head;
 use rules::limit::CELLS;
-use rules::{NO_MORE, Question, System, Worth};
+use rules::{NO_MORE, Question, RatedLists, System, Worth};
 
 // The worth of a fan over a deck's lists, in a working table of its own, which nobody sees after it and nobody clears.
-fn weigh_lists(
-    version: u64,
-    system: System,
-    fan: u64,
-    lists: &RatedLists,
-) -> Worth
+fn weigh_lists(version: u64, system: System, fan: u64, lists: &RatedLists) -> Worth
     ensures { let question = question_of version system.rule system.a system.b in
         let q = asked_by question lists.now in
         result ≡ worth_of q fan (replicate cells 0) }
@@ -31,12 +26,7 @@ fn weigh_lists(
         b: system.b,
     };
     let mut working = [0u64; CELLS];
-    worth::weigh(
-        question,
-        fan,
-        lists,
-        &mut working,
-    )
+    worth::weigh(question, fan, lists, &mut working)
 }
 
 // The worth of a fan to the system at a place of a file that is not refused, counted from 0. Only the lists are copied
@@ -52,15 +42,14 @@ pub fn weigh(file: &[u8], head: Head, s: usize, fan: u64) -> Worth
     let boards = deck::boards_in(file, head);
     let switchboards = deck::board_survival_in(file, head);
     let system = deck::system_in(file, head, s);
-    weigh_lists(
-        head.version,
-        system,
-        fan,
-        &survival[..n],
-        &weights[..n],
+    let lists = RatedLists {
+        survival: &survival[..n],
+        weights: &weights[..n],
+        more: &NO_MORE,
         boards,
-        &switchboards[..g],
-    )
+        switchboards: &switchboards[..g],
+    };
+    weigh_lists(head.version, system, fan, &lists)
 }
 
 // The worth of a fan to a file's system, counted from 1: the file's refusal, then 14, then the system's own, then 17.

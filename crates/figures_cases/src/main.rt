@@ -14,7 +14,7 @@ use figures_case::{
     A, B, CALL, FAN, HEAD, MOST_CELLS, OTHERS, PAIRED, PLACED, RULE, SEED, Sizes, VERSION, WEIGHED,
     size,
 };
-use rules::Question;
+use rules::{Question, RatedLists};
 
 // The call for the worth of a fan.
 const WORTH: u64 = 1;
@@ -39,11 +39,7 @@ fn question_at(bytes: &[u8], at: usize) -> Question
 fn asked(
     bytes: &[u8],
     at: usize,
-    survival: &[u32],
-    weights: &[u16],
-    more: &[u64],
-    boards: &[u8],
-    switchboards: &[u32],
+    lists: &RatedLists,
     table: &mut [u64],
 ) -> Answer
     requires { at + head_words ≤ length bytes.now }
@@ -51,26 +47,9 @@ fn asked(
     let question = question_at(bytes, at);
     if words::word(bytes, at + CALL) == WORTH {
         let fan = words::word(bytes, at + FAN);
-        return Answer::Weighed(worth::worth(
-            question,
-            fan,
-            survival,
-            weights,
-            more,
-            boards,
-            switchboards,
-            table,
-        ));
+        return Answer::Weighed(worth::worth(question, fan, lists, table));
     }
-    Answer::Rated(figures::figures(
-        question,
-        survival,
-        weights,
-        more,
-        boards,
-        switchboards,
-        table,
-    ))
+    Answer::Rated(figures::figures(question, lists, table))
 }
 
 // The same, with the lists read from the case: each stands behind the word that says how long it is.
@@ -87,16 +66,14 @@ fn answered(bytes: &[u8], at: usize, s: Sizes, table: &mut [u64]) -> Answer
     let more = lists::fulls(bytes, at + PAIRED + n + w, m);
     let boards = lists::octets(bytes, at + PLACED + n + w + m, p);
     let switchboards = lists::longs(bytes, at + OTHERS + n + w + m + p, g);
-    asked(
-        bytes,
-        at,
-        &survival[..n],
-        &weights[..w],
-        &more[..m],
-        &boards[..p],
-        &switchboards[..g],
-        table,
-    )
+    let read = RatedLists {
+        survival: &survival[..n],
+        weights: &weights[..w],
+        more: &more[..m],
+        boards: &boards[..p],
+        switchboards: &switchboards[..g],
+    };
+    asked(bytes, at, &read, table)
 }
 
 // Runs one case over a table that it fills with rubbish, and puts its line.

@@ -16,7 +16,7 @@ ghost use Rattle.pair_lines.specs.Line.{fans_text, one_text, two_text, two_room,
 
 use pairs::Best;
 use places::Ends;
-use rules::Question;
+use rules::{Question, RatedLists};
 use text::lines;
 
 // What is asked of a system beside its lists: its number, and the spares' survival number.

@@ -3,7 +3,7 @@
 #![tactic(auto)]
 
 ghost use Rattle.std.specs.Prelude.{◌≡◌, false, replicate};
-ghost use Rattle.rules.specs.Refusal.{cells};
+ghost use Rattle.rules.specs.Refusal.{cells, refusal_in};
 ghost use Rattle.rules.specs.Doubles.{no_chance, some_off, off_grid, planned_of, asked_in, planned_refusal, planned_rating};
 ghost use Rattle.doubles.specs.Floats.{bits_of};
 ghost use Rattle.stretches.specs.Outcome.{Worked};
@@ -11,7 +11,8 @@ ghost use Rattle.planning.specs.Outcome.{Room, Filled, Answered, Rated};
 
 use places::Ends;
 use rules::limit::{CELLS, FANS};
-use rules::{Question, Rating, Rule, kind, version};
+use rules::refusal::Refusal;
+use rules::{Question, RatedLists, Rating, Rule, kind, version};
 
 // Version 1, whose unit is 2^30, has no boards.
 const NO_BOARDS: [u8; 0] = [];
@@ -58,7 +59,7 @@ fn off_grid(rule: Rule, floats: &[f64]) -> bool
     some_off(floats)
 }
 
-// Refusals 1, 2, 3, 18, 5, 6, 19, 7, the first that applies; 0 for none.
+// Refusals 1, 2, 3, 18, 5, 6, 19, 7, the first that applies.
 fn refusal(
     rule: Rule,
     a: u64,
@@ -67,32 +68,26 @@ fn refusal(
     weights: &[u16],
     more: &[u64],
     table: &[u64],
-) -> u64
+) -> Result<(), Refusal>
     ensures { let q = planned_of rule a b (bits_of survival.now) weights.now more.now in
-        result ≡ planned_refusal q table.now }
+        refusal_in result ≡ planned_refusal q table.now }
 {
     let n = survival.len();
-    let place = asked::place_refusal(rule, a, b, n as u64);
-    if place != 0 {
-        return place;
-    }
+    asked::place_refusal(rule, a, b, n as u64)?;
     let from = a as usize - 1;
     let upto = b as usize;
     let floats = &survival[from..upto];
     if outside(floats) {
-        return rules::refusal::CHANCE;
+        return Err(Refusal::Chance);
     }
-    let part = asked::part_refusal(rule, a, b, n, weights, more);
-    if part != 0 {
-        return part;
-    }
+    asked::part_refusal(rule, a, b, n, weights, more)?;
     if off_grid(rule, floats) {
-        return rules::refusal::GRID;
+        return Err(Refusal::Grid);
     }
     if table.len() < CELLS {
-        return rules::refusal::TABLE;
+        return Err(Refusal::Table);
     }
-    0
+    Ok(())
 }
 
 // The whole numbers just below the floats, or just above, from a place on, and zeros beside them.
@@ -135,15 +130,14 @@ fn rate_list(
         a,
         b,
     };
-    stretches::work(
-        question,
-        &numbers[..n],
+    let lists = RatedLists {
+        survival: &numbers[..n],
         weights,
         more,
-        &NO_BOARDS,
-        &NO_BOARD_SURVIVAL,
-        table,
-    )
+        boards: &NO_BOARDS,
+        switchboards: &NO_BOARD_SURVIVAL,
+    };
+    stretches::work(question, &lists, table)
 }
 
 // The rating of the stretch from component a to component b: low of the lower list and high of the upper. The table is
@@ -161,9 +155,8 @@ pub fn rate(
     ensures { let q = planned_of rule a b (bits_of survival.now) weights.now more.now in
         Answered q table.old table.new result }
 {
-    let refused = refusal(rule, a, b, survival, weights, more, table);
-    if refused != 0 {
-        return Rating::Refused(refused);
+    if let Err(refused) = refusal(rule, a, b, survival, weights, more, table) {
+        return Rating::Refused(refused.number());
     }
     let lower = rate_list(false, rule, a, b, survival, weights, more, table);
     let upper = rate_list(true, rule, a, b, survival, weights, more, table);

@@ -6,7 +6,7 @@ ghost use Rattle.ratings.specs.Outcome.{Timed, TimedWorth, counting_number, Time
 ghost use Rattle.rules.specs.Asked.{question_of, asked_of};
 ghost use Rattle.rules.specs.State.{rule_of};
 
-use rules::{Counting, Question, Rule};
+use rules::{Counting, Question, RatedLists, Rule};
 
 // The rule by its numbers.
 fn rule_of(kind: u64, first: u64, second: u64) -> Rule
@@ -49,15 +49,14 @@ pub fn foambeetle_figures(
         a,
         b,
     };
-    packing::pack(figures::figures(
-        question,
+    let lists = RatedLists {
         survival,
         weights,
         more,
         boards,
         switchboards,
-        table,
-    ))
+    };
+    packing::pack(figures::figures(question, &lists, table))
 }
 
 // The worth of a fan, likewise. In C: `uint64_t foambeetle_worth_of(uint64_t version, uint64_t kind, uint64_t first,
@@ -92,16 +91,14 @@ pub fn foambeetle_worth_of(
         a,
         b,
     };
-    let worth = worth::worth(
-        question,
-        fan,
+    let lists = RatedLists {
         survival,
         weights,
         more,
         boards,
         switchboards,
-        table,
-    );
+    };
+    let worth = worth::worth(question, fan, &lists, table);
     loading::tell(worth, ends)
 }
 

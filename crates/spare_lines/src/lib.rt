@@ -14,7 +14,7 @@ ghost use Rattle.spare_lines.specs.System.{system_text, system_room};
 use best::Shown;
 use pair_lines::Two;
 use places::Ends;
-use rules::Question;
+use rules::{Question, RatedLists};
 use spares::Places;
 use text::lines;
 

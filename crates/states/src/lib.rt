@@ -101,9 +101,8 @@ fn judge_part(system: System, weights: &[u16], state: u64) -> Verdict
     let rule = system.rule;
     let a = system.a;
     let b = system.b;
-    let refused = asked::place_refusal(rule, a, b, weights.len() as u64);
-    if refused != 0 {
-        return Verdict::Refused(refused);
+    if let Err(refused) = asked::place_refusal(rule, a, b, weights.len() as u64) {
+        return Verdict::Refused(refused.number());
     }
     let from = a as usize - 1;
     let upto = b as usize;

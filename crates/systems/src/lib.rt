@@ -1,7 +1,7 @@
 // The figures of a system of a deck.
 #![tactic(auto)]
 
-ghost use Rattle.std.specs.Prelude.{[], ◌≡◌, replicate};
+ghost use Rattle.std.specs.Prelude.{◌≡◌, replicate};
 ghost use Rattle.rules.specs.Asked.{question_of, asked_by};
 ghost use Rattle.rules.specs.Refusal.{cells};
 ghost use Rattle.rules.specs.Answer.{figures_of};
@@ -11,14 +11,10 @@ ghost use Rattle.systems.specs.Opened.{open_refusal};
 
 use deck::{Head, Opened};
 use rules::limit::CELLS;
-use rules::{NO_MORE, Question, Rating, System};
+use rules::{NO_MORE, Question, RatedLists, Rating, System};
 
 // The rating call over a deck's lists, in a working table of its own, which nobody sees after it and nobody clears.
-fn rate_lists(
-    version: u64,
-    system: System,
-    lists: &RatedLists,
-) -> Rating
+fn rate_lists(version: u64, system: System, lists: &RatedLists) -> Rating
     ensures { let question = question_of version system.rule system.a system.b in
         let q = asked_by question lists.now in
         result ≡ figures_of q (replicate cells 0) }
@@ -31,11 +27,7 @@ fn rate_lists(
         b: system.b,
     };
     let mut table = [0u64; CELLS];
-    figures::rate(
-        question,
-        lists,
-        &mut table,
-    )
+    figures::rate(question, lists, &mut table)
 }
 
 // The figures of the system at a place of a file that is not refused, counted from 0. Only the lists are copied from
@@ -51,14 +43,14 @@ pub fn rate(file: &[u8], head: Head, s: usize) -> Rating
     let boards = deck::boards_in(file, head);
     let switchboards = deck::board_survival_in(file, head);
     let system = deck::system_in(file, head, s);
-    rate_lists(
-        head.version,
-        system,
-        &survival[..n],
-        &weights[..n],
+    let lists = RatedLists {
+        survival: &survival[..n],
+        weights: &weights[..n],
+        more: &NO_MORE,
         boards,
-        &switchboards[..g],
-    )
+        switchboards: &switchboards[..g],
+    };
+    rate_lists(head.version, system, &lists)
 }
 
 // The refusal of a file that was opened, then 14 for a system that it does not have; 0 for none.

@@ -153,9 +153,8 @@ fn judge(rule: Rule, n: u64, weights: &[u16], more: &[u64], w: u64) -> Verdict
 pub fn verdict_on(rule: Rule, n: u64, weights: &[u16], more: &[u64], state: u64) -> Verdict
     ensures { Judged rule n weights.now more.now state result }
 {
-    let refusal = refusals::rule_refusal(rule, n, weights, more);
-    if refusal != 0 {
-        return Verdict::Refused(refusal);
+    if let Err(refused) = refusals::rule_refusal(rule, n, weights, more) {
+        return Verdict::Refused(refused.number());
     }
     if high_one(n, state) {
         return Verdict::Refused(rules::refusal::STATE);

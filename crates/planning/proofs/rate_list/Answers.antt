@@ -57,8 +57,8 @@ numbers_of-numbers-requires c =
 pub slice_bounds-numbers-end : goal.slice_bounds-numbers-end
 slice_bounds-numbers-end c = omega (arith, c.numbers_of-numbers.ensures.long, small ((goal.at.slice_bounds-numbers-end c).Start))
 
-pub slice_bounds-work-end : goal.slice_bounds-work-end
-slice_bounds-work-end c = sym (length-take-le _ _ (omega (arith, c.numbers_of-numbers.ensures.long, small ((goal.at.slice_bounds-work-end c).Start))))
+pub slice_bounds-lists-end : goal.slice_bounds-lists-end
+slice_bounds-lists-end c = sym (length-take-le _ _ (omega (arith, c.numbers_of-numbers.ensures.long, small ((goal.at.slice_bounds-lists-end c).Start))))
 
 -- the numbers handed on
 handed : (c : After-numbers_of-numbers) → let x = c.args in

@@ -1,5 +1,5 @@
 -- `refusal` tries the conditions of `plannedRefusal` in their order: past a test that answered no, the refusal is that of what is left. Assumes nothing.
-use mathlib.Core.Path.{◌≡◌, sym, ap, ◌∙◌}
+use mathlib.Core.Path.{◌≡◌, refl, sym, ap, ◌∙◌}
 use mathlib.Core.Bool.{Bool, false, not}
 use mathlib.Core.List.{List, [], ◌∷◌}
 use Prim.Native.Nat.{ℕ, ◌-◌}
@@ -13,6 +13,7 @@ use Rattle.rules.specs.Asked.{weights_of}
 use Rattle.rules.specs.Refusal.{cells, after, bad_weights, in_range, short_table, first_of}
 use Rattle.rules.specs.Doubles.{Planned, planned_of, asked_in, floats_of, size_in, read_in, no_chance, off_grid, planned_refusal}
 use Rattle.rules.proofs.Accepted.{first-of, first-after}
+use Rattle.rules.proofs.Numbers.{number-some, handed_on}
 use Rattle.rules.proofs.Unless.{after_none, after-some}
 use Rattle.doubles.specs.Floats.{bits, bits_of}
 use Rattle.asked.specs.Parts.{place_refusal, part_refusal}
@@ -78,43 +79,44 @@ left3 : (q : Planned) (table : List ℕ) {r s : ℕ} → r ≡ place_refusal q.r
     → s ≡ part_refusal q.rule q.a q.b (length q.survival) q.weights q.more → s ≡ 0 → planned_refusal q table ≡ first_of (from19 q table)
 left3 q table e none chances p fits = left2 q table e none chances ∙ after_none _ _ (sym p ∙ fits)
 
-pub returns-then-place-ne0 : goal.returns-then-place-ne0
-returns-then-place-ne0 c =
-    let e = place-is c.args.rule c.args.a c.args.b c.args.survival.now c.place_refusal-place.ensures in
-    e ∙ sym (past-place (asked ((goal.at.returns-then-place-ne0 c).Start)) c.args.table.now ∙ after-some _ _ (λ none. c.if-place-ne0.true (e ∙ none)))
+pub returns-in_err-place_refusal : goal.returns-in_err-place_refusal
+returns-in_err-place_refusal c =
+    let e = place-is c.args.rule c.args.a c.args.b c.args.survival.now c.in_err-place_refusal.ensures in
+    handed_on _ _ c.from_residual.ensures.1
+    (e ∙ sym (past-place (asked ((goal.at.returns-in_err-place_refusal c).Start)) c.args.table.now ∙ after-some _ _ (λ none. number-some _ (e ∙ none))))
 
 pub overflow_sub-from : goal.overflow_sub-from
-overflow_sub-from c = omega (arith, (inside _ _ _ _ c.place_refusal-place.ensures c.if-place-ne0.false).fits)
+overflow_sub-from c = omega (arith, (inside _ _ _ _ c.in_ok-place_refusal.ensures refl).fits)
 
 pub offset_bounds-survival-from : goal.offset_bounds-survival-from
-offset_bounds-survival-from c = omega (arith, (inside _ _ _ _ c.place_refusal-place.ensures c.if-place-ne0.false).fits)
+offset_bounds-survival-from c = omega (arith, (inside _ _ _ _ c.in_ok-place_refusal.ensures refl).fits)
 
 pub slice_bounds-floats-count : goal.slice_bounds-floats-count
-slice_bounds-floats-count c = omega (arith, (inside _ _ _ _ c.place_refusal-place.ensures c.if-place-ne0.false).fits)
+slice_bounds-floats-count c = omega (arith, (inside _ _ _ _ c.in_ok-place_refusal.ensures refl).fits)
 
 pub slice_bounds-floats-start : goal.slice_bounds-floats-start
-slice_bounds-floats-start c = omega (arith, (inside _ _ _ _ c.place_refusal-place.ensures c.if-place-ne0.false).fits)
+slice_bounds-floats-start c = omega (arith, (inside _ _ _ _ c.in_ok-place_refusal.ensures refl).fits)
 
 pub slice_bounds-floats-end : goal.slice_bounds-floats-end
-slice_bounds-floats-end c = omega (arith, (inside _ _ _ _ c.place_refusal-place.ensures c.if-place-ne0.false).fits)
+slice_bounds-floats-end c = omega (arith, (inside _ _ _ _ c.in_ok-place_refusal.ensures refl).fits)
 
 pub returns-then-outside : goal.returns-then-outside
-returns-then-outside c = sym (left1 (asked ((goal.at.returns-then-outside c).Start)) c.args.table.now (place-is c.args.rule c.args.a c.args.b c.args.survival.now c.place_refusal-place.ensures) c.if-place-ne0.false ∙ first-of 18 _ _ (out c.args.rule c.args.a c.args.b c.args.survival.now c.place_refusal-place.ensures c.if-place-ne0.false c.outside.ensures ∙ c.if-outside.true))
+returns-then-outside c = sym (left1 (asked ((goal.at.returns-then-outside c).Start)) c.args.table.now (place-is c.args.rule c.args.a c.args.b c.args.survival.now c.in_ok-place_refusal.ensures) refl ∙ first-of 18 _ _ (out c.args.rule c.args.a c.args.b c.args.survival.now c.in_ok-place_refusal.ensures refl c.outside.ensures ∙ c.if-outside.true))
 
-pub returns-then-part-ne0 : goal.returns-then-part-ne0
-returns-then-part-ne0 c =
-    let e = part-is c.args.rule c.args.a c.args.b c.args.survival.now c.args.weights.now c.args.more.now c.part_refusal-part.ensures in
-    e ∙ sym (left2 (asked ((goal.at.returns-then-part-ne0 c).Start)) c.args.table.now (place-is c.args.rule c.args.a c.args.b c.args.survival.now c.place_refusal-place.ensures) c.if-place-ne0.false (out c.args.rule c.args.a c.args.b c.args.survival.now c.place_refusal-place.ensures c.if-place-ne0.false c.outside.ensures ∙ c.if-outside.false) ∙ after-some _ _ (λ none. c.if-part-ne0.true (e ∙ none)))
+pub returns-in_err-part_refusal : goal.returns-in_err-part_refusal
+returns-in_err-part_refusal c =
+    let e = part-is c.args.rule c.args.a c.args.b c.args.survival.now c.args.weights.now c.args.more.now c.in_err-part_refusal.ensures in
+    handed_on _ _ c.from_residual-in_err-part_refusal.ensures.1 (e ∙ sym (left2 (asked ((goal.at.returns-in_err-part_refusal c).Start)) c.args.table.now (place-is c.args.rule c.args.a c.args.b c.args.survival.now c.in_ok-place_refusal.ensures) refl (out c.args.rule c.args.a c.args.b c.args.survival.now c.in_ok-place_refusal.ensures refl c.outside.ensures ∙ c.if-outside.false) ∙ after-some _ _ (λ none. number-some _ (e ∙ none))))
 
 pub off_grid-requires : goal.off_grid-requires
 off_grid-requires c = sym c.outside.ensures ∙ c.if-outside.false
 
 pub returns-then-off_grid : goal.returns-then-off_grid
-returns-then-off_grid c = sym (left3 (asked ((goal.at.returns-then-off_grid c).Start)) c.args.table.now (place-is c.args.rule c.args.a c.args.b c.args.survival.now c.place_refusal-place.ensures) c.if-place-ne0.false (out c.args.rule c.args.a c.args.b c.args.survival.now c.place_refusal-place.ensures c.if-place-ne0.false c.outside.ensures ∙ c.if-outside.false) (part-is c.args.rule c.args.a c.args.b c.args.survival.now c.args.weights.now c.args.more.now c.part_refusal-part.ensures) c.if-part-ne0.false ∙ first-of 19 _ _ (off c.args.rule c.args.a c.args.b c.args.survival.now c.place_refusal-place.ensures c.if-place-ne0.false c.off_grid.ensures ∙ c.if-off_grid.true))
+returns-then-off_grid c = sym (left3 (asked ((goal.at.returns-then-off_grid c).Start)) c.args.table.now (place-is c.args.rule c.args.a c.args.b c.args.survival.now c.in_ok-place_refusal.ensures) refl (out c.args.rule c.args.a c.args.b c.args.survival.now c.in_ok-place_refusal.ensures refl c.outside.ensures ∙ c.if-outside.false) (part-is c.args.rule c.args.a c.args.b c.args.survival.now c.args.weights.now c.args.more.now c.in_ok-part_refusal.ensures) refl ∙ first-of 19 _ _ (off c.args.rule c.args.a c.args.b c.args.survival.now c.in_ok-place_refusal.ensures refl c.off_grid.ensures ∙ c.if-off_grid.true))
 
 pub returns-then-table-lt-CELLS : goal.returns-then-table-lt-CELLS
-returns-then-table-lt-CELLS c = sym (left3 (asked ((goal.at.returns-then-table-lt-CELLS c).Start)) c.args.table.now (place-is c.args.rule c.args.a c.args.b c.args.survival.now c.place_refusal-place.ensures) c.if-place-ne0.false (out c.args.rule c.args.a c.args.b c.args.survival.now c.place_refusal-place.ensures c.if-place-ne0.false c.outside.ensures ∙ c.if-outside.false) (part-is c.args.rule c.args.a c.args.b c.args.survival.now c.args.weights.now c.args.more.now c.part_refusal-part.ensures) c.if-part-ne0.false ∙ first-after 19 _ _ (off c.args.rule c.args.a c.args.b c.args.survival.now c.place_refusal-place.ensures c.if-place-ne0.false c.off_grid.ensures ∙ c.if-off_grid.false) ∙ first-of 7 _ [] (lt-ltb _ _ c.if-table-lt-CELLS.true))
+returns-then-table-lt-CELLS c = sym (left3 (asked ((goal.at.returns-then-table-lt-CELLS c).Start)) c.args.table.now (place-is c.args.rule c.args.a c.args.b c.args.survival.now c.in_ok-place_refusal.ensures) refl (out c.args.rule c.args.a c.args.b c.args.survival.now c.in_ok-place_refusal.ensures refl c.outside.ensures ∙ c.if-outside.false) (part-is c.args.rule c.args.a c.args.b c.args.survival.now c.args.weights.now c.args.more.now c.in_ok-part_refusal.ensures) refl ∙ first-after 19 _ _ (off c.args.rule c.args.a c.args.b c.args.survival.now c.in_ok-place_refusal.ensures refl c.off_grid.ensures ∙ c.if-off_grid.false) ∙ first-of 7 _ [] (lt-ltb _ _ c.if-table-lt-CELLS.true))
 
 pub returns : goal.returns
 unfolding first_of
-returns c = sym (left3 (asked ((goal.at.returns c).Start)) c.args.table.now (place-is c.args.rule c.args.a c.args.b c.args.survival.now c.place_refusal-place.ensures) c.if-place-ne0.false (out c.args.rule c.args.a c.args.b c.args.survival.now c.place_refusal-place.ensures c.if-place-ne0.false c.outside.ensures ∙ c.if-outside.false) (part-is c.args.rule c.args.a c.args.b c.args.survival.now c.args.weights.now c.args.more.now c.part_refusal-part.ensures) c.if-part-ne0.false ∙ rw (off c.args.rule c.args.a c.args.b c.args.survival.now c.place_refusal-place.ensures c.if-place-ne0.false c.off_grid.ensures ∙ c.if-off_grid.false, le-ltb (length c.args.table.now) cells c.if-table-lt-CELLS.false))
+returns c = sym (left3 (asked ((goal.at.returns c).Start)) c.args.table.now (place-is c.args.rule c.args.a c.args.b c.args.survival.now c.in_ok-place_refusal.ensures) refl (out c.args.rule c.args.a c.args.b c.args.survival.now c.in_ok-place_refusal.ensures refl c.outside.ensures ∙ c.if-outside.false) (part-is c.args.rule c.args.a c.args.b c.args.survival.now c.args.weights.now c.args.more.now c.in_ok-part_refusal.ensures) refl ∙ rw (off c.args.rule c.args.a c.args.b c.args.survival.now c.in_ok-place_refusal.ensures refl c.off_grid.ensures ∙ c.if-off_grid.false, le-ltb (length c.args.table.now) cells c.if-table-lt-CELLS.false))

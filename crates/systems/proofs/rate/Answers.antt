@@ -31,22 +31,22 @@ pub slice_bounds-survival-end : goal.slice_bounds-survival-end
 slice_bounds-survival-end c =
     omega (arith, few-fans c.requires.headed)
 
-pub slice_bounds-rate_lists-end : goal.slice_bounds-rate_lists-end
-slice_bounds-rate_lists-end c = sym (length-take-le _ _ ((omega (arith, few-fans c.requires.headed))))
+pub slice_bounds-lists-end : goal.slice_bounds-lists-end
+slice_bounds-lists-end c = sym (length-take-le _ _ ((omega (arith, few-fans c.requires.headed))))
 
 pub slice_bounds-weights-end : goal.slice_bounds-weights-end
 slice_bounds-weights-end c =
     omega (arith, few-fans c.requires.headed)
 
-pub slice_bounds-rate_lists-end-2 : goal.slice_bounds-rate_lists-end-2
-slice_bounds-rate_lists-end-2 c = sym (length-take-le _ _ ((omega (arith, few-fans c.requires.headed))))
+pub slice_bounds-lists-end-2 : goal.slice_bounds-lists-end-2
+slice_bounds-lists-end-2 c = sym (length-take-le _ _ ((omega (arith, few-fans c.requires.headed))))
 
 pub slice_bounds-switchboards-end : goal.slice_bounds-switchboards-end
 slice_bounds-switchboards-end c =
     omega (arith, few-boards c.requires.headed)
 
-pub slice_bounds-rate_lists-end-3 : goal.slice_bounds-rate_lists-end-3
-slice_bounds-rate_lists-end-3 c = sym (length-take-le _ _ ((omega (arith, few-boards c.requires.headed))))
+pub slice_bounds-lists-end-4 : goal.slice_bounds-lists-end-4
+slice_bounds-lists-end-4 c = sym (length-take-le _ _ ((omega (arith, few-boards c.requires.headed))))
 
 pub rate_lists-requires : goal.rate_lists-requires
 rate_lists-requires c = search rules
