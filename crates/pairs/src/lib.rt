@@ -55,13 +55,7 @@ fn with_pair(best: Best, first: usize, second: usize, ends: Ends) -> Best
 {
     let rated = best.rated + 1;
     if stays(best, ends.low) {
-        return Best {
-            first: best.first,
-            second: best.second,
-            low: best.low,
-            high: best.high,
-            rated,
-        };
+        return Best { rated, ..best };
     }
     Best {
         first,
@@ -93,8 +87,7 @@ pub fn rate_row(
     let size = (question.b - a) as usize + 1;
     let mut best = best;
     let mut working = [0u64; CELLS];
-    let mut j = first + 1;
-    while j < size {
+    for j in first + 1..size {
         let swap = Swap {
             first: a + first as u64,
             second: a + j as u64,
@@ -107,7 +100,6 @@ pub fn rate_row(
             &mut working,
         );
         best = with_pair(best, first, j, ends);
-        j += 1;
     }
     best
 }

@@ -23,14 +23,7 @@ const NO_BOARD_SURVIVAL: [u32; 0] = [];
 fn outside(floats: &[f64]) -> bool
     ensures { result ≡ no_chance (bits_of floats.now) }
 {
-    let mut i: usize = 0;
-    while i < floats.len() {
-        if !doubles::is_chance(floats[i]) {
-            return true;
-        }
-        i += 1;
-    }
-    false
+    floats.iter().any(|float| !doubles::is_chance(*float))
 }
 
 // Is some chance off the grid?
@@ -38,12 +31,10 @@ fn some_off(floats: &[f64]) -> bool
     requires { no_chance (bits_of floats.now) ≡ false }
     ensures { result ≡ some_off (bits_of floats.now) }
 {
-    let mut i: usize = 0;
-    while i < floats.len() {
-        if !doubles::on_grid(floats[i]) {
+    for float in floats {
+        if !doubles::on_grid(*float) {
             return true;
         }
-        i += 1;
     }
     false
 }
@@ -96,10 +87,8 @@ fn numbers_of(up: bool, from: usize, floats: &[f64]) -> [u32; FANS]
     ensures { Filled up from floats.now result }
 {
     let mut numbers = [0u32; FANS];
-    let mut i: usize = 0;
-    while i < floats.len() {
-        numbers[from + i] = doubles::whole(up, floats[i]) as u32;
-        i += 1;
+    for (i, float) in floats.iter().enumerate() {
+        numbers[from + i] = doubles::whole(up, *float) as u32;
     }
     numbers
 }

@@ -70,8 +70,7 @@ pub fn rate_places(
     let mut low = [0u64; FANS];
     let mut high = [0u64; FANS];
     let mut working = [0u64; CELLS];
-    let mut i: usize = 0;
-    while i < size {
+    for i in 0..size {
         let fan = a + i as u64;
         let swap = Swap {
             first: fan,
@@ -86,7 +85,6 @@ pub fn rate_places(
         );
         low[i] = ends.low;
         high[i] = ends.high;
-        i += 1;
     }
     Places { low, high }
 }

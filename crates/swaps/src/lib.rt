@@ -45,11 +45,7 @@ fn copied(from: usize, upto: usize, survival: &[u32]) -> [u32; FANS]
     ensures { Copied from upto survival.now result }
 {
     let mut numbers = [0u32; FANS];
-    let mut i = from;
-    while i < upto {
-        numbers[i] = survival[i];
-        i += 1;
-    }
+    numbers[from..upto].copy_from_slice(&survival[from..upto]);
     numbers
 }
 

@@ -1,5 +1,4 @@
--- `rate_row` rates one pair after the other, each in the table that the one before has left. The measure is the number of second places left. Assumes nothing.
-use borrow.Author.Rules.{rules}
+-- `rate_row` rates one pair after the other, each in the table that the one before has left. Assumes nothing.
 use mathlib.Core.Path.{◌≡◌, refl, subst, sym}
 use mathlib.Core.List.{[]}
 use Prim.Native.Nat.{◌+◌, ◌≤◌, ◌<◌}
@@ -27,50 +26,40 @@ overflow_sub-size c = omega (arith, stretch-in ((goal.at.overflow_sub-size c).St
 pub overflow_add-size : goal.overflow_add-size
 overflow_add-size c = omega (arith, stretch-in ((goal.at.overflow_add-size c).Start))
 
-pub overflow_add-j : goal.overflow_add-j
-overflow_add-j c = omega (arith, stretch-in ((goal.at.overflow_add-j c).Start))
+pub overflow_step-j : goal.overflow_step-j
+overflow_step-j c = omega (arith, stretch-in ((goal.at.overflow_step-j c).Start))
 
 pub loop-j-init : goal.loop-j-init
-loop-j-init c = (omega arith, omega (arith, stretch-in ((goal.at.loop-j-init c).Start)), record { long = refl; rest = refl }, row-begins c.requires.tried)
-
-pub slice_bounds-rate-end-in-loop-j : goal.slice_bounds-rate-end-in-loop-j
-slice_bounds-rate-end-in-loop-j c = search rules
+loop-j-init c = (record { long = refl; rest = refl }, row-begins c.requires.tried)
 
 -- a turn's second place is one of the stretch
-in_row : (c : In-loop-j) → let entered = c.before.before.before.before in
-    c.loop-j.j < size_of (asked entered.before.before.before.before)
+in_row : (c : In-loop-j) → let q = asked_of c.args.question c.args.survival.now c.args.weights.now [] c.args.boards.now c.args.switchboards.now in
+    c.loop-j.j < size_of q
 in_row c =
-    let entered = c.before.before.before.before in
-    omega (arith, c.loop-j-test.true, stretch-in entered.before.before.before.before)
+    let q = asked_of c.args.question c.args.survival.now c.args.weights.now [] c.args.boards.now c.args.switchboards.now in
+    let h = inside q c.args.p c.requires.accepted in
+    omega (arith, c.loop-j-test.true, h.0, h.1)
 
 pub rate-ends-requires : goal.rate-ends-requires
 rate-ends-requires c =
-    swappable (asked ((goal.at.rate-ends-requires c).Start)) c.args.p c.requires.accepted c.args.first c.loop-j.j c.requires.place (in_row ((goal.at.rate-ends-requires c).In-loop-j)) c.loop-j.working c.loop-j.invariant.2
+    swappable (asked ((goal.at.rate-ends-requires c).Start)) c.args.p c.requires.accepted c.args.first c.loop-j.j c.requires.place (in_row ((goal.at.rate-ends-requires c).In-loop-j)) c.loop-j.working c.loop-j.invariant.0
 
 pub with_pair-best-requires : goal.with_pair-best-requires
 with_pair-best-requires c =
     let h = stretch-in ((goal.at.with_pair-best-requires c).Start) in
     let few : c.args.first ≤ 63 = omega arith in
     let size : size_of (asked ((goal.at.with_pair-best-requires c).Start)) ≤ 64 = omega arith in
-    omega (arith, mul-le-mul few size, c.loop-j.invariant.3.count, pairs-few (size_of (asked ((goal.at.with_pair-best-requires c).Start))) c.args.first, in_row ((goal.at.with_pair-best-requires c).In-loop-j))
-
-pub overflow_add-j-in-loop-j : goal.overflow_add-j-in-loop-j
-overflow_add-j-in-loop-j c = omega (arith, in_row ((goal.at.overflow_add-j-in-loop-j c).In-loop-j), stretch-in ((goal.at.overflow_add-j-in-loop-j c).Start))
-
-pub loop-j-smaller : goal.loop-j-smaller
-loop-j-smaller c = omega (arith, c.loop-j-test.true)
+    omega (arith, mul-le-mul few size, c.loop-j.invariant.1.count, pairs-few (size_of (asked ((goal.at.with_pair-best-requires c).Start))) c.args.first, in_row ((goal.at.with_pair-best-requires c).In-loop-j))
 
 pub loop-j-preserved : goal.loop-j-preserved
 loop-j-preserved c =
-    let next = one-pair c.loop-j.invariant.0 (in_row ((goal.at.loop-j-preserved c).In-loop-j)) c.loop-j.invariant.3 c.rate-ends.ensures.low c.rate-ends.ensures.high in
+    let next = one-pair (omega (arith, c.loop-j.auto.j)) (in_row ((goal.at.loop-j-preserved c).In-loop-j)) c.loop-j.invariant.1 c.rate-ends.ensures.low c.rate-ends.ensures.high in
     let q = asked ((goal.at.loop-j-preserved c).Start) in (
-      omega (arith, c.loop-j.invariant.0),
-      omega (arith, c.loop-j-test.true),
-      kept_trans c.loop-j.invariant.2 c.rate-ends.ensures.kept,
+      kept_trans c.loop-j.invariant.0 c.rate-ends.ensures.kept,
       subst (λ b. Tried (low_with_both q c.args.p) (high_with_both q c.args.p) (size_of q) c.args.first (c.loop-j.j + 1) b) (sym c.with_pair-best.ensures) next,
     )
 
 pub returns : goal.returns
 returns c =
-    let all : c.loop-j.j ≡ size_of (asked ((goal.at.returns c).Start)) = omega (arith, c.loop-j-test.false, c.loop-j.invariant.1, stretch-in ((goal.at.returns c).Start)) in
-    row_ends c.requires.place (rw all at c.loop-j.invariant.3)
+    let all : c.loop-j.j ≡ size_of (asked ((goal.at.returns c).Start)) = omega (arith, c.loop-j-test.false, c.loop-j.auto.j-end, stretch-in ((goal.at.returns c).Start)) in
+    row_ends c.requires.place (rw all at c.loop-j.invariant.1)

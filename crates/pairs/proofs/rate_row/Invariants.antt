@@ -1,6 +1,5 @@
--- `rate_row` rates one pair after the other, each in the table that the one before has left. The measure is the number of second places left. Assumes nothing.
+-- `rate_row` rates one pair after the other, each in the table that the one before has left. Assumes nothing.
 use mathlib.Core.List.{[]}
-use Prim.Native.Nat.{◌-◌, ◌≤◌, ◌<◌}
 use Rattle.rules.specs.Asked.{asked_of, size_of}
 use Rattle.places.specs.Cells.{Kept}
 use Rattle.spares.proofs.Rating.{clear}
@@ -11,7 +10,4 @@ use Rattle.pairs.proofs.rate_row.Given as goal
 abbrev pub invariant-loop-j : goal.invariant-loop-j
 invariant-loop-j l =
     let q = asked_of l.question l.survival l.weights [] l.boards l.switchboards in
-    (l.first < l.j) × (l.j ≤ l.size) × Kept clear l.working × Tried (low_with_both q l.p) (high_with_both q l.p) (size_of q) l.first l.j l.best
-
-abbrev pub decreases-loop-j : goal.decreases-loop-j
-decreases-loop-j l = l.size - l.j
+    Kept clear l.working × Tried (low_with_both q l.p) (high_with_both q l.p) (size_of q) l.first l.j l.best

@@ -1,5 +1,4 @@
 -- `numbers_of` has the whole numbers of the floats that it passed in their places. Assumes nothing.
-use borrow.Author.Rules.{rules}
 use Prim.Native.Nat.{◌+◌}
 use mathlib.Core.Path.{◌≡◌, refl, sym, ap, ◌∙◌}
 use mathlib.Core.Bool.{true}
@@ -14,54 +13,32 @@ use Rattle.rules.proofs.Doubles.{each-chance}
 use Rattle.doubles.specs.Floats.{bits, bits_of}
 use Rattle.doubles.proofs.Lists.{bits-get}
 use Rattle.planning.proofs.numbers_of.Goals as goal
-use Rattle.planning.proofs.numbers_of.Goals.{After-shared_slice_known-in-loop-i-1}
+use Rattle.planning.proofs.numbers_of.Goals.{In-loop-i}
 
 -- the float at hand is a chance
-chance : (c : After-shared_slice_known-in-loop-i-1)
+chance : (c : In-loop-i)
     → is_chance (bits (get_or c.args.floats.now c.loop-i.i nan)) ≡ true
 chance c =
     rw (← (bits-get c.args.floats.now c.loop-i.i c.loop-i-test.true)) (each-chance (bits_of c.args.floats.now) c.requires.chances c.loop-i.i)
 
 pub loop-i-init : goal.loop-i-init
-loop-i-init c = (omega arith, refl, λ k l. absurd (omega arith))
-
-pub offset_bounds-floats-i : goal.offset_bounds-floats-i
-offset_bounds-floats-i c = search rules
-
-pub bounds-floats-i : goal.bounds-floats-i
-bounds-floats-i c = search rules
+loop-i-init c = (refl, λ k l. absurd (omega arith))
 
 pub whole-requires : goal.whole-requires
-whole-requires c = chance ((goal.at.whole-requires c).After-shared_slice_known-in-loop-i-1)
+whole-requires c = chance ((goal.at.whole-requires c).In-loop-i)
 
 pub overflow_cast-numbers : goal.overflow_cast-numbers
 overflow_cast-numbers c =
-    omega (arith, c.whole.ensures, small (bits (get_or c.args.floats.now c.loop-i.i nan)) c.args.up (chance ((goal.at.overflow_cast-numbers c).After-shared_slice_known-in-loop-i-1)))
-
-pub overflow_add-numbers : goal.overflow_add-numbers
-overflow_add-numbers c = omega arith
-
-pub offset_bounds-numbers-from : goal.offset_bounds-numbers-from
-offset_bounds-numbers-from c = omega arith
-
-pub bounds-numbers-from : goal.bounds-numbers-from
-bounds-numbers-from c = omega arith
-
-pub overflow_add-i : goal.overflow_add-i
-overflow_add-i c = search rules
-
-pub loop-i-smaller : goal.loop-i-smaller
-loop-i-smaller c = search rules
+    omega (arith, c.whole.ensures, small (bits (get_or c.args.floats.now c.loop-i.i nan)) c.args.up (chance ((goal.at.overflow_cast-numbers c).In-loop-i)))
 
 pub loop-i-preserved : goal.loop-i-preserved
 loop-i-preserved c = (
-  omega arith,
-  length-set c.loop-i.numbers (c.args.from + c.loop-i.i) c.whole.result ∙ c.loop-i.invariant.1,
+  length-set c.loop-i.numbers (c.args.from + c.loop-i.i) c.whole.result ∙ c.loop-i.invariant.0,
   below_more (λ k. get_or (set c.loop-i.numbers (c.args.from + c.loop-i.i) c.whole.result) (c.args.from + k) 0 ≡ whole_of c.args.up (get_or (bits_of c.args.floats.now) k 0)) c.loop-i.i
-      (λ k m. get_or-set_other c.loop-i.numbers (c.args.from + c.loop-i.i) (c.args.from + k) c.whole.result 0 (λ q. omega arith) ∙ c.loop-i.invariant.2 k m)
+      (λ k m. get_or-set_other c.loop-i.numbers (c.args.from + c.loop-i.i) (c.args.from + k) c.whole.result 0 (λ q. omega arith) ∙ c.loop-i.invariant.1 k m)
       (get_or-set_same c.loop-i.numbers (c.args.from + c.loop-i.i) c.whole.result 0 (omega arith)
       ∙ c.whole.ensures ∙ ap (whole_of c.args.up) (sym (bits-get c.args.floats.now c.loop-i.i c.loop-i-test.true))),
 )
 
 pub returns : goal.returns
-returns c = record { long = c.loop-i.invariant.1; filled = λ k l. c.loop-i.invariant.2 k (omega arith) }
+returns c = record { long = c.loop-i.invariant.0; filled = λ k l. c.loop-i.invariant.1 k (omega arith) }

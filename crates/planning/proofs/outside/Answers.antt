@@ -1,51 +1,33 @@
--- `outside` has found none among the floats that it passed. Assumes nothing.
+-- `outside` has found a float that is no chance at its place, or passed none. Assumes nothing.
 use borrow.Author.Rules.{rules}
-use mathlib.Core.Path.{◌≡◌, refl, sym, ap, ◌∙◌}
-use mathlib.Core.Bool.{not}
+use borrow.Author.Tests.{tests}
+use mathlib.Core.Path.{◌≡◌, sym, ap, ◌∙◌}
+use mathlib.Core.Bool.{Bool, true, false, not, true≢false}
+use mathlib.Core.List.{List}
+use Prim.Native.Nat.{ℕ, ◌<◌}
 use native.Mathlib.Omega.{arith}
-use native.Mathlib.Numerals.{add-one}
 use lib.ListN.{length, length-map}
-use Rattle.rules.specs.Below.{some}
+use Rattle.std.specs.Bool.{MatchBool}
+use Rattle.std.specs.List.{HoldsAt, AllWithin}
+use Rattle.std.specs.Prelude.{Float}
+use Rattle.std.proofs.lemmas.Iterator.{cases_from_any, YieldsList-from_slice}
 use Rattle.rules.specs.Doubles.{is_chance, no_chance}
-use Rattle.rules.proofs.Windows.{some-found}
-use Rattle.doubles.specs.Floats.{bits}
+use Rattle.rules.proofs.Windows.{some-found, some-none}
+use Rattle.doubles.specs.Floats.{bits, bits_of}
 use Rattle.doubles.proofs.Lists.{bits-get}
 use Rattle.planning.proofs.outside.Goals as goal
 
-pub loop-i-init : goal.loop-i-init
-unfolding some
-loop-i-init c = (omega arith, refl)
-
-pub offset_bounds-floats-i : goal.offset_bounds-floats-i
-offset_bounds-floats-i c = search rules
-
-pub bounds-floats-i : goal.bounds-floats-i
-bounds-floats-i c = search rules
-
-pub is_chance-requires : goal.is_chance-requires
-is_chance-requires c = search rules
-
-pub returns-then-not-is_chance : goal.returns-then-not-is_chance
+found : (fs : List Float) (r : Bool)
+    → MatchBool r ((k : ℕ) × (k < length fs) × HoldsAt (λ x. is_chance (bits x) ≡ false) fs k) (AllWithin (λ x. is_chance (bits x) ≡ true) fs 0 (length fs)) → r ≡ no_chance (bits_of fs)
 unfolding no_chance
-returns-then-not-is_chance c =
-    sym (some-found _ _ c.loop-i.i (rw (length-map c.args.floats.now bits) c.loop-i-test.true) (ap (λ b. not (is_chance b)) (bits-get c.args.floats.now c.loop-i.i c.loop-i-test.true) ∙ ap not (sym c.is_chance.ensures ∙ c.if-not-is_chance.true)))
-
-pub overflow_add-i : goal.overflow_add-i
-overflow_add-i c = search rules
-
-pub loop-i-smaller : goal.loop-i-smaller
-loop-i-smaller c = search rules
-
-pub loop-i-preserved : goal.loop-i-preserved
-unfolding some
-loop-i-preserved c = (
-  omega arith,
-  rw (add-one, c.loop-i.invariant.1)
-      (ap (λ b. not (is_chance b)) (bits-get c.args.floats.now c.loop-i.i c.loop-i-test.true) ∙ ap not (sym c.is_chance.ensures ∙ c.if-not-is_chance.false)),
-)
+found fs true h = sym (some-found _ _ h.0 (rw (length-map fs bits) h.1) (ap (λ b. not (is_chance b)) (bits-get fs h.0 h.1) ∙ ap not (h.2 _)))
+found fs false h =
+    sym ((some-none _ _).1 (λ k l e.
+    let m : k < length fs = rw (length-map fs bits) at l in
+    true≢false (sym e ∙ ap (λ b. not (is_chance b)) (bits-get fs k m) ∙ ap not (h k _ (omega arith) m))))
 
 pub returns : goal.returns
-unfolding no_chance
 returns c =
-    let e : c.loop-i.i ≡ length c.args.floats.now = omega arith in
-    sym (rw (length-map c.args.floats.now bits) (rw e at c.loop-i.invariant.1))
+    found _ _
+    (cases_from_any _ _ _ (λ x. is_chance (bits x) ≡ false) (λ x. is_chance (bits x) ≡ true) c.any.ensures.ran (YieldsList-from_slice c.args.floats.now cc)
+    (λ x q k. search (rules, tests)) (λ x q k. search (rules, tests)))

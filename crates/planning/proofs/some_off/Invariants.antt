@@ -1,15 +1,11 @@
 -- `some_off` has found none among the floats that it passed. Assumes nothing.
-use Prim.Native.Nat.{◌≤◌, ◌-◌}
 use mathlib.Core.Path.{◌≡◌}
 use mathlib.Core.Bool.{false, not}
-use lib.ListN.{length, get_or}
+use lib.ListN.{get_or}
 use Rattle.rules.specs.Below.{some}
 use Rattle.rules.specs.Doubles.{on_grid}
 use Rattle.doubles.specs.Floats.{bits_of}
 use Rattle.planning.proofs.some_off.Given as goal
 
-abbrev pub invariant-loop-i : goal.invariant-loop-i
-invariant-loop-i l = (l.i ≤ length l.floats) × (some (λ k. not (on_grid (get_or (bits_of l.floats) k 0))) l.i ≡ false)
-
-abbrev pub decreases-loop-i : goal.decreases-loop-i
-decreases-loop-i l = length l.floats - l.i
+abbrev pub invariant-loop-float : goal.invariant-loop-float
+invariant-loop-float l = some (λ k. not (on_grid (get_or (bits_of l.floats) k 0))) l.float-index ≡ false

@@ -1,4 +1,4 @@
--- `rate_places` rates one place after the other, each in the table that the one before has left. The measure is the number of places left. Assumes nothing.
+-- `rate_places` rates one place after the other, each in the table that the one before has left. Assumes nothing.
 use borrow.Author.Rules.{rules}
 use mathlib.Core.Path.{◌≡◌, refl}
 use mathlib.Core.List.{[]}
@@ -23,10 +23,10 @@ pub overflow_add-size : goal.overflow_add-size
 overflow_add-size c = omega (arith, stretch-in ((goal.at.overflow_add-size c).Start))
 
 pub loop-i-init : goal.loop-i-init
-loop-i-init c = (omega arith, record { long = refl; rest = refl }, no_place (asked ((goal.at.loop-i-init c).Start)) c.args.p)
+loop-i-init c = (record { long = refl; rest = refl }, no_place (asked ((goal.at.loop-i-init c).Start)) c.args.p)
 
 pub overflow_add-fan : goal.overflow_add-fan
-overflow_add-fan c = omega (arith, stretch-in ((goal.at.overflow_add-fan c).Start), c.loop-i.invariant.0)
+overflow_add-fan c = omega (arith, stretch-in ((goal.at.overflow_add-fan c).Start))
 
 pub slice_bounds-rate-end-in-loop-i : goal.slice_bounds-rate-end-in-loop-i
 slice_bounds-rate-end-in-loop-i c = search rules
@@ -34,7 +34,7 @@ slice_bounds-rate-end-in-loop-i c = search rules
 pub rate-ends-requires : goal.rate-ends-requires
 rate-ends-requires c =
     let more : c.loop-i.i < size_of (asked ((goal.at.rate-ends-requires c).Start)) = omega (arith, c.loop-i-test.true, stretch-in ((goal.at.rate-ends-requires c).Start)) in
-    swappable (asked ((goal.at.rate-ends-requires c).Start)) c.args.p c.requires c.loop-i.i c.loop-i.i more more c.loop-i.working c.loop-i.invariant.1
+    swappable (asked ((goal.at.rate-ends-requires c).Start)) c.args.p c.requires c.loop-i.i c.loop-i.i more more c.loop-i.working c.loop-i.invariant.0
 
 pub offset_bounds-low-i : goal.offset_bounds-low-i
 offset_bounds-low-i c = omega (arith, c.loop-i-test.true, stretch-in ((goal.at.offset_bounds-low-i c).Start))
@@ -48,21 +48,14 @@ offset_bounds-high-i c = omega (arith, c.loop-i-test.true, stretch-in ((goal.at.
 pub bounds-high-i : goal.bounds-high-i
 bounds-high-i c = omega (arith, c.loop-i-test.true, stretch-in ((goal.at.bounds-high-i c).Start))
 
-pub overflow_add-i : goal.overflow_add-i
-overflow_add-i c = omega (arith, c.loop-i-test.true, stretch-in ((goal.at.overflow_add-i c).Start))
-
-pub loop-i-smaller : goal.loop-i-smaller
-loop-i-smaller c = omega (arith, c.loop-i-test.true, stretch-in ((goal.at.loop-i-smaller c).Start))
-
 pub loop-i-preserved : goal.loop-i-preserved
 loop-i-preserved c =
     let more : c.loop-i.i < size_of (asked ((goal.at.loop-i-preserved c).Start)) = omega (arith, c.loop-i-test.true, stretch-in ((goal.at.loop-i-preserved c).Start)) in (
-      omega (arith, more),
-      kept_trans c.loop-i.invariant.1 c.rate-ends.ensures.kept,
-      one_place c.loop-i.invariant.2 (omega (arith, more, stretch-in ((goal.at.loop-i-preserved c).Start))) c.rate-ends.ensures (place-within (asked ((goal.at.loop-i-preserved c).Start)) c.args.p c.requires c.loop-i.i more c.rate-ends.ensures),
+      kept_trans c.loop-i.invariant.0 c.rate-ends.ensures.kept,
+      one_place c.loop-i.invariant.1 (omega (arith, more, stretch-in ((goal.at.loop-i-preserved c).Start))) c.rate-ends.ensures (place-within (asked ((goal.at.loop-i-preserved c).Start)) c.args.p c.requires c.loop-i.i more c.rate-ends.ensures),
     )
 
 pub returns : goal.returns
 returns c =
-    let all : c.loop-i.i ≡ size_of (asked ((goal.at.returns c).Start)) = omega (arith, c.loop-i-test.false, c.loop-i.invariant.0, stretch-in ((goal.at.returns c).Start)) in
-    rw all at c.loop-i.invariant.2
+    let all : c.loop-i.i ≡ size_of (asked ((goal.at.returns c).Start)) = omega (arith, c.loop-i-test.false, stretch-in ((goal.at.returns c).Start)) in
+    rw all at c.loop-i.invariant.1

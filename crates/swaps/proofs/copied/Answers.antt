@@ -1,48 +1,43 @@
--- `copied` has the numbers passed in their places. Assumes nothing.
-use borrow.Author.Rules.{rules}
-use mathlib.Core.Path.{refl, ◌∙◌}
-use native.Mathlib.Decide.{ℕ_discrete}
+-- `copied` has the numbers of the one part in the other, which stands at the same place. Assumes nothing.
+use Prim.Native.Nat.{ℕ, ◌-◌, ◌+◌, ◌≤◌, ◌<◌}
+use mathlib.Core.Path.{◌≡◌, ap, ◌∙◌}
+use mathlib.Core.List.{List}
 use native.Mathlib.Omega.{arith}
-use lib.ListN.{get_or, length-set}
-use lib.Seq.{get_or-set_same, get_or-set_other}
+use lib.ListN.{length, get_or, take, drop, replicate, length-replicate, length-append, length-take, length-drop}
+use borrow.Rule.Slice.PartMut.{put_mid}
+use Rattle.rules.specs.Refusal.{most}
+use Rattle.std.proofs.Math.ListN.{get_or-append}
+use Rattle.std.proofs.lemmas.List.{get_or-append_right, get_or-drop, get_or-take}
 use Rattle.swaps.proofs.copied.Goals as goal
 
-pub loop-i-init : goal.loop-i-init
-loop-i-init c = (omega arith, c.requires.0, record { long = refl; same = λ k h l. absurd (omega arith) })
+module _ (from upto : ℕ) (xs zeros : List ℕ) (order : from ≤ upto) (inside : upto ≤ length xs) (room : length xs ≤ length zeros) where
+  abbrev part : List ℕ
+  part = take (upto - from) (drop from xs)
 
-pub offset_bounds-survival-i : goal.offset_bounds-survival-i
-offset_bounds-survival-i c = search rules
+  long-part : length part ≡ upto - from
+  long-part = simp (length-take, length-drop) (omega arith)
 
-pub bounds-survival-i : goal.bounds-survival-i
-bounds-survival-i c = search rules
+  whole : length (put_mid from (upto - from) zeros part) ≡ length zeros
+  whole = simp (length-append, length-take, length-drop) (omega arith)
 
-pub offset_bounds-numbers-i : goal.offset_bounds-numbers-i
-offset_bounds-numbers-i c = omega arith
-
-pub bounds-numbers-i : goal.bounds-numbers-i
-bounds-numbers-i c = omega arith
-
-pub overflow_add-i : goal.overflow_add-i
-overflow_add-i c = search rules
-
-pub loop-i-smaller : goal.loop-i-smaller
-loop-i-smaller c = search rules
-
-pub loop-i-preserved : goal.loop-i-preserved
-loop-i-preserved c =
-    let x = get_or c.args.survival.now c.loop-i.i 0 in (
-      omega arith,
-      omega arith,
-      record {
-        long = length-set c.loop-i.numbers c.loop-i.i x ∙ c.loop-i.invariant.2.long;
-        same = λ k h m.
-            elim (ℕ_discrete k c.loop-i.i) [
-              | yes e ↦ rw e (get_or-set_same c.loop-i.numbers c.loop-i.i x 0 (omega (arith, c.loop-i.invariant.2.long)))
-              | no other ↦ get_or-set_other c.loop-i.numbers c.loop-i.i k x 0 other ∙ c.loop-i.invariant.2.same k h (omega arith)
-            ];
-      },
-    )
+  same : (k : ℕ) → from ≤ k → k < upto → get_or (put_mid from (upto - from) zeros part) k 0 ≡ get_or xs k 0
+  same k h l =
+      let at : from + (k - from) ≡ k = omega arith in
+      get_or-append_right (take from zeros) _ from k 0 (length-take from zeros ∙ omega arith) h
+      ∙ get_or-append part _ 0 (k - from) (omega (arith, long-part))
+      ∙ get_or-take (upto - from) (drop from xs) (k - from) 0 (omega arith)
+      ∙ get_or-drop from xs (k - from) 0 ∙ ap (λ i. get_or xs i 0) at
 
 pub returns : goal.returns
 returns c =
-    record { long = c.loop-i.invariant.2.long; same = λ k h m. c.loop-i.invariant.2.same k h (omega arith) }
+    let from = c.args.from in
+    let upto = c.args.upto in
+    let xs = c.args.survival.now in
+    let zeros = replicate most 0 in
+    let room : length xs ≤ length zeros = omega (arith, length-replicate {A = ℕ} most 0) in
+    record {
+      long = ap (λ ys. length (put_mid from (upto - from) zeros ys)) c.copy_from_slice.ensures.after
+          ∙ whole from upto xs zeros c.requires.0 c.requires.1 room ∙ length-replicate {A = ℕ} most 0;
+      same = λ k h l. ap (λ ys. get_or (put_mid from (upto - from) zeros ys) k 0) c.copy_from_slice.ensures.after
+          ∙ same from upto xs zeros c.requires.0 c.requires.1 room k h l;
+    }
