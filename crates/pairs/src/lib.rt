@@ -2,7 +2,7 @@
 // kept.
 #![tactic(auto)]
 
-ghost use Rattle.std.specs.Prelude.{[], ◌≡◌, ◌+◌, ◌*◌, ◌<◌};
+ghost use Rattle.std.specs.Prelude.{◌≡◌, ◌+◌, ◌*◌, ◌<◌};
 ghost use Rattle.rules.specs.Asked.{asked_by, size_of};
 ghost use Rattle.rules.specs.Refusal.{most};
 ghost use Rattle.spares.specs.Places.{spare_refusal};
@@ -10,7 +10,7 @@ ghost use Rattle.pairs.specs.Tried.{stays, with_pair, TriedBelow};
 
 use places::Ends;
 use rules::limit::CELLS;
-use rules::{NO_MORE, Question};
+use rules::{Question, RatedLists};
 use swaps::Swap;
 
 // The best pair so far: its places, counted from 0, and the figures with a spare in both; and how many were rated, 0
@@ -67,13 +67,7 @@ fn with_pair(best: Best, first: usize, second: usize, ends: Ends) -> Best
 }
 
 // The pairs with this first place, one after the other: the best of them and of those before.
-pub fn rate_row(
-    question: Question,
-    p: u64,
-    first: usize,
-    best: Best,
-    lists: &RatedLists,
-) -> Best
+pub fn rate_row(question: Question, p: u64, first: usize, best: Best, lists: &RatedLists) -> Best
     requires accepted { let q = asked_by question lists.now in
         spare_refusal q p ≡ 0 }
     requires place { let q = asked_by question lists.now in
@@ -93,12 +87,7 @@ pub fn rate_row(
             second: a + j as u64,
             p,
         };
-        let ends = swaps::rate(
-            question,
-            swap,
-            lists,
-            &mut working,
-        );
+        let ends = swaps::rate(question, swap, lists, &mut working);
         best = with_pair(best, first, j, ends);
     }
     best

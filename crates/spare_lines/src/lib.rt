@@ -86,10 +86,9 @@ pub fn put_asked(
         Added (system_text job q) out.old at out.new result }
 {
     let s = job.s as u64 + 1;
-    let refused = spares::refusal(question, job.p, lists);
-    if refused != 0 {
+    if let Err(refused) = spares::refusal(question, job.p, lists) {
         let end = text::put_named(b"system ", s, out, at);
-        return lines::put_refused(refused, out, end);
+        return lines::put_refused(refused.number(), out, end);
     }
     if job.two {
         let two = Two { s, p: job.p };

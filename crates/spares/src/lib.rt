@@ -1,14 +1,15 @@
 // Where a spare can go in a stretch: the figures as they are, and with the spare in each place.
 #![tactic(auto)]
 
-ghost use Rattle.std.specs.Prelude.{[], ◌≡◌, replicate};
+ghost use Rattle.std.specs.Prelude.{◌≡◌, replicate};
 ghost use Rattle.rules.specs.Asked.{asked_by, low_of, high_of};
-ghost use Rattle.rules.specs.Refusal.{cells, figures_refusal};
+ghost use Rattle.rules.specs.Refusal.{cells, figures_refusal, refusal_in};
 ghost use Rattle.spares.specs.Places.{spare_refusal, Placed, AsItIs};
 
 use places::Ends;
 use rules::limit::{CELLS, FANS};
-use rules::{NO_MORE, Question};
+use rules::refusal::Refusal;
+use rules::{Question, RatedLists};
 use swaps::Swap;
 
 // The figures with the spare in the place of each fan of the stretch, its first fan at 0.
@@ -18,48 +19,28 @@ pub struct Places {
     pub high: [u64; FANS],
 }
 
-// The refusal of a system, the spare's number among those of 4; 0 for none.
-pub fn refusal(
-    question: Question,
-    p: u64,
-    lists: &RatedLists,
-) -> u64
+// The refusal of a system, the spare's number among those of 4.
+pub fn refusal(question: Question, p: u64, lists: &RatedLists) -> Result<(), Refusal>
     ensures { let q = asked_by question lists.now in
-        result ≡ spare_refusal q p }
+        refusal_in result ≡ spare_refusal q p }
 {
     let working = [0u64; CELLS];
-    gain::refusal(
-        question,
-        p,
-        lists,
-        &working,
-    )
+    gain::refusal(question, p, lists, &working)
 }
 
 // The figures as they are.
-pub fn rate_now(
-    question: Question,
-    lists: &RatedLists,
-) -> Ends
+pub fn rate_now(question: Question, lists: &RatedLists) -> Ends
     requires { let q = asked_by question lists.now in
         figures_refusal q (replicate cells 0) ≡ 0 }
     ensures { let q = asked_by question lists.now in
         AsItIs q result }
 {
     let mut working = [0u64; CELLS];
-    stretches::work(
-        question,
-        lists,
-        &mut working,
-    )
+    stretches::work(question, lists, &mut working)
 }
 
 // The figures with the spare in each place, one after the other.
-pub fn rate_places(
-    question: Question,
-    p: u64,
-    lists: &RatedLists,
-) -> Places
+pub fn rate_places(question: Question, p: u64, lists: &RatedLists) -> Places
     requires { let q = asked_by question lists.now in
         spare_refusal q p ≡ 0 }
     ensures { let q = asked_by question lists.now in
@@ -77,12 +58,7 @@ pub fn rate_places(
             second: fan,
             p,
         };
-        let ends = swaps::rate(
-            question,
-            swap,
-            lists,
-            &mut working,
-        );
+        let ends = swaps::rate(question, swap, lists, &mut working);
         low[i] = ends.low;
         high[i] = ends.high;
     }

@@ -3,9 +3,6 @@ use borrow.Author.Rules.{rules}
 use Rattle.spares.proofs.Rating.{as-it-is}
 use Rattle.spares.proofs.rate_now.Goals as goal
 
-pub slice_bounds-work-end-2 : goal.slice_bounds-work-end-2
-slice_bounds-work-end-2 c = search rules
-
 pub work-requires : goal.work-requires
 work-requires c =
     c.requires
