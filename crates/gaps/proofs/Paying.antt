@@ -17,7 +17,7 @@ use Rattle.memory.proofs.Moves.{owed-worked-before}
 use Rattle.memory.proofs.Owing.{owed-works, owed-fails, owed-ends, owed-dead}
 use Rattle.places.specs.declared.Ends.{Ends}
 use Rattle.units.specs.declared.debt.Shares.{Shares}
-use Rattle.places.specs.Cells.{Both, MustWork, Place, Workable, cell_at, one, shares_at, value_of}
+use Rattle.places.specs.Cells.{Both, MustWork, Workable, cell_at, one, shares_at, value_of}
 use Rattle.places.proofs.Cells.{both_at, both-as}
 use Rattle.places.proofs.Values.{Chance, valued-dead, valued-suc, valued-within}
 use Rattle.gaps.specs.Gaps.{Due, Shared}
@@ -77,9 +77,6 @@ end-valued u r survival m alive end = both-as (λ up. rw (end, owed-ends r 0 m a
 
 -- a component that must work
 module _ {u r : ℕ} {hand : Owed} {i : ℕ} {survival : List ℕ} {ends : Ends} {t : List ℕ} (y : Due u r hand i survival ends t) where
-  pub due-place : Place (shares + i) t
-  due-place = record { low = omega (arith, y.size, y.list.size); room = y.list.room }
-
   module _ (p q : ℕ) (is : Chance u survival i p q) where
     pub due-must : {s : Shares} → Both (λ up. cell_at t up (shares + i)) (shares_at s) → MustWork u p q s ends
     due-must b = record {

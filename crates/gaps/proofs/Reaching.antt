@@ -13,12 +13,12 @@ use Rattle.rules.specs.Refusal.{most}
 use Rattle.memory.specs.declared.owed.Owed.{Owed}
 use Rattle.memory.specs.Owed.{owed, owed_failed, owed_works, owing}
 use Rattle.places.specs.declared.Ends.{Ends}
-use Rattle.places.specs.Cells.{Both, Put, Kept, Place, cell_at, one, value_of}
+use Rattle.places.specs.Cells.{Both, Put, Kept, cell_at, one, value_of}
 use Rattle.places.specs.Map.{half}
-use Rattle.places.proofs.Cells.{both_at, both-as, row-none, row_other, row_more, workable-kept, kept-none, kept_trans}
+use Rattle.places.proofs.Cells.{both_at, both-as, row-none, row_other, row_more, workable-kept, kept_trans}
 use Rattle.places.proofs.Values.{valued-within}
 use Rattle.gaps.specs.declared.Known.{Known}
-use Rattle.gaps.specs.Gaps.{Asked, Owing, Settled, Holds, Passable, Begun, Bringable, Onward, Payable, Reachable, Reached, Stepping}
+use Rattle.gaps.specs.Gaps.{Asked, Settled, Holds, Passable, Begun, Reached, Stepping}
 use Rattle.gaps.proofs.Sharing.{shared-put}
 use Rattle.gaps.proofs.Paying.{end-valued, free-before, cut}
 
@@ -34,18 +34,11 @@ module _ {u r : ℕ} {survival t t' : List ℕ} {at : ℕ} {e : Ends} (p : Put a
   }
 
 module _ {u r x left : ℕ} {survival t : List ℕ} (y : Holds u r x left survival t) where
-  pub holds-place : (i : ℕ) → i ≤ length survival → Place i t
-  holds-place i l = record { low = omega (arith, y.asked.list.size); room = y.asked.list.room }
-
   pub holds_at : (i : ℕ) → i ≤ left → {e : Ends} → Both (λ up. cell_at t up i) e → Both (λ up. value_of u (owing r) survival (owed x 0) up i) e
   holds_at i l = both-as (λ up. rw (zero-add i) at (y.row.is up i (omega arith)))
 
   pub holds-less : {less : ℕ} → less ≤ left → Holds u r x less survival t
   holds-less l = record { asked = y.asked; settled = y.settled; most = omega (arith, y.most); row = record { is = λ up i h. y.row.is up i (omega arith) } }
-
-  -- a debt that is cut short
-  pub cut-place : (i : ℕ) → i < length survival → Place (half + i) t
-  cut-place i l = record { low = omega (arith, y.asked.list.size); room = y.asked.list.room }
 
   pub cut-is : (m : Owed) (i : ℕ) → m ≡ owed x (r - 1) → i < length survival → i ≤ r - 1 → {e : Ends}
       → Both (λ up. cond (owed_works (owed m.clean (m.owed - i))) (cell_at t up (half + i)) 0) e → Both (λ up. value_of u (owing r) survival (owed x (r - 1)) up i) e
@@ -57,27 +50,6 @@ module _ {u r x left : ℕ} {survival t : List ℕ} (y : Holds u r x left surviv
 -- a debt that is paid
 pub passable : {u r x left : ℕ} {m : Owed} {survival t : List ℕ} → Holds u r x left survival t → m ≡ owed x (r - 1) → left < length survival → Passable u r m left survival t
 passable y is l = rw is (record { due = refl; size = l; holds = holds-less y (omega arith) })
-
-module _ {u r : ℕ} {m : Owed} {i : ℕ} {survival t : List ℕ} (y : Passable u r m i survival t) (l : m.owed ≤ i) where
-  pub paid-place : Place (i - m.owed) t
-  paid-place = holds-place y.holds _ (omega (arith, y.size))
-
-  module _ {free : Owed} (is : free ≡ owed m.clean (m.owed - m.owed)) {e : Ends} (b : Both (λ up. cell_at t up (i - m.owed)) e) where
-    nothing-owed : free ≡ owed m.clean 0
-    nothing-owed = is ∙ ap (owed m.clean) (omega arith)
-
-    pub paid-owing : Owing u r free (i - m.owed) i survival e t
-    paid-owing = record {
-      order = omega arith;
-      size = omega (arith, y.size);
-      alive = rw nothing-owed (omega (arith, y.due, y.holds.asked.two));
-      list = y.holds.asked.list;
-      shared = y.holds.settled.shared;
-      value = rw nothing-owed (holds_at y.holds (i - m.owed) (omega arith) b);
-    }
-
-    pub paid-is : {v : Ends} → Both (λ up. value_of u (owing r) survival (owed free.clean (free.owed + (i - (i - m.owed)))) up i) v → Both (λ up. value_of u (owing r) survival m up i) v
-    paid-is = both-as (λ up. rw nothing-owed (ap (λ g. value_of u (owing r) survival (owed m.clean g) up i) (omega arith)))
 
 pub past_is : {u r : ℕ} {m : Owed} {i : ℕ} {survival t : List ℕ} → Passable u r m i survival t → i ≤ m.owed → {e : Ends}
     → Both (λ up. cond (owed_works (owed m.clean (m.owed - i))) (cell_at t up (half + i)) 0) e → Both (λ up. value_of u (owing r) survival m up i) e
@@ -112,9 +84,6 @@ pub record Stands (u r x left : ℕ) (survival : List ℕ) (works : Ends) (t₀ 
   pub value : Both (λ up. value_of u (owing r) survival (owed x 0) up left) works
   pub kept : Kept t₀ t
 
-pub stands-first : {u r x left : ℕ} {survival t : List ℕ} → Holds u r x left survival t → {works : Ends} → Both (λ up. cell_at t up left) works → Stands u r x left survival works t t
-stands-first y b = record { holds = y; value = holds_at y _ (omega arith) b; kept = kept-none }
-
 -- a component more
 module _ {u r x left : ℕ} {survival : List ℕ} {works fails : Ends} {t₀ t : List ℕ} (y : Stands u r x left survival works t₀ t) (l : left < length survival)
     (f : Both (λ up. value_of u (owing r) survival (owed x (r - 1)) up left) fails) where
@@ -147,47 +116,8 @@ module _ {u r x left : ℕ} {survival : List ℕ} {works fails : Ends} {t₀ t :
       stepped : Both (λ up. value_of u (owing r) survival (owed x 0) up (left + 1)) e
       stepped = both-as (λ up. rw (both_at y.value up, both_at f up) (sym (free-before y.holds.asked.list.whole r survival up x left (omega (arith, y.holds.asked.two))))) b
 
--- what was reached is gone on from
-pub reached-able : {u r x done upto : ℕ} {survival t₀ t : List ℕ} {s : Known} → Reached u r x done survival t₀ t s → done ≤ upto → upto ≤ length survival → Reachable u r s upto survival t
-reached-able y l h = record {
-  none = ap (λ m. m.owed) y.free;
-  holds = rw (y.free, y.left) y.holds;
-  order = omega (arith, y.left);
-  most = h;
-}
-
--- where there is nothing to go on with
-pub brought : {u r : ℕ} {s : Known} {m : Owed} {i : ℕ} {survival t : List ℕ} → Bringable u r s m i survival t → s.free.clean ≡ m.clean → s.left ≡ i - m.owed
-    → Reached u r m.clean (i - m.owed) survival t t s
-brought {s = s} y same left = record {
-  free = ap (owed s.free.clean) y.none ∙ ap (λ x. owed x 0) same;
-  left = left;
-  holds = rw (same, left) at y.holds;
-  kept = kept-none;
-}
-
 pub reached-on : {u r x done upto : ℕ} {survival t₀ t t' : List ℕ} {s s' : Known} → Reached u r x done survival t₀ t s → Reached u r s.free.clean upto survival t t' s'
     → Reached u r x upto survival t₀ t' s'
 reached-on y z =
     let e = ap (λ m. m.clean) y.free in
     record { free = rw e at z.free; left = z.left; holds = rw e at z.holds; kept = kept_trans y.kept z.kept }
-
--- a memory begun anew, or gone on with, as far as a failed component needs it
-pub bring-begun : {u r : ℕ} {s : Known} {m free : Owed} {i : ℕ} {survival t : List ℕ} → Bringable u r s m i survival t → free ≡ owed m.clean (m.owed - m.owed) → Begun u r free survival t
-bring-begun {m = m} y is = record { none = ap (λ f. f.owed) is ∙ omega arith; asked = y.holds.asked; settled = y.holds.settled }
-
--- as far as debts are cut short, and on from there
-pub cut-payable : {u r : ℕ} {s k : Known} {upto : ℕ} {survival t₀ t : List ℕ} → Reachable u r s upto survival t₀ → Onward u r s.free.clean upto survival t₀ t k
-    → Payable u r k upto survival t
-cut-payable y z = record {
-  free = rw z.free refl;
-  holds = rw z.free z.holds;
-  order = z.most;
-  done = z.done;
-  most = y.most;
-}
-
-pub cut-reached : {u r x : ℕ} {j k : Known} {upto : ℕ} {survival t₀ t t' : List ℕ} → Onward u r x upto survival t₀ t j → Reached u r j.free.clean upto survival t t' k
-    → Reached u r x upto survival t₀ t' k
-cut-reached y z =
-    record { free = rw y.free at z.free; left = z.left; holds = rw y.free at z.holds; kept = kept_trans y.kept z.kept }

@@ -1,18 +1,16 @@
 -- The shares of the components' numbers as the table holds them: written one component at a time, and left alone by what is written elsewhere. Assumes nothing.
-use mathlib.Core.Bool.{Bool, true, false, cond}
+use mathlib.Core.Bool.{Bool, cond}
 use mathlib.Core.Logic.{inr}
 use mathlib.Core.List.{List}
 use Prim.Native.Nat.{ℕ, ◌+◌, ◌≤◌, ◌<◌}
 use native.Mathlib.Omega.{arith}
 use lib.ListN.{length, get_or}
-use borrow.Author.Count.{below_more}
 use Rattle.rules.specs.State.{failure}
 use Rattle.rules.specs.Refusal.{most}
 use Rattle.units.specs.Share.{Dealt}
 use Rattle.places.specs.declared.Ends.{Ends}
-use Rattle.places.specs.Cells.{Kept, Put, Written, cell_at, one}
+use Rattle.places.specs.Cells.{Kept, Put, Written, cell_at}
 use Rattle.places.specs.Map.{half, shares}
-use Rattle.places.proofs.Cells.{kept-none, kept_trans}
 use Rattle.gaps.specs.Gaps.{Shared}
 
 -- a component's P or Q
@@ -23,22 +21,6 @@ number_at u survival up i = cond up (failure u (get_or survival i 0)) (get_or su
 pub record SharedTo (u n : ℕ) (survival t₀ t : List ℕ) : Type 0 where
   pub is : (up : Bool) (k : ℕ) → k < n → Dealt u (number_at u survival up k) (cell_at t up (shares + k))
   pub kept : Kept t₀ t
-
-pub shared-none : {u : ℕ} {survival t : List ℕ} → SharedTo u 0 survival t t
-shared-none = record { is = λ up k l. absurd (omega arith); kept = kept-none }
-
-pub shared-more : {u n : ℕ} {survival t₀ t t' : List ℕ} {e : Ends} → SharedTo u n survival t₀ t → n < most → Dealt u (number_at u survival false n) e.low
-    → Dealt u (number_at u survival true n) e.high → Put (shares + n) e t t' → SharedTo u (n + 1) survival t₀ t'
-shared-more {u} {n} {survival} {t' = t'} {e = e} s few low high p = record {
-  is = λ up.
-      below_more (λ k. Dealt u (number_at u survival up k) (cell_at t' up (shares + k))) n
-      (λ k l. rw (p.other up (shares + k) (omega arith) (λ q. omega arith)) (s.is up k l)) (rw (p.here up) (both up));
-  kept = kept_trans s.kept p.kept;
-}
-  where
-    both : (up : Bool) → Dealt u (number_at u survival up n) (one up e)
-    both false = low
-    both true = high
 
 -- what is written elsewhere
 pub shared-put : {u : ℕ} {survival t t' : List ℕ} {at : ℕ} {e : Ends} → Put at e t t' → at < shares → length survival ≤ most → Shared u survival t → Shared u survival t'

@@ -12,7 +12,7 @@ use Rattle.rules.specs.Memory.{machine_of, row6, row7, ended, end7}
 use Rattle.rules.specs.Figure.{rounded, mixed, value, figure_of}
 use Rattle.memory.specs.declared.owed.Owed.{Owed}
 use Rattle.memory.specs.declared.owed.Clean.{Clean}
-use Rattle.memory.specs.Owed.{owed, clean_after, clean_worked, clean_failed, owing}
+use Rattle.memory.specs.Owed.{owed, clean_after, clean_failed, owing}
 use Rattle.memory.specs.Open.{clean_open}
 use Rattle.memory.proofs.Owing.{owed-row6, owed-row7}
 use Rattle.memory.proofs.Opening.{clean-start, clean-works, clean-fails}
@@ -21,7 +21,7 @@ use Rattle.places.specs.Cells.{Both, Kept, cell_at, value_of}
 use Rattle.places.proofs.Cells.{both_at, both-as, workable-kept, kept-none, kept_trans}
 use Rattle.places.proofs.Values.{valued-within, valued-suc}
 use Rattle.gaps.specs.declared.Known.{Known}
-use Rattle.gaps.specs.Gaps.{Asked, Settled, Begun, Reached, Passable, Bringable, Closable, closed_value}
+use Rattle.gaps.specs.Gaps.{Asked, Settled, Begun, Reached, Passable, Closable, closed_value}
 use Rattle.gaps.proofs.Reaching.{holds_at}
 
 pub asked-kept : {u r : ℕ} {survival t₀ t : List ℕ} → Kept t₀ t → Asked u r survival t₀ → Asked u r survival t
@@ -77,12 +77,6 @@ hand_first r n = ap (clean_after r) (omega arith)
 pub hand-next : (r n i : ℕ) → clean_after r (n - i - 1) ≡ clean_after r (n - (i + 1))
 hand-next r n i = ap (clean_after r) (omega arith)
 
-pub hand-worked : (r n i : ℕ) {c w h : Clean} → c ≡ clean_after r (n - i - 1) → w ≡ clean_worked r c → h ≡ clean_after r (n - i) → i < n → w.clean ≡ h.clean
-hand-worked r n i at works hand more =
-    let k = n - i - 1 in
-    let was : min (min k (r - 1) + 1) (r - 1) ≡ min (n - i) (r - 1) = omega arith in
-    ap (λ m. m.clean) works ∙ ap (λ m. min (m.clean + 1) (r - 1)) at ∙ was ∙ sym (ap (λ m. m.clean) hand)
-
 -- the ring on the way: the clean ones that are known, and the value of the open ones
 pub record Closing (u r : ℕ) (survival t₀ : List ℕ) (i : ℕ) (s : Known) (ends : Ends) (t : List ℕ) : Type 0 where
   pub asked : Asked u r survival t₀
@@ -111,15 +105,6 @@ closing-last {u} {r} {survival} {i = i} l v =
     both-as (λ up. ap (λ m. value_of u (machine_of (row7 r)) survival m up (length survival)) (clean-start r (length survival))) (rw e at v.value)
 
 module _ {u r : ℕ} {survival t₀ t : List ℕ} {i : ℕ} {s : Known} {ends : Ends} (v : Closing u r survival t₀ i s ends t) (l : i < length survival) {m : Owed} (is : m ≡ closed r survival i) where
-  pub closing-bringable : Bringable u r s m i survival t
-  closing-bringable = record {
-    none = ap (λ f. f.owed) v.reached.free;
-    holds = rw (v.reached.free, v.reached.left) v.reached.holds;
-    due = ap (λ f. f.owed) is;
-    order = rw is (omega (arith, v.reached.left, v.near));
-    size = l;
-  }
-
   module _ {t' : List ℕ} {s' : Known} (z : Reached u r m.clean (i - m.owed) survival t t' s') where
     pub closing-passable : Passable u r m i survival t'
     closing-passable = record { due = ap (λ f. f.owed) is; size = l; holds = z.holds }

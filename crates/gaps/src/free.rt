@@ -59,15 +59,13 @@ fn reach_cut(
 {
     let free = s.free;
     let m = free.failed(r);
-    let last = places::lesser(upto, r);
-    let mut left = s.left;
-    let mut hand = places::read(table, left);
-    while left < last {
+    let last = upto.min(r).max(s.left);
+    let mut hand = places::read(table, s.left);
+    for left in s.left..last {
         let fails = owed::cut_short(decimal, m, left, table);
         hand = more(decimal, free, survival, left, hand, fails, table);
-        left += 1;
     }
-    Known { free, left }
+    Known { free, left: last }
 }
 
 // From there on every debt is paid.
@@ -86,14 +84,12 @@ fn reach_paid(
 {
     let free = s.free;
     let m = free.failed(r);
-    let mut left = s.left;
-    let mut hand = places::read(table, left);
-    while left < upto {
+    let mut hand = places::read(table, s.left);
+    for left in s.left..upto {
         let fails = owed::paid(decimal, r, m, left, survival, table);
         hand = more(decimal, free, survival, left, hand, fails, table);
-        left += 1;
     }
-    Known { free, left }
+    Known { free, left: upto }
 }
 
 // On to `upto` components left.
@@ -129,7 +125,7 @@ pub fn bring(
         let read = survival.now in
         Reached u r m.clean (i - m.owed) read table.old table.new result }
 {
-    let upto = places::rest(i, m.owed);
+    let upto = i.saturating_sub(m.owed);
     let free = s.free;
     if free.clean == m.clean {
         if s.left == upto {

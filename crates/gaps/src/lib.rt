@@ -87,15 +87,13 @@ pub fn ring(decimal: bool, r: usize, survival: &[u32], table: &mut [u64]) -> End
     let mut known = free::begin(decimal, r, Owed::start(r), survival, table);
     let mut hand = Clean::after(n, r);
     let mut ends = places::end_value(decimal, hand.works());
-    let mut i: usize = 0;
-    while i < n {
+    for i in 0..n {
         let clean = Clean::after(n - i - 1, r);
         let m = clean.failed(r);
         known = free::bring(decimal, r, known, m, i, survival, table);
         let works = places::at_hand(clean.worked(r).clean, hand.clean, ends);
         ends = close(decimal, r, m, i, survival, works, table);
         hand = clean;
-        i += 1;
     }
     ends
 }

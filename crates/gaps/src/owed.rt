@@ -50,11 +50,9 @@ fn back(
 {
     let mut hand = m;
     let mut ends = end;
-    let mut i = from;
-    while i < upto {
+    for i in from..upto {
         ends = must_work(decimal, r, hand, i, survival, ends, table);
         hand = hand.before();
-        i += 1;
     }
     ends
 }
@@ -69,12 +67,10 @@ fn prepare(decimal: bool, survival: &[u32], table: &mut [u64])
     if !units::by_shares(unit) {
         return;
     }
-    let mut i: usize = 0;
-    while i < survival.len() {
+    for i in 0..survival.len() {
         let p = places::chance(survival, i);
         let shares = debt::deal(unit, p, p.failure(decimal));
         places::write_shares(table, SHARES + i, shares);
-        i += 1;
     }
 }
 
@@ -85,16 +81,14 @@ pub fn settle(decimal: bool, r: usize, survival: &[u32], table: &mut [u64])
     ensures kept { Kept table.old table.new }
 {
     prepare(decimal, survival, table);
-    let last = places::lesser(survival.len(), r - 1);
+    let last = survival.len().min(r - 1);
     let mut hand = Owed { clean: 0, owed: 0 };
     let mut ends = places::end_value(decimal, hand.works());
     places::write(table, HALF, ends);
-    let mut i: usize = 0;
-    while i < last {
+    for i in 0..last {
         ends = must_work(decimal, r, hand, i, survival, ends, table);
         hand = hand.before();
-        i += 1;
-        places::write(table, HALF + i, ends);
+        places::write(table, HALF + i + 1, ends);
     }
 }
 

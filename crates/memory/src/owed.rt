@@ -33,12 +33,9 @@ impl Owed {
     pub fn worked(self) -> Owed
         ensures { result ≡ owed_worked self }
     {
-        if self.owed == 0 {
-            return self;
-        }
         Owed {
-            clean: self.clean,
-            owed: self.owed - 1,
+            owed: self.owed.saturating_sub(1),
+            ..self
         }
     }
 
@@ -48,8 +45,8 @@ impl Owed {
         ensures { result ≡ owed self.clean (self.owed - many) }
     {
         Owed {
-            clean: self.clean,
             owed: self.owed - many,
+            ..self
         }
     }
 
@@ -60,14 +57,11 @@ impl Owed {
     {
         if self.owed == 0 {
             return Owed {
-                clean: self.clean,
                 owed: r - 1,
+                ..self
             };
         }
-        Owed {
-            clean: self.clean,
-            owed: r,
-        }
+        Owed { owed: r, ..self }
     }
 
     // The memory that a working component took to this one, one more owed.
@@ -76,8 +70,8 @@ impl Owed {
         ensures { result ≡ owed self.clean (self.owed + 1) }
     {
         Owed {
-            clean: self.clean,
             owed: self.owed + 1,
+            ..self
         }
     }
 
@@ -95,10 +89,9 @@ impl Clean {
         requires { 1 ≤ r }
         ensures { result ≡ clean_after r read }
     {
-        if read <= r - 1 {
-            return Clean { clean: read };
+        Clean {
+            clean: read.min(r - 1),
         }
-        Clean { clean: r - 1 }
     }
 
     // "clean x becomes clean x+1, x at most r - 1"
@@ -106,11 +99,8 @@ impl Clean {
         requires { 1 ≤ r }
         ensures { result ≡ clean_worked r self }
     {
-        if r - 1 <= self.clean {
-            return Clean { clean: r - 1 };
-        }
         Clean {
-            clean: self.clean + 1,
+            clean: self.clean.saturating_add(1).min(r - 1),
         }
     }
 

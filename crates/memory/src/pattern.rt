@@ -51,7 +51,7 @@ impl Pattern {
         ensures { result ≡ lacking_last self.bits p }
     {
         let last = (self.bits as u64) & (ONES >> (limit::WINDOW - p.r));
-        p.r - (u64::count_ones(last) as u64) < p.k
+        p.r - u64::from(last.count_ones()) < p.k
     }
 
     // "the end works"

@@ -27,10 +27,7 @@ impl Run {
     pub fn worked(self) -> Run
         ensures { result ≡ run_worked self }
     {
-        Run {
-            lead: self.lead,
-            run: 0,
-        }
+        Run { run: 0, ..self }
     }
 
     // "(t, s) becomes (t, s+1)"
@@ -39,8 +36,8 @@ impl Run {
         ensures { result ≡ run_failed self }
     {
         Run {
-            lead: self.lead,
             run: self.run + 1,
+            ..self
         }
     }
 
@@ -50,8 +47,8 @@ impl Run {
         ensures { result ≡ run self.lead (self.run - 1) }
     {
         Run {
-            lead: self.lead,
             run: self.run - 1,
+            ..self
         }
     }
 

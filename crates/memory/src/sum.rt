@@ -36,9 +36,6 @@ impl Sum {
     pub fn outside(self, l: usize, h: usize) -> bool
         ensures { result ≡ sum_outside l h self }
     {
-        if self.sum < l {
-            return true;
-        }
-        h < self.sum
+        self.sum < l || h < self.sum
     }
 }

@@ -116,18 +116,12 @@ pub fn step_owed(decimal: bool, p: Survival, q: Failure, shares: Shares, works: 
     }
 }
 
-fn wide(p: u32) -> u64
-    ensures { result ≡ p }
-{
-    p as u64
-}
-
 // The survival number of component i + 1.
 pub fn chance(survival: &[u32], i: usize) -> Survival
     requires { i < length survival.now }
     ensures { result.0 ≡ get_or survival.now i 0 }
 {
-    Survival(wide(survival[i]))
+    Survival(u64::from(survival[i]))
 }
 
 // The value at hand, which is that of the memory asked for: the two hold the same number.
@@ -157,22 +151,18 @@ pub fn zero(table: &mut [u64], count: usize)
     requires { count ≤ length table.old }
     ensures { table.new ≡ replicate count 0 ++ drop count table.old }
 {
-    let mut i: usize = 0;
-    while i < count {
-        table[i] = 0;
-        i += 1;
-    }
+    table[..count].fill(0);
 }
 
 pub fn lesser(a: usize, b: usize) -> usize
     ensures { result ≡ min a b }
 {
-    if a <= b { a } else { b }
+    a.min(b)
 }
 
 // a less b, or 0.
 pub fn rest(a: usize, b: usize) -> usize
     ensures { result ≡ a - b }
 {
-    if a <= b { 0 } else { a - b }
+    a.saturating_sub(b)
 }

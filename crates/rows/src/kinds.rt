@@ -1,6 +1,6 @@
 // What kinds 1 to 3 differ in: how far a failed component carries a sum, from where on sums are dead, and what is asked
 // at the end.
-ghost use Rattle.std.specs.Prelude.{◌≡◌, cond, suc, ◌<◌, length};
+ghost use Rattle.std.specs.Prelude.{◌≡◌, suc, ◌<◌, length};
 ghost use Rattle.rules.specs.Accepted.{Accepted};
 ghost use Rattle.rows.specs.Kinds.{end_of, gap_of, limit_of, load_of, carry_of};
 
@@ -14,30 +14,26 @@ const HEAVIEST: usize = rules::limit::WEIGHT as usize;
 // One more than the most components: as many sums as kind 3 can come to.
 const PAST_ALL: usize = FANS + 1;
 
-fn either(test: bool, a: usize, b: usize) -> usize
-    ensures { result ≡ cond test a b }
-{
-    if test { a } else { b }
-}
-
 // From here on sums are dead, or never come.
 pub fn limit(rule: Rule) -> usize
     ensures { result ≡ limit_of rule }
 {
-    either(rule.kind == kind::BETWEEN, PAST_ALL, rule.first as usize)
+    if rule.kind == kind::BETWEEN {
+        PAST_ALL
+    } else {
+        rule.first as usize
+    }
 }
 
 // How many sums from the limit on one component can come to.
 pub fn gap(rule: Rule) -> usize
     ensures { result ≡ gap_of rule }
 {
-    either(rule.kind == kind::WEIGHT, HEAVIEST, 1)
-}
-
-fn wide(weight: u16) -> usize
-    ensures { result ≡ weight }
-{
-    weight as usize
+    if rule.kind == kind::WEIGHT {
+        HEAVIEST
+    } else {
+        1
+    }
 }
 
 // How far component i + 1 carries a sum where it fails.
@@ -46,7 +42,7 @@ pub fn carry(rule: Rule, weights: &[u16], i: usize) -> usize
     ensures { result ≡ carry_of rule weights.now (suc i) }
 {
     if rule.kind == kind::WEIGHT {
-        return wide(weights[i]);
+        return usize::from(weights[i]);
     }
     1
 }
@@ -57,10 +53,8 @@ pub fn load(rule: Rule, weights: &[u16], n: usize) -> usize
     ensures { result ≡ load_of rule weights.now n }
 {
     let mut sum: usize = 0;
-    let mut i: usize = 0;
-    while i < n {
+    for i in 0..n {
         sum += carry(rule, weights, i);
-        i += 1;
     }
     sum
 }

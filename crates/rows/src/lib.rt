@@ -41,7 +41,7 @@ pub fn rate(decimal: bool, rule: Rule, survival: &[u32], weights: &[u16], table:
         left: 0,
         from: 0,
     };
-    while s.left < n {
+    for _ in 0..n {
         s = row::turn(decimal, rule, survival, weights, s, table);
     }
     places::read(table, s.from)

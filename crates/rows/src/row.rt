@@ -17,11 +17,9 @@ pub fn start(decimal: bool, rule: Rule, limit: usize, table: &mut [u64])
     requires { Span 0 limit table.old × (limit ≡ limit_of rule) }
     ensures { Written (ends_value (whole decimal) rule) limit 0 table.old table.new }
 {
-    let mut m: usize = 0;
-    while m < limit {
+    for m in 0..limit {
         let works = kinds::works(rule, limit, Sum { sum: m });
         places::write(table, m, places::end_value(decimal, works));
-        m += 1;
     }
 }
 
@@ -30,10 +28,8 @@ pub fn clear(decimal: bool, off: usize, count: usize, table: &mut [u64])
     requires { Span off count table.old }
     ensures { Written (λ up k. 0) count off table.old table.new }
 {
-    let mut k: usize = 0;
-    while k < count {
+    for k in 0..count {
         places::write(table, off + k, places::end_value(decimal, false));
-        k += 1;
     }
 }
 
@@ -67,23 +63,17 @@ pub fn turn(
     let from = s.from;
     let carry = kinds::carry(rule, weights, left);
     if carry == 0 {
-        return Level {
-            reach: s.reach,
-            left: next,
-            from,
-        };
+        return Level { left: next, ..s };
     }
     let reach = s.reach - carry;
-    let width = places::lesser(kinds::limit(rule), reach);
+    let width = kinds::limit(rule).min(reach);
     let to = HALF - from;
     let odds = odds::prepare(decimal, places::chance(survival, left));
-    let mut m: usize = 0;
-    while m < width {
+    for m in 0..width {
         let sum = Sum { sum: m };
         let works = value(table, from, sum.worked());
         let fails = value(table, from, sum.failed(carry));
         places::write(table, to + m, places::step_row(decimal, odds, works, fails));
-        m += 1;
     }
     Level {
         reach,

@@ -3,7 +3,7 @@
 use mathlib.Core.Path.{◌≡◌, refl, sym, ap, ◌∙◌}
 use mathlib.Core.Bool.{Bool}
 use mathlib.Core.List.{List}
-use Prim.Native.Nat.{ℕ, zero, suc, ◌+◌, ◌-◌, ◌^◌, ◌≤◌, ◌<◌, min}
+use Prim.Native.Nat.{ℕ, zero, suc, ◌+◌, ◌-◌, ◌≤◌, ◌<◌, min}
 use native.Mathlib.Decide.{dec_lt}
 use native.Mathlib.Nat.{zero-add}
 use native.Mathlib.Numerals.{add-one}
@@ -13,12 +13,11 @@ use borrow.Author.Tests.{lt-ltb, le-ltb, le-leb}
 use Rattle.rules.specs.Figure.{rounded, mixed, value}
 use Rattle.rules.proofs.Rounding.{unchanged}
 use Rattle.memory.specs.declared.run.Run.{Run}
-use Rattle.memory.specs.Run.{run, run_failed, running}
+use Rattle.memory.specs.Run.{run, running}
 use Rattle.memory.proofs.Runs.{run-works, run-fails, run_ends, run-dead}
-use Rattle.memory.proofs.Moves.{run-failed-before}
 use Rattle.places.specs.declared.Ends.{Ends}
-use Rattle.places.specs.Cells.{Both, Place, Put, Kept, Written, cell_at, one, value_of, Steady}
-use Rattle.places.proofs.Cells.{both-as, row_as, row_more, room-kept, workable-kept, kept-none, kept_trans}
+use Rattle.places.specs.Cells.{Both, Put, Kept, Written, cell_at, one, value_of, Steady}
+use Rattle.places.proofs.Cells.{both-as, row_as, row_more, workable-kept, kept-none, kept_trans}
 use Rattle.places.proofs.Values.{Chance, valued-dead, valued-suc, step-steady, step-mixed}
 use Rattle.runs.specs.Runs.{Free, Falling, Fillable, Filled}
 
@@ -72,28 +71,8 @@ module _ {u k : ℕ} {free : Run} {upto : ℕ} {survival t : List ℕ} (y : Fall
     value = both-as (λ up. sym (fallen y.list.whole k survival free.lead up upto y.far)) b;
   }
 
-  pub back_last : {i : ℕ} {m : Run} {ends : Ends} → upto ≤ i → Back u k free.lead upto survival i m ends → Both (λ up. value_of u (running k) survival free up upto) ends
-  back_last {i} l v =
-      let e : i ≡ upto = omega (arith, v.most) in
-      let d : upto - upto ≡ 0 = omega arith in
-      rw (v.is, e, d, ← free-is y.free) at v.value
-
   -- a component more
   module _ (i : ℕ) (l : i < upto) {m : Run} {ends : Ends} (v : Back u k free.lead upto survival i m ends) where
-    pub back-place : Place i t
-    back-place = record { low = omega (arith, y.size, y.list.size); room = y.list.room }
-
-    pub back_some : 0 < m.run
-    back_some = rw v.is (omega arith)
-
-    -- the memory before it, which a failed component takes to it
-    module _ {m' : Run} (before : m' ≡ run m.lead (m.run - 1)) where
-      pub back-small : m'.run + 1 < 2 ^ 64
-      back-small = rw (before, v.is) (omega (arith, y.size, y.list.size))
-
-      pub back-failed : run_failed m' ≡ m
-      back-failed = rw before (run-failed-before m back_some)
-
     at-hand : Both (λ up. value_of u (running k) survival (run free.lead (upto - (i + 1) + 1)) up i) ends
     at-hand = let e : upto - i ≡ upto - (i + 1) + 1 = omega arith in rw (v.is, e) at v.value
 
@@ -134,19 +113,6 @@ module _ {u k : ℕ} {m : Run} {upto : ℕ} {survival t : List ℕ} (y : Fillabl
   fillable-kept k = record { free = y.free; size = y.size; list = workable-kept k y.list }
 
   module _ {left : ℕ} {t' : List ℕ} (v : Filled u k m left survival t t') (l : left < upto) where
-    pub filled-falling : k ≤ suc left + m.lead → Falling u k m (left + 1) survival t'
-    filled-falling far = record {
-      free = y.free;
-      some = omega arith;
-      size = omega (arith, y.size);
-      far = omega arith;
-      row = record { is = λ up i h. v.row.is up i (omega arith) };
-      list = workable-kept v.kept y.list;
-    }
-
-    pub filled-place : Place (left + 1) t'
-    filled-place = record { low = omega (arith, y.size, y.list.size); room = room-kept v.kept y.list.room }
-
     pub filled_more : {t'' : List ℕ} {e : Ends} → Both (λ up. value_of u (running k) survival m up (left + 1)) e → Put (left + 1) e t' t'' → Filled u k m (left + 1) survival t t''
     filled_more b p =
         let a : suc (left + 1) ≡ suc left + 1 = omega arith in

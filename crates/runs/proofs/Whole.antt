@@ -20,8 +20,8 @@ use Rattle.memory.proofs.Runs.{run-row4, run-row5}
 use Rattle.memory.proofs.Moves.{lead-failed-before}
 use Rattle.memory.proofs.Opening.{lead-first, lead-start, lead-works, lead-fails}
 use Rattle.places.specs.declared.Ends.{Ends}
-use Rattle.places.specs.Cells.{Both, Place, Kept, Steady, cell_at, one, value_of}
-use Rattle.places.proofs.Cells.{both-as, room-kept, workable-kept, kept-none, kept_trans}
+use Rattle.places.specs.Cells.{Both, Kept, Steady, cell_at, one, value_of}
+use Rattle.places.proofs.Cells.{both-as, workable-kept, kept-none, kept_trans}
 use Rattle.places.proofs.Values.{Chance, valued-suc, step-steady, step-mixed}
 use Rattle.runs.specs.Runs.{Asked, Fillable, Filled}
 
@@ -99,9 +99,6 @@ module _ {u k : ℕ} {survival t₀ : List ℕ} (y : Asked u k survival t₀) wh
       }
 
       module _ {t' : List ℕ} (f : Filled u k (run m'.lead 0) i survival t t') where
-        pub leading-place : Place i t'
-        leading-place = record { low = omega (arith, v.most, y.list.size); room = room-kept (kept_trans v.kept f.kept) y.list.room }
-
         module _ (p q : ℕ) (is : Chance u survival i p q) {none : Ends} (b : Both (λ up. cell_at t' up i) none) where
           known : Both (λ up. value_of u (running k) survival (run (n - suc i) 0) up i) none
           known = rw earlier at (filled_at f b)

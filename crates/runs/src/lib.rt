@@ -32,12 +32,10 @@ fn decide(decimal: bool, k: usize, free: Run, upto: usize, table: &mut [u64]) ->
     ensures written { let count = suc (min upto (k - 1 - free.lead)) in
         Written (λ up i. whole decimal) count 0 table.old table.new }
 {
-    let last = places::lesser(upto, k - 1 - free.lead);
+    let last = upto.min(k - 1 - free.lead);
     let ends = places::end_value(decimal, free.works(k));
-    let mut left: usize = 0;
-    while left <= last {
+    for left in 0..=last {
         places::write(table, left, ends);
-        left += 1;
     }
     last
 }
@@ -48,13 +46,13 @@ fn back(decimal: bool, k: usize, free: Run, upto: usize, survival: &[u32], table
     requires { Falling (whole decimal) k free upto survival.now table.now }
     ensures { Both (λ up. value_of (whole decimal) (running k) survival.now free up upto) result }
 {
-    let mut i = places::rest(upto, k);
+    let from = upto.saturating_sub(k);
     let mut hand = Run {
         lead: free.lead,
-        run: upto - i,
+        run: upto - from,
     };
     let mut ends = places::end_value(decimal, false);
-    while i < upto {
+    for i in from..upto {
         let m = hand.before();
         let p = places::chance(survival, i);
         ends = places::step(
@@ -65,7 +63,6 @@ fn back(decimal: bool, k: usize, free: Run, upto: usize, survival: &[u32], table
             places::at_hand(m.failed().run, hand.run, ends),
         );
         hand = m;
-        i += 1;
     }
     ends
 }
@@ -76,11 +73,10 @@ fn fill(decimal: bool, k: usize, free: Run, upto: usize, survival: &[u32], table
     ensures { let read = survival.now in
         Filled (whole decimal) k free upto read table.old table.new }
 {
-    let mut left = decide(decimal, k, free, upto, table);
-    while left < upto {
-        left += 1;
-        let ends = back(decimal, k, free, left, survival, table);
-        places::write(table, left, ends);
+    let known = decide(decimal, k, free, upto, table);
+    for left in known..upto {
+        let ends = back(decimal, k, free, left + 1, survival, table);
+        places::write(table, left + 1, ends);
     }
 }
 
@@ -105,8 +101,7 @@ pub fn ring(decimal: bool, k: usize, survival: &[u32], table: &mut [u64]) -> End
     let n = survival.len();
     let mut hand = Lead { lead: k };
     let mut opened = places::end_value(decimal, hand.works(k));
-    let mut i = n - k;
-    while i < n {
+    for i in n - k..n {
         let m = hand.before();
         let free = m.worked();
         fill(decimal, k, free, i, survival, table);
@@ -119,7 +114,6 @@ pub fn ring(decimal: bool, k: usize, survival: &[u32], table: &mut [u64]) -> End
             places::at_hand(m.failed().lead, hand.lead, opened),
         );
         hand = m;
-        i += 1;
     }
     opened
 }

@@ -4,4 +4,3 @@ pub mod Shares
 pub mod Making
 pub mod Rows
 pub mod Debts
-pub mod Halves

@@ -98,7 +98,7 @@ pub fn narrow(x: u64) -> u64
     requires { x < digit }
     ensures { result ≡ x }
 {
-    (x as u32) as u64
+    u64::from(x as u32)
 }
 
 // p times the value where the component works, plus q times the value where it fails.

@@ -1,12 +1,12 @@
 -- What the pairs ask, one further pair more a turn: the longest window, and whether some window holds too few. And what a rule in range says of its
 -- windows. Assumes nothing.
-use mathlib.Core.Path.{◌≡◌}
+use mathlib.Core.Path.{◌≡◌, refl}
 use mathlib.Core.Bool.{true, false, not}
-use mathlib.Core.List.{List, [], ◌∷◌}
-use Prim.Native.Nat.{ℕ, ◌+◌, ◌%◌, ◌≤◌, ◌<◌, max}
+use mathlib.Core.List.{List, [], ◌∷◌, ◌++◌}
+use Prim.Native.Nat.{ℕ, ◌%◌, ◌≤◌, ◌<◌, max}
 use native.Mathlib.Omega.{arith}
 use lib.Dec.{eqb, ltb}
-use lib.ListN.{length, get_or, drop}
+use lib.ListN.{length, get_or}
 use borrow.Author.Tests.{ltb-false, not-true}
 use Rattle.rules.specs.declared.Pair.{Pair}
 use Rattle.rules.specs.Memory.{longest, lacking_last, lacking_in}
@@ -14,23 +14,33 @@ use Rattle.rules.specs.Pairs.{pair_of, pairs_in, pairs_of, any_of, all_of, good_
 use Rattle.rules.specs.Refusal.{range_pairs}
 use Rattle.rules.proofs.Tests.{both, neither}
 use Rattle.rules.proofs.Pairs.{Good, good-pair}
-use Rattle.rules.proofs.Further.{pairs-step, pairs_end}
 use Rattle.windows.specs.Asked.{Asked, Windows}
 
-module _ (xs : List ℕ) (i : ℕ) where
-  pub longest-next : (r s : ℕ) → i + 1 < length xs → s ≡ max r (get_or xs (i + 1) 0)
-      → max s (longest (pairs_in (drop (i + 2) xs))) ≡ max r (longest (pairs_in (drop i xs)))
-  unfolding longest
-  longest-next r s l e = rw (pairs-step xs i l, e) (omega arith)
+-- a chunk of two numbers is the first pair of what is left, and less than a chunk is none
+pub front : {all : List ℕ} (x rest : List ℕ) → all ≡ x ++ rest → length x ≡ 2 → pairs_in all ≡ pair_of (get_or x 0 0) (get_or x 1 0) ∷ pairs_in rest
+unfolding pairs_in
+front [] rest is two = absurd (omega arith)
+front (a ∷ []) rest is two = absurd (omega arith)
+front (a ∷ b ∷ []) rest is two = rw is
+front (a ∷ b ∷ c ∷ xs) rest is two = absurd (omega arith)
 
-  pub longest-last : (r : ℕ) → length xs ≤ i + 1 → max r (longest (pairs_in (drop i xs))) ≡ r
-  unfolding longest
-  longest-last r l = rw (pairs_end xs i l) (omega arith)
+pub none : (all : List ℕ) → length all < 2 → pairs_in all ≡ []
+unfolding pairs_in
+none [] l = refl
+none (a ∷ []) l = refl
+none (a ∷ b ∷ xs) l = absurd (omega arith)
 
-  pub short-next : i + 1 < length xs → longest (pairs_in (drop i xs)) ≤ longest_window
-      → (get_or xs (i + 1) 0 ≤ longest_window) × (longest (pairs_in (drop (i + 2) xs)) ≤ longest_window)
-  unfolding longest
-  short-next l h = let e = rw (pairs-step xs i l) at h in (omega arith, omega arith)
+pub longest-next : {ps : List Pair} {p : Pair} {qs : List Pair} (r s : ℕ) → ps ≡ p ∷ qs → s ≡ max r p.r → max s (longest qs) ≡ max r (longest ps)
+unfolding longest
+longest-next r s is e = rw (is, e) (omega arith)
+
+pub longest-last : {ps : List Pair} (r : ℕ) → ps ≡ [] → max r (longest ps) ≡ r
+unfolding longest
+longest-last r is = rw is (omega arith)
+
+pub short-next : {ps : List Pair} {p : Pair} {qs : List Pair} → ps ≡ p ∷ qs → longest ps ≤ longest_window → (p.r ≤ longest_window) × (longest qs ≤ longest_window)
+unfolding longest
+short-next is h = let e = rw is at h in (omega arith, omega arith)
 
 -- by the first pair, or by the further ones
 module _ (k r : ℕ) (more : List ℕ) (m : ℕ) where

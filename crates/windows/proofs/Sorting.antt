@@ -16,7 +16,6 @@ use Rattle.rules.specs.Refusal.{cells}
 use Rattle.rules.proofs.Windows.{held-le}
 use Rattle.memory.specs.Pattern.{pattern, oldest_of, dies, lives}
 use Rattle.memory.proofs.Patterns.{lives-none, lives-worked, lives-failed}
-use Rattle.places.specs.Cells.{Kept}
 use Rattle.places.specs.Map.{far, marks, free_at, split_at, bound_at, alone_at}
 use Rattle.places.proofs.Cells.{kept-none, kept_trans, room-kept}
 use Rattle.windows.specs.Asked.{Judged}
@@ -114,9 +113,6 @@ not-living b e z = flag-zero b (sym e ∙ z)
 
 living : (b : Bool) {c : ℕ} → c ≡ flag_of b → (c ≡ 0 → ⊥) → b ≡ true
 living b e n = flag_one b (λ z. n (e ∙ z))
-
-pub sortable-kept : {first second oldest : ℕ} {more t₀ t : List ℕ} → Kept t₀ t → Sortable first second more oldest t₀ → Sortable first second more oldest t
-sortable-kept k y = record { windows = y.windows; none = y.none; bit = y.bit; most = y.most; room = room-kept k y.room }
 
 -- before the first
 pub begun : {first second oldest : ℕ} {more t : List ℕ} → Sortable first second more oldest t

@@ -14,7 +14,7 @@ use Rattle.rules.specs.Figure.{rounded, mixed}
 use Rattle.places.specs.declared.Ends.{Ends}
 use Rattle.places.specs.Cells.{one, Both, Place, Put, Steady, cell_at}
 use Rattle.places.specs.Map.{half}
-use Rattle.places.proofs.Cells.{both_at, kept-none, kept_trans, room-kept, side-near, apart}
+use Rattle.places.proofs.Cells.{both_at, kept_trans, room-kept, side-near, apart}
 use Rattle.windows.specs.Groups.{list_at, count_at, entry_at}
 use Rattle.windows.specs.Row.{step_of, Ready, Laid, Handed, Partly}
 
@@ -77,15 +77,6 @@ module _ {u : ℕ} {must worse : Bool} {p oldest from x : ℕ} {t : List ℕ} (y
     behind = λ c l. v.behind c l ∙ w.behind c l;
     kept = kept_trans w.kept v.kept;
   }
-
-pub partly_none : {u : ℕ} {must worse : Bool} {at p oldest from : ℕ} {t : List ℕ} → Partly u must worse at p oldest from 0 t t
-partly_none = record {
-  young = λ up j l. absurd (omega arith);
-  old = λ a up j l. absurd (omega arith);
-  other = λ up k l n. refl;
-  behind = λ c l. refl;
-  kept = kept-none;
-}
 
 module _ {u : ℕ} {must worse : Bool} {p oldest from j : ℕ} {t₀ t : List ℕ} (h : Handed u must worse p oldest from t₀)
     (l : j < count_at t₀ (list_at must worse)) (w : Partly u must worse (list_at must worse) p oldest from j t₀ t) where

@@ -5,7 +5,7 @@ ghost use Rattle.std.specs.Prelude.{◌≡◌, ◌+◌, ◌<◌};
 ghost use Rattle.rules.specs.Pairs.{pairs_of};
 ghost use Rattle.windows.specs.Asked.{Judged};
 ghost use Rattle.windows.specs.Groups.{Appended, Cut, Listable, Listables, Markable, MarkedTwo, Placed};
-ghost use Rattle.windows.specs.Groups.{Sortable, Sorted, Sorting, Trimmed, TrimmedAll, flag_of, list_at, list_of};
+ghost use Rattle.windows.specs.Groups.{Sortable, Sorted, Sorting, Trimmed, TrimmedAll, list_at, list_of};
 
 use crate::pairs;
 use memory::pattern::Pattern;
@@ -49,12 +49,6 @@ fn append(at: usize, x: usize, table: &mut [u64])
     table[at] = count + 1;
 }
 
-fn flag(test: bool) -> u64
-    ensures { result ≡ flag_of test }
-{
-    if test { 1 } else { 0 }
-}
-
 // The marks of the two patterns that follow m.
 fn mark(m: Pattern, works: bool, fails: bool, table: &mut [u64])
     requires { Markable m.bits table.old }
@@ -62,8 +56,8 @@ fn mark(m: Pattern, works: bool, fails: bool, table: &mut [u64])
 {
     let working = MARKS + m.worked().bits;
     let failing = MARKS + m.failed().bits;
-    table[working] = flag(works);
-    table[failing] = flag(fails);
+    table[working] = u64::from(works);
+    table[failing] = u64::from(fails);
 }
 
 // One pattern more: put into its list where it lives, and what follows it marked.
@@ -95,10 +89,8 @@ pub fn sort(first: u64, second: u64, more: &[u64], oldest: usize, table: &mut [u
     table[SPLIT] = 0;
     table[BOUND] = 0;
     table[ALONE] = 0;
-    let mut x: usize = 0;
-    while x < oldest {
+    for x in 0..oldest {
         place(first, second, more, oldest, x, table);
-        x += 1;
     }
 }
 
@@ -107,14 +99,12 @@ fn below(at: usize, reach: usize, table: &[u64]) -> usize
     requires { Listable at table.now }
     ensures { Cut at reach table.now result }
 {
-    let mut c = table[at] as usize;
-    while 0 < c {
-        if (table[at + c] as usize) < reach {
-            return c;
+    for c in (0..table[at] as usize).rev() {
+        if (table[at + 1 + c] as usize) < reach {
+            return c + 1;
         }
-        c -= 1;
     }
-    c
+    0
 }
 
 // A list cut to those below `reach`.

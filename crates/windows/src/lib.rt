@@ -45,7 +45,7 @@ pub fn rate(
     row::start(decimal, 2 * oldest, table);
     groups::sort(first, second, more, oldest, table);
     let mut s = Level { left: 0, from: 0 };
-    while s.left < n {
+    for _ in 0..n {
         s = row::turn(decimal, oldest, survival, s, table);
     }
     places::read(table, s.from)

@@ -1,5 +1,5 @@
 // What the pairs ask of a pattern. The further pairs stand in a list, two numbers each.
-ghost use Rattle.std.specs.Prelude.{◌≡◌, ◌-◌, ◌^◌, ◌<◌, max};
+ghost use Rattle.std.specs.Prelude.{◌≡◌, ◌-◌, ◌^◌};
 ghost use Rattle.rules.specs.Memory.{lacking_in, longest};
 ghost use Rattle.rules.specs.Pairs.{pairs_of};
 ghost use Rattle.memory.specs.Pattern.{dies};
@@ -8,22 +8,14 @@ ghost use Rattle.windows.specs.Asked.{Judged, Windows, farthest};
 use memory::pattern::Pattern;
 use rules::Pair;
 
-fn greater(a: u64, b: u64) -> u64
-    ensures { result ≡ max a b }
-{
-    if a <= b { b } else { a }
-}
-
 // The longest window.
 fn longest(second: u64, more: &[u64]) -> u64
     requires { Windows second more.now }
     ensures { result ≡ farthest second more.now }
 {
     let mut r = second;
-    let mut i: usize = 0;
-    while i + 1 < more.len() {
-        r = greater(r, more[i + 1]);
-        i += 2;
+    for pair in more.chunks_exact(2) {
+        r = r.max(pair[1]);
     }
     r
 }
@@ -33,11 +25,7 @@ pub fn oldest(second: u64, more: &[u64]) -> usize
     requires { Windows second more.now }
     ensures { result ≡ 2 ^ (farthest second more.now - 2) }
 {
-    let r = longest(second, more);
-    if r <= 2 {
-        return 1;
-    }
-    1 << (r - 2)
+    1 << longest(second, more).saturating_sub(2)
 }
 
 // Does some pair's window, of the states read last, hold too few working?
@@ -51,16 +39,13 @@ pub fn lacks(first: u64, second: u64, more: &[u64], m: Pattern) -> bool
     }) {
         return true;
     }
-    let mut i: usize = 0;
-    while i + 1 < more.len() {
-        let p = Pair {
-            k: more[i],
-            r: more[i + 1],
-        };
-        if m.lacks(p) {
+    for pair in more.chunks_exact(2) {
+        if m.lacks(Pair {
+            k: pair[0],
+            r: pair[1],
+        }) {
             return true;
         }
-        i += 2;
     }
     false
 }

@@ -18,12 +18,10 @@ pub fn start(decimal: bool, count: usize, table: &mut [u64])
     requires { Filling count table.old }
     ensures { Written (λ up m. whole decimal) count 0 table.old table.new }
 {
-    let mut m: usize = 0;
-    while m < count {
+    for m in 0..count {
         let pattern = Pattern { bits: m };
         let works = pattern.works();
         places::write(table, m, places::end_value(decimal, works));
-        m += 1;
     }
 }
 
@@ -88,11 +86,9 @@ fn group(
 {
     let at = groups::list_at(must, worse);
     let count = table[at] as usize;
-    let mut j: usize = 0;
-    while j < count {
+    for j in 0..count {
         let x = table[at + 1 + j] as usize;
         both(decimal, must, worse, p, oldest, from, x, table);
-        j += 1;
     }
 }
 

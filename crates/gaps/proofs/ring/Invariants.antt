@@ -1,7 +1,6 @@
 -- `ring` takes the clean ones back a component at a time. Assumes nothing.
 use mathlib.Core.Path.{◌≡◌}
 use Prim.Native.Nat.{◌-◌}
-use lib.ListN.{length}
 use Rattle.memory.specs.Owed.{clean_after}
 use Rattle.units.specs.Step.{whole}
 use Rattle.gaps.proofs.Whole.{Closing}
@@ -9,7 +8,4 @@ use Rattle.gaps.proofs.ring.Given as goal
 
 abbrev pub invariant-loop-i : goal.invariant-loop-i
 invariant-loop-i l =
-    (l.n ≡ length l.survival) × (l.hand ≡ clean_after l.r (l.n - l.i)) × Closing (whole l.decimal) l.r l.survival l.initial.table l.i l.known l.ends l.table
-
-abbrev pub decreases-loop-i : goal.decreases-loop-i
-decreases-loop-i l = l.n - l.i
+    (l.hand ≡ clean_after l.r (l.n - l.i)) × Closing (whole l.decimal) l.r l.survival l.initial.table l.i l.known l.ends l.table

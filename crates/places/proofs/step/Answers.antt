@@ -1,11 +1,7 @@
 -- `step` is the rounded step of each end. Assumes nothing.
-use borrow.Author.Rules.{rules}
 use mathlib.Core.Bool.{true, false}
 use Rattle.places.proofs.Steps.{steady-parts}
 use Rattle.places.proofs.step.Goals as goal
-
-pub whole-unit-requires : goal.whole-unit-requires
-whole-unit-requires c = search rules
 
 pub round_down-requires : goal.round_down-requires
 round_down-requires c = steady-parts c.args.decimal c.whole-unit.ensures c.requires false

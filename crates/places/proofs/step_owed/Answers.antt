@@ -1,11 +1,7 @@
 -- `step_owed` is the rounded step of each end, with nothing where the component fails. Assumes nothing.
-use borrow.Author.Rules.{rules}
 use mathlib.Core.Bool.{true, false}
 use Rattle.places.proofs.Steps.{must-parts}
 use Rattle.places.proofs.step_owed.Goals as goal
-
-pub whole-unit-requires : goal.whole-unit-requires
-whole-unit-requires c = search rules
 
 pub down-requires : goal.down-requires
 down-requires c = must-parts c.args.decimal c.whole-unit.ensures c.requires false

@@ -1,11 +1,7 @@
 -- `step_row` is the rounded step of each end, with a row's numbers. Assumes nothing.
-use borrow.Author.Rules.{rules}
 use mathlib.Core.Bool.{true, false}
 use Rattle.places.proofs.Steps.{row-values}
 use Rattle.places.proofs.step_row.Goals as goal
-
-pub whole-unit-requires : goal.whole-unit-requires
-whole-unit-requires c = search rules
 
 pub down-requires : goal.down-requires
 down-requires c = row-values c.args.decimal c.whole-unit.ensures c.requires.0 c.requires.1 c.requires.2 false

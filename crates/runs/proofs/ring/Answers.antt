@@ -1,22 +1,12 @@
 -- `ring` takes the open lead back a component at a time. Assumes nothing.
-use borrow.Author.Rules.{rules}
-use mathlib.Core.Path.{refl, ap, ◌∙◌}
+use mathlib.Core.Path.{ap, ◌∙◌}
 use native.Mathlib.Omega.{arith}
 use borrow.Author.Tests.{le-ltb}
 use Rattle.units.specs.Step.{whole}
 use Rattle.places.proofs.Values.{Chance}
-use Rattle.runs.proofs.Whole.{filled-as, leading-first, leading-last, leading-some, leading-small, leading-failed, leading-fillable, leading-place, leading-steady, leading-more}
+use Rattle.runs.proofs.Whole.{filled-as, leading-first, leading-last, leading-some, leading-small, leading-failed, leading-fillable, leading-steady, leading-more}
 use Rattle.runs.proofs.ring.Goals as goal
 use Rattle.runs.proofs.ring.Goals.{After-read}
-
-pub works-requires : goal.works-requires
-works-requires c = search rules
-
-pub end_value-opened-requires : goal.end_value-opened-requires
-end_value-opened-requires c = search rules
-
-pub overflow_sub-i : goal.overflow_sub-i
-overflow_sub-i c = search rules
 
 pub loop-i-init : goal.loop-i-init
 loop-i-init c y =
@@ -32,27 +22,9 @@ pub before-m-requires : goal.before-m-requires
 before-m-requires c =
     leading-some c.requires (c.loop-i.invariant c.requires) c.loop-i-test.true
 
-pub worked-free-requires : goal.worked-free-requires
-worked-free-requires c = search rules
-
 pub fill-requires : goal.fill-requires
 fill-requires c =
     rw c.worked-free.ensures (leading-fillable c.requires (c.loop-i.invariant c.requires) c.loop-i-test.true c.before-m.ensures)
-
-pub chance-p-requires : goal.chance-p-requires
-chance-p-requires c =
-    omega (arith, c.loop-i-test.true, (c.loop-i.invariant c.requires).all)
-
-pub failure-requires : goal.failure-requires
-failure-requires c = rw c.chance-p.ensures (c.requires.list.units _)
-
-pub place-requires : goal.place-requires
-place-requires c = rw c.worked-free.ensures refl
-
-pub read-requires : goal.read-requires
-read-requires c =
-    rw c.place.ensures
-    (leading-place c.requires (c.loop-i.invariant c.requires) c.loop-i-test.true c.before-m.ensures (filled-as c.worked-free.ensures c.fill.ensures))
 
 pub failed-requires : goal.failed-requires
 failed-requires c =
@@ -69,22 +41,12 @@ step-opened-requires c =
     rw c.at_hand.ensures
     (leading-steady c.requires (c.loop-i.invariant c.requires) c.loop-i-test.true c.before-m.ensures filled _ _ (chance ((goal.at.step-opened-requires c).After-read)) known)
 
-pub overflow_add-i : goal.overflow_add-i
-overflow_add-i c =
-    omega (arith, c.loop-i-test.true, (c.loop-i.invariant c.requires).all, c.requires.list.size)
-
-pub loop-i-smaller : goal.loop-i-smaller
-loop-i-smaller c = omega (arith, c.loop-i-test.true)
-
 pub loop-i-preserved : goal.loop-i-preserved
 loop-i-preserved c y =
     let filled = filled-as c.worked-free.ensures c.fill.ensures in
     let known = rw c.place.ensures at c.read.ensures in
     let stepped = rw c.at_hand.ensures at c.step-opened.ensures in
     leading-more y (c.loop-i.invariant y) c.loop-i-test.true c.before-m.ensures filled _ _ (chance ((goal.at.loop-i-preserved c).After-read)) known stepped
-
-pub shape_of-table : goal.shape_of-table
-shape_of-table c = (c.loop-i.invariant c.requires).kept.long
 
 pub returns : goal.returns
 returns c =

@@ -1,5 +1,4 @@
 -- `ring` takes the open lead back a component at a time. Assumes nothing.
-use Prim.Native.Nat.{◌-◌}
 use Rattle.units.specs.Step.{whole}
 use Rattle.runs.specs.Runs.{Asked}
 use Rattle.runs.proofs.Whole.{Leading}
@@ -7,6 +6,3 @@ use Rattle.runs.proofs.ring.Given as goal
 
 abbrev pub invariant-loop-i : goal.invariant-loop-i
 invariant-loop-i l = (y : Asked (whole l.decimal) l.k l.survival l.initial.table) → Leading y l.n l.i l.hand l.opened l.table
-
-abbrev pub decreases-loop-i : goal.decreases-loop-i
-decreases-loop-i l = l.n - l.i

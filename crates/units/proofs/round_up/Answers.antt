@@ -1,11 +1,7 @@
 -- `round_up` is the rounded step of the mix. Assumes nothing.
 use native.Mathlib.Omega.{arith}
-use borrow.Author.Rules.{rules}
 use Rattle.rules.specs.Figure.{rounded}
 use Rattle.units.proofs.round_up.Goals as goal
-
-pub mix-requires : goal.mix-requires
-mix-requires c = search rules
 
 pub overflow_sub-unit : goal.overflow_sub-unit
 overflow_sub-unit c = omega (arith, c.requires.unit.some)

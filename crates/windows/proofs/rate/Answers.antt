@@ -1,4 +1,5 @@
 -- `rate` raises the first level one component a turn and reads the start. Assumes nothing.
+use mathlib.Core.Path.{refl}
 use native.Mathlib.Omega.{arith}
 use Rattle.places.proofs.Cells.{kept-none, kept_trans}
 use Rattle.windows.proofs.Asking.{windows}
@@ -19,30 +20,25 @@ pub sort-requires : goal.sort-requires
 sort-requires c =
     sortable c.requires c.oldest-oldest.ensures c.start.ensures.kept
 
-pub loop-s-init : goal.loop-s-init
-loop-s-init c =
-    (level-none c.requires c.oldest-oldest.ensures c.start.ensures c.sort.ensures, kept-none, omega arith)
+pub loop-init : goal.loop-init
+loop-init c =
+    (level-none c.requires c.oldest-oldest.ensures c.start.ensures c.sort.ensures, kept-none, refl)
 
 pub turn-s-requires : goal.turn-s-requires
-turn-s-requires c = record { ps = _; level = c.loop-s.invariant.0; more = c.loop-s-test.true }
+turn-s-requires c = record { ps = _; level = c.loop.invariant.0; more = omega arith }
 
-pub loop-s-smaller : goal.loop-s-smaller
-loop-s-smaller c =
-    let r = c.turn-s.ensures.raised _ c.loop-s.invariant.0 in
-    omega (arith, r.is, c.loop-s-test.true)
-
-pub loop-s-preserved : goal.loop-s-preserved
-loop-s-preserved c =
-    let r = c.turn-s.ensures.raised _ c.loop-s.invariant.0 in
-    (r.level, kept_trans c.loop-s.invariant.1 c.turn-s.ensures.kept, omega (arith, r.is, c.loop-s-test.true))
+pub loop-preserved : goal.loop-preserved
+loop-preserved c =
+    let r = c.turn-s.ensures.raised _ c.loop.invariant.0 in
+    (r.level, kept_trans c.loop.invariant.1 c.turn-s.ensures.kept, omega (arith, r.is, c.loop.invariant.2))
 
 pub read-requires : goal.read-requires
 read-requires c =
-    figure-place c.requires c.loop-s.invariant.0
+    figure-place c.requires c.loop.invariant.0
 
 pub shape_of-table : goal.shape_of-table
 shape_of-table c =
-    (kept_trans (kept_trans c.start.ensures.kept c.sort.ensures.kept) c.loop-s.invariant.1).long
+    (kept_trans (kept_trans c.start.ensures.kept c.sort.ensures.kept) c.loop.invariant.1).long
 
 pub returns : goal.returns
-returns c = record { figure = figure-there c.requires c.loop-s.invariant.0 (omega (arith, c.loop-s.invariant.2, c.loop-s-test.false)) c.read.ensures; kept = kept_trans (kept_trans c.start.ensures.kept c.sort.ensures.kept) c.loop-s.invariant.1 }
+returns c = record { figure = figure-there c.requires c.loop.invariant.0 (omega arith) c.read.ensures; kept = kept_trans (kept_trans c.start.ensures.kept c.sort.ensures.kept) c.loop.invariant.1 }

@@ -1,11 +1,7 @@
 -- `back` takes a debt back a component at a time. Assumes nothing.
-use Prim.Native.Nat.{◌-◌, ◌≤◌}
 use Rattle.units.specs.Step.{whole}
 use Rattle.gaps.proofs.Paying.{Back}
 use Rattle.gaps.proofs.owed.back.Given as goal
 
 abbrev pub invariant-loop-i : goal.invariant-loop-i
-invariant-loop-i l = (l.i ≤ l.upto) × Back (whole l.decimal) l.r l.initial.hand.clean l.initial.hand.owed l.initial.i l.survival l.i l.hand l.ends
-
-abbrev pub decreases-loop-i : goal.decreases-loop-i
-decreases-loop-i l = l.upto - l.i
+invariant-loop-i l = Back (whole l.decimal) l.r l.initial.hand.clean l.initial.hand.owed l.from l.survival l.i l.hand l.ends

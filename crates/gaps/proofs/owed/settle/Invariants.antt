@@ -1,5 +1,5 @@
 -- `settle` has the shares made, then takes a debt back a component at a time and writes the value of each memory that it comes to. Assumes nothing.
-use Prim.Native.Nat.{◌+◌, ◌-◌, ◌≤◌}
+use Prim.Native.Nat.{◌+◌}
 use Rattle.places.specs.Cells.{Written}
 use Rattle.places.specs.Map.{half}
 use Rattle.gaps.specs.Gaps.{settled_value}
@@ -9,7 +9,4 @@ use Rattle.gaps.proofs.owed.settle.Given as goal
 
 abbrev pub invariant-loop-i : goal.invariant-loop-i
 invariant-loop-i l =
-    (l.i ≤ l.last) × Back (whole l.decimal) l.r 0 0 0 l.survival l.i l.hand l.ends × Written (settled_value (whole l.decimal) l.r l.survival) (l.i + 1) half l.initial.table l.table
-
-abbrev pub decreases-loop-i : goal.decreases-loop-i
-decreases-loop-i l = l.last - l.i
+    Back (whole l.decimal) l.r 0 0 0 l.survival l.i l.hand l.ends × Written (settled_value (whole l.decimal) l.r l.survival) (l.i + 1) half l.initial.table l.table

@@ -1,5 +1,4 @@
 -- `load` adds one carry more a turn. Assumes nothing.
-use borrow.Author.Rules.{rules}
 use Prim.Native.Nat.{suc, ◌+◌}
 use mathlib.Core.Path.{◌≡◌, refl}
 use native.Mathlib.Omega.{arith}
@@ -12,30 +11,16 @@ use Rattle.rows.proofs.kinds.load.Goals.{After-carry-sum}
 
 pub loop-i-init : goal.loop-i-init
 unfolding sum_below
-loop-i-init c = (omega arith, refl)
-
-pub carry-sum-requires : goal.carry-sum-requires
-carry-sum-requires c = λ two. omega (arith, c.requires.weights_length two)
+loop-i-init c = refl
 
 -- one component more
 more : (c : After-carry-sum) → let o = c.before.before in let a = o.before.before.args in
     o.loop-i.sum + c.carry-sum.result ≡ load_of a.rule a.weights.now (suc o.loop-i.i)
-more c = rw (load-more, c.carry-sum.ensures, c.loop-i.invariant.1)
+more c = rw (load-more, c.carry-sum.ensures, c.loop-i.invariant)
 
 pub overflow_add-sum : goal.overflow_add-sum
 overflow_add-sum c =
     omega (arith, more ((goal.at.overflow_add-sum c).After-carry-sum), load-le c.requires (suc c.loop-i.i), c.requires.size_high)
 
-pub overflow_add-i : goal.overflow_add-i
-overflow_add-i c = search rules
-
-pub loop-i-smaller : goal.loop-i-smaller
-loop-i-smaller c = search rules
-
 pub loop-i-preserved : goal.loop-i-preserved
-loop-i-preserved c = (omega arith, rw add-one (more ((goal.at.loop-i-preserved c).After-carry-sum)))
-
-pub returns : goal.returns
-returns c =
-    let e : c.loop-i.i ≡ c.args.n = omega arith in
-    rw e at c.loop-i.invariant.1
+loop-i-preserved c = rw add-one (more ((goal.at.loop-i-preserved c).After-carry-sum))

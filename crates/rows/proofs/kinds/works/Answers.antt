@@ -1,18 +1,11 @@
 -- `works` asks the end that its definition asks. Assumes nothing.
-use borrow.Author.Rules.{rules}
 use borrow.Author.Tests.{eq-eqb, ne_eqb}
 use Rattle.rows.specs.Kinds.{end_of}
 use Rattle.rows.proofs.kinds.works.Goals as goal
 
-pub outside-requires : goal.outside-requires
-outside-requires c = search rules
-
 pub returns-then-rule-eq-BETWEEN : goal.returns-then-rule-eq-BETWEEN
 unfolding end_of
 returns-then-rule-eq-BETWEEN c = simp (eq-eqb _ _ c.if-rule-eq-BETWEEN.true) c.outside.ensures
-
-pub below-requires : goal.below-requires
-below-requires c = search rules
 
 pub returns : goal.returns
 unfolding end_of

@@ -1,5 +1,5 @@
 -- `turn` leaves a level for a component of no carry, or climbs, one sum more a turn of its loop. The loop no longer has the rule, so its invariant
-use Prim.Native.Nat.{suc, ◌≤◌, ◌-◌}
+use Prim.Native.Nat.{suc, ◌-◌}
 use Rattle.rules.specs.declared.Rule.{Rule}
 use Rattle.units.specs.Step.{whole}
 use Rattle.places.specs.Cells.{Written}
@@ -11,9 +11,5 @@ use Rattle.rows.proofs.row.turn.Given as goal
 -- holds under every rule that the climb may be read under. Assumes nothing.
 abbrev pub invariant-loop-m : goal.invariant-loop-m
 invariant-loop-m l =
-    (l.m ≤ l.width)
-    × ((rule : Rule) → Climb (whole l.decimal) rule l.survival l.weights l.left l.from l.initial.table l.odds.p.0 l.odds.q.0 l.carry l.width
-    → Written (sums_value (whole l.decimal) rule l.survival l.weights (suc l.left)) l.m (half - l.from) l.initial.table l.table)
-
-abbrev pub decreases-loop-m : goal.decreases-loop-m
-decreases-loop-m l = l.width - l.m
+    (rule : Rule) → Climb (whole l.decimal) rule l.survival l.weights l.left l.from l.initial.table l.odds.p.0 l.odds.q.0 l.carry l.width
+    → Written (sums_value (whole l.decimal) rule l.survival l.weights (suc l.left)) l.m (half - l.from) l.initial.table l.table

@@ -3,15 +3,11 @@ use Prim.Native.Nat.{◌*◌, ◌/◌}
 use mathlib.Core.Path.{◌≡◌, ap, ◌∙◌}
 use native.Mathlib.Omega.{arith}
 use native.Mathlib.Nat.{mul-div-mul_right}
-use borrow.Author.Rules.{rules}
 use Rattle.units.specs.Share.{share_parts, word_parts}
 use Rattle.units.proofs.share.times.Goals as goal
 
 pub overflow_mul-x : goal.overflow_mul-x
 overflow_mul-x c = omega (arith, c.requires)
-
-pub upper_half-requires : goal.upper_half-requires
-upper_half-requires c = search rules
 
 pub returns : goal.returns
 returns c =

@@ -1,38 +1,22 @@
 -- `below` goes down the list while its last one is too high. Assumes nothing.
-use borrow.Author.Rules.{rules}
+use mathlib.Core.Path.{◌≡◌}
+use Prim.Native.Nat.{◌+◌, ◌-◌}
 use native.Mathlib.Omega.{arith}
-use Rattle.windows.proofs.Lists.{entry-last}
 use Rattle.windows.proofs.groups.below.Goals as goal
 
-pub offset_bounds-table-at : goal.offset_bounds-table-at
-offset_bounds-table-at c = search rules
-
-pub bounds-table-at : goal.bounds-table-at
-bounds-table-at c = search rules
-
 pub loop-c-init : goal.loop-c-init
-loop-c-init c = (omega arith, λ l. absurd (omega arith))
-
-pub overflow_add-at : goal.overflow_add-at
-overflow_add-at c = search rules
-
-pub offset_bounds-table-at-in-loop-c : goal.offset_bounds-table-at-in-loop-c
-offset_bounds-table-at-in-loop-c c = search rules
-
-pub bounds-table-at-in-loop-c : goal.bounds-table-at-in-loop-c
-bounds-table-at-in-loop-c c = search rules
+loop-c-init c = λ l. absurd (omega arith)
 
 pub returns-then-table-at : goal.returns-then-table-at
-returns-then-table-at c = search rules
-
-pub overflow_sub-c : goal.overflow_sub-c
-overflow_sub-c c = search rules
-
-pub loop-c-smaller : goal.loop-c-smaller
-loop-c-smaller c = search rules
+returns-then-table-at c =
+    let last : c.args.at + 1 + (c.loop-c.c - 1) ≡ c.args.at + (c.loop-c.c - 1 + 1) = omega arith in
+    let next : c.loop-c.c - 1 + 1 ≡ c.loop-c.c = omega arith in
+    record { most = omega arith; last = λ some. rw last at c.if-table-at.true; next = λ l. rw next (c.loop-c.invariant (omega arith)) }
 
 pub loop-c-preserved : goal.loop-c-preserved
-loop-c-preserved c = (omega (arith, c.loop-c.invariant.0), λ l. rw (entry-last _ _ _ c.loop-c-test.true) c.if-table-at.false)
+loop-c-preserved c = λ l. c.if-table-at.false
 
 pub returns : goal.returns
-returns c = search rules
+returns c =
+    let e : c.loop-c.c ≡ 0 = omega arith in
+    record { most = omega arith; last = λ some. absurd (omega arith); next = λ l. rw e at (c.loop-c.invariant (omega arith)) }

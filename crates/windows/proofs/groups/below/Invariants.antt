@@ -4,7 +4,4 @@ use Rattle.windows.specs.Groups.{count_at, entry_at}
 use Rattle.windows.proofs.groups.below.Given as goal
 
 abbrev pub invariant-loop-c : goal.invariant-loop-c
-invariant-loop-c l = (l.c ≤ count_at l.table l.at) × (l.c < count_at l.table l.at → l.reach ≤ entry_at l.table l.at l.c)
-
-abbrev pub decreases-loop-c : goal.decreases-loop-c
-decreases-loop-c l = l.c
+invariant-loop-c l = l.c < count_at l.table l.at → l.reach ≤ entry_at l.table l.at l.c

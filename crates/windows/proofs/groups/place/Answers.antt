@@ -2,14 +2,10 @@
 use mathlib.Core.Path.{◌∙◌}
 use native.Mathlib.Omega.{arith}
 use Rattle.windows.proofs.Sorting.{small, markable, placed-dead, judged-older, append-ready, placed-living}
-use borrow.Author.Rules.{rules}
 use Rattle.windows.proofs.groups.place.Goals as goal
 
 pub overflow_add-x : goal.overflow_add-x
 overflow_add-x c = omega (arith, small c.requires)
-
-pub offset_bounds-table-x : goal.offset_bounds-table-x
-offset_bounds-table-x c = search rules
 
 pub bounds-table-x : goal.bounds-table-x
 bounds-table-x c = omega (arith, small c.requires, c.requires.by.room)

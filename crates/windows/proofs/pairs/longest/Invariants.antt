@@ -1,13 +1,14 @@
 -- `longest` takes one pair off the list a turn. Assumes nothing.
 use mathlib.Core.Path.{◌≡◌}
-use Prim.Native.Nat.{◌+◌, ◌-◌, ◌≤◌, max}
-use lib.ListN.{length, drop}
+use Prim.Native.Nat.{max}
+use Rattle.std.specs.Slice.Iter.{chunks_exact_rest, chunks_exact_size}
 use Rattle.rules.specs.Memory.{longest}
 use Rattle.rules.specs.Pairs.{pairs_in}
+use Rattle.windows.specs.Asked.{farthest}
 use Rattle.windows.proofs.pairs.longest.Given as goal
 
-abbrev pub invariant-loop-i : goal.invariant-loop-i
-invariant-loop-i l = (l.i ≤ length l.more + 1) × (max l.r (longest (pairs_in (drop l.i l.more))) ≡ max l.initial.r (longest (pairs_in l.more)))
-
-abbrev pub decreases-loop-i : goal.decreases-loop-i
-decreases-loop-i l = length l.more + 1 - l.i
+abbrev pub invariant-loop-pair : goal.invariant-loop-pair
+invariant-loop-pair l = record {
+  by_two : chunks_exact_size l.pair-iterator ≡ 2;
+  as_far : max l.r (longest (pairs_in (chunks_exact_rest l.pair-iterator))) ≡ farthest l.second l.more;
+}

@@ -7,7 +7,6 @@ use Rattle.places.specs.declared.Ends.{Ends}
 use Rattle.places.specs.Cells.{Both, cell_at}
 use Rattle.places.proofs.Cells.{both-as, side-near}
 use Rattle.windows.proofs.Working.{works-place, fails-place, may, young-place, older-place, ready-steady, stepped, laid-alone, laid}
-use borrow.Author.Rules.{rules}
 use Rattle.windows.proofs.row.both.Goals as goal
 use Rattle.windows.proofs.row.both.Goals.{After-failing-fails_older}
 
@@ -35,21 +34,12 @@ fails-older c = after-failed c (c.args.must || c.args.worse) c.failing-fails_old
 pub overflow_sub-to : goal.overflow_sub-to
 overflow_sub-to c = omega (arith, side-near c.requires.side)
 
-pub failure-q-requires : goal.failure-q-requires
-failure-q-requires c = search rules
-
-pub worked-requires : goal.worked-requires
-worked-requires c = search rules
-
 pub overflow_add-from : goal.overflow_add-from
 overflow_add-from c =
     rw c.worked.ensures (omega (arith, side-near c.requires.side, c.requires.most, c.requires.young))
 
 pub read_small-works-requires : goal.read_small-works-requires
 read_small-works-requires c = rw c.worked.ensures (works-place c.requires)
-
-pub failed-requires : goal.failed-requires
-failed-requires c = search rules
 
 pub overflow_add-after : goal.overflow_add-after
 overflow_add-after c =
@@ -63,18 +53,12 @@ pub failing-fails_older-requires : goal.failing-fails_older-requires
 failing-fails_older-requires c e =
     rw c.failed.ensures (fails-place c.requires (may c.requires e))
 
-pub overflow_add-to : goal.overflow_add-to
-overflow_add-to c = search rules
-
 pub step-requires : goal.step-requires
 step-requires c =
     ready-steady c.requires (works ((goal.at.step-requires c).After-failing-fails_older)) _ (λ e. e) (fails ((goal.at.step-requires c).After-failing-fails_older)) c.failure-q.ensures
 
 pub write-requires : goal.write-requires
 write-requires c = young-place c.requires
-
-pub shape_of-table-then-must-worse : goal.shape_of-table-then-must-worse
-shape_of-table-then-must-worse c = search rules
 
 pub returns-then-must-worse : goal.returns-then-must-worse
 returns-then-must-worse c =
@@ -95,9 +79,6 @@ step-requires-2 c =
 pub write-requires-2 : goal.write-requires-2
 write-requires-2 c =
     rw c.older.ensures (older-place c.requires c.write.ensures)
-
-pub shape_of-table : goal.shape_of-table
-shape_of-table c = search rules
 
 pub returns : goal.returns
 returns c =

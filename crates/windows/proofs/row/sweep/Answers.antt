@@ -1,5 +1,4 @@
 -- `sweep` works the four lists one after the other; what one list is worked with stays for the next. Both arms are proved alike. Assumes nothing.
-use borrow.Author.Rules.{rules}
 use Rattle.windows.proofs.Levels.{handed, handed-second, handed-third, handed-fourth, all-swept}
 use Rattle.windows.proofs.row.sweep.Goals as goal
 
@@ -17,9 +16,6 @@ group-requires-then-not-decimal-2 c =
 pub group-requires-then-not-decimal-3 : goal.group-requires-then-not-decimal-3
 group-requires-then-not-decimal-3 c =
     handed-fourth c.requires.midway c.group.ensures c.group-then-not-decimal.ensures c.group-then-not-decimal-2.ensures
-
-pub shape_of-table-then-not-decimal : goal.shape_of-table-then-not-decimal
-shape_of-table-then-not-decimal c = search rules
 
 pub returns-then-not-decimal : goal.returns-then-not-decimal
 returns-then-not-decimal c =
@@ -39,9 +35,6 @@ group-requires-4 c =
 pub group-requires-5 : goal.group-requires-5
 group-requires-5 c =
     handed-fourth c.requires.midway c.group-2.ensures c.group-3.ensures c.group-4.ensures
-
-pub shape_of-table : goal.shape_of-table
-shape_of-table c = search rules
 
 pub returns : goal.returns
 returns c =

@@ -7,7 +7,6 @@ use native.Mathlib.Numerals.{add-one}
 use lib.Pow.{shl_exact}
 use Rattle.places.proofs.Cells.{kept_trans, side-near}
 use Rattle.windows.proofs.Levels.{listables, midway}
-use borrow.Author.Rules.{rules}
 use Rattle.windows.proofs.row.turn.Goals as goal
 
 -- one bit shifted up by the components left
@@ -15,21 +14,9 @@ shifted : {n left : ℕ} → n ≤ 64 → left < n → 1 * 2 ^ (n - (left + 1)) 
 shifted {n} {left} size more =
     shl_exact 1 (n - (left + 1)) 64 (omega arith) (omega arith) ∙ one-mul (2 ^ (n - (left + 1))) ∙ ap (λ x. 2 ^ (n - x)) (add-one left)
 
-pub overflow_add-left : goal.overflow_add-left
-overflow_add-left c = search rules
-
-pub overflow_sub-survival : goal.overflow_sub-survival
-overflow_sub-survival c = search rules
-
-pub overflow_shl-survival : goal.overflow_shl-survival
-overflow_shl-survival c = search rules
-
 pub trim_all-requires : goal.trim_all-requires
 trim_all-requires c =
     listables c.requires.level c.requires.more
-
-pub chance-p-requires : goal.chance-p-requires
-chance-p-requires c = search rules
 
 pub sweep-requires : goal.sweep-requires
 sweep-requires c =
@@ -39,9 +26,6 @@ sweep-requires c =
 pub overflow_sub-result : goal.overflow_sub-result
 overflow_sub-result c =
     omega (arith, side-near c.requires.level.side)
-
-pub shape_of-table : goal.shape_of-table
-shape_of-table c = search rules
 
 pub returns : goal.returns
 returns c =

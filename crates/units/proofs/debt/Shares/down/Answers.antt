@@ -1,12 +1,8 @@
 -- `down` is the step with nothing on its failed side: by P's share, or plain where no share is asked for. Assumes nothing.
 use mathlib.Core.Path.{sym, ◌∙◌}
 use native.Mathlib.Omega.{arith}
-use borrow.Author.Rules.{rules}
 use Rattle.units.proofs.Debts.{must-down}
 use Rattle.units.proofs.debt.Shares.down.Goals as goal
-
-pub by_shares-requires : goal.by_shares-requires
-by_shares-requires c = search rules
 
 pub times-requires : goal.times-requires
 times-requires c = omega (arith, c.requires.0.left, c.requires.0.unit.most)
@@ -14,9 +10,3 @@ times-requires c = omega (arith, c.requires.0.left, c.requires.0.unit.most)
 pub returns-then-by_shares : goal.returns-then-by_shares
 returns-then-by_shares c =
     c.times.ensures ∙ must-down c.requires.0.unit c.requires.0.left (c.requires.1.of_p.is (sym c.by_shares.ensures ∙ c.if-by_shares.true))
-
-pub round_down-requires : goal.round_down-requires
-round_down-requires c = search rules
-
-pub returns : goal.returns
-returns c = search rules

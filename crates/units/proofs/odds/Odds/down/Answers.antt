@@ -1,12 +1,8 @@
 -- `down` meets its contract: by P's share, or by the plain step where no share is asked for. Assumes nothing.
 use mathlib.Core.Path.{sym, ◌∙◌}
 use native.Mathlib.Omega.{arith}
-use borrow.Author.Rules.{rules}
 use Rattle.units.proofs.Rows.{mixable, row-down}
 use Rattle.units.proofs.odds.Odds.down.Goals as goal
-
-pub by_shares-requires : goal.by_shares-requires
-by_shares-requires c = search rules
 
 pub shared-requires : goal.shared-requires
 shared-requires c =
