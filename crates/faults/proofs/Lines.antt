@@ -74,19 +74,25 @@ module _ (table : List ℕ) (k : ℕ) where
           record { low = r.low; high = r.high; line = rw (ended here, e) at r.same }
 
     module _ (e : length table ≤ i) where
-      last : lines_on (part table from i) (drop i table) ≡ closed (part table from i) []
+      abbrev end : ℕ
+      end = length table
+
+      is-end : i ≡ end
+      is-end = omega (arith, r.high)
+
+      last : lines_on (part table from end) (drop end table) ≡ closed (part table from end) []
       unfolding lines_on
-      last = let f : i ≡ length table = omega (arith, r.high) in rw (f, drop-length table)
+      last = rw (drop-length table)
 
       -- what follows the last line's end
-      pub last_line : k ≤ line → LineAt table k from i
+      pub last_line : k ≤ line → LineAt table k from end
       last_line h =
           let f : k - line ≡ 0 = omega arith in
-          record { low = r.low; high = r.high; line = sym (only (part table from i)) ∙ rw (last, f) at r.same }
+          record { low = omega (arith, r.low, r.high); high = omega arith; line = sym (only (part table from end)) ∙ rw (is-end, last, f) at r.same }
 
-      pub no_line : line < k → LineAt table k i i
+      pub no_line : line < k → LineAt table k end end
       no_line h = record {
         low = omega arith;
-        high = r.high;
-        line = nothing ∙ sym (behind (part table from i) (k - line) (omega arith)) ∙ rw last at r.same;
+        high = omega arith;
+        line = (rw is-end at nothing) ∙ sym (behind (part table from end) (k - line) (omega arith)) ∙ rw (is-end, last) at r.same;
       }

@@ -24,12 +24,10 @@ fn put_plain(word: &[u8], out: &mut [u8], at: usize) -> usize
     requires { at + length word.now ≤ length out.old }
     ensures { Added (map plain word.now) out.old at out.new result }
 {
-    let mut k: usize = 0;
-    while k < word.len() {
-        out[at + k] = plain(word[k]);
-        k += 1;
+    for (k, byte) in word.iter().enumerate() {
+        out[at + k] = plain(*byte);
     }
-    at + k
+    at + word.len()
 }
 
 // Puts a word, of a longer one its first bytes and two points.

@@ -31,22 +31,20 @@ fn line_at(table: &[u8], k: u64) -> Span
 {
     let mut line: u64 = 0;
     let mut from: usize = 0;
-    let mut i: usize = 0;
-    while i < table.len() {
-        let next = i + 1;
-        if table[i] == NEWLINE {
+    for (i, byte) in table.iter().enumerate() {
+        if *byte == NEWLINE {
             if line == k {
                 return Span { from, upto: i };
             }
             line += 1;
-            from = next;
+            from = i + 1;
         }
-        i = next;
     }
+    let upto = table.len();
     if line < k {
-        from = i;
+        from = upto;
     }
-    Span { from, upto: i }
+    Span { from, upto }
 }
 
 // Puts line k of a text.

@@ -1,16 +1,16 @@
 -- A form filled in byte by byte: a byte more adds its own part, and no form takes more than its own length and the digits of six numbers. By induction over
 -- the form. Assumes nothing.
 use mathlib.Core.Path.{◌≡◌, refl, sym, ap, ◌∙◌}
-use mathlib.Core.Bool.{Bool, true, false, cond}
+use mathlib.Core.Bool.{Bool, true, false}
 use mathlib.Core.List.{List, [], ◌∷◌, ◌++◌, append_assoc, append-nil}
-use Prim.Native.Nat.{ℕ, zero, suc, ◌+◌, ◌*◌, ◌-◌, ◌≤◌, ◌<◌}
+use Prim.Native.Nat.{ℕ, suc, ◌+◌, ◌*◌, ◌-◌, ◌≤◌, ◌<◌}
 use native.Mathlib.Omega.{arith}
 use native.Mathlib.Numerals.{add-one}
 use lib.Dec.{ltb, eqb}
-use lib.ListN.{length, get_or, take, length-append, length-take}
+use lib.ListN.{length, get_or, take, length-append}
 use lib.Seq.{take-suc, length-take-le, take_all}
 use borrow.Author.Tests.{ltb-true, ltb-false}
-use Rattle.text.specs.Decimal.{most_digits, decimal}
+use Rattle.text.specs.Decimal.{most_digits}
 use Rattle.text.specs.Added.{Added}
 use Rattle.text.proofs.Adding.{none-added, added_more}
 use Rattle.text.proofs.Digits.{decimal-short}
@@ -60,7 +60,6 @@ form-short form numbers = omega (arith, filled-short 0 form numbers)
 
 -- the first i bytes of a form, put into a buffer
 pub record Filled (form numbers out₀ : List ℕ) (at : ℕ) (out : List ℕ) (end k i : ℕ) : Type 0 where
-  pub passed : i ≤ length form
   pub place : k ≡ place_behind 0 (take i form)
   pub few : k ≤ i
   pub same : length out ≡ length out₀
@@ -70,7 +69,7 @@ pub record Filled (form numbers out₀ : List ℕ) (at : ℕ) (out : List ℕ) (
 pub none_filled : (form numbers out : List ℕ) (at : ℕ) → at ≤ length out → Filled form numbers out at out at 0 0
 unfolding filled_from place_behind
 none_filled form numbers out at l =
-    record { passed = omega arith; place = refl; few = omega arith; same = refl; within = l; added = λ room. none-added out at }
+    record { place = refl; few = omega arith; same = refl; within = l; added = λ room. none-added out at }
 
 module _ {form numbers out₀ : List ℕ} {at : ℕ} {out : List ℕ} {end k i : ℕ} (f : Filled form numbers out₀ at out end k i) (l : i < length form) where
   abbrev byte : ℕ
@@ -90,7 +89,6 @@ module _ {form numbers out₀ : List ℕ} {at : ℕ} {out : List ℕ} {end k i :
       → PutText (part_text byte numbers k) (length (part_text byte numbers k)) out end last stop
       → Filled form numbers out₀ at last stop (next_place byte k) (i + 1)
   one-filled kept put = record {
-    passed = omega (arith, l);
     place = rw (add-one i, front-more, place-more 0 (take i form) byte, ← f.place);
     few = omega (arith, next-few);
     same = omega (arith, kept, f.same);

@@ -63,11 +63,9 @@ pub fn put_form(form: &[u8], numbers: [u64; MARKS], out: &mut [u8], at: usize) -
 {
     let mut end = at;
     let mut k: usize = 0;
-    let mut i: usize = 0;
-    while i < form.len() {
-        end = put_part(form[i], numbers, k, out, end);
-        k = next(form[i], k);
-        i += 1;
+    for byte in form {
+        end = put_part(*byte, numbers, k, out, end);
+        k = next(*byte, k);
     }
     end
 }

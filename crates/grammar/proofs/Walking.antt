@@ -48,13 +48,20 @@ module _ (line : List ℕ) (i : ℕ) (l : i < length line) where
   unfolding words_on
   pass_on at h n b = rw (part-more at h, drop-cons line i 0 l, n, b)
 
-  pub at-comment : (w : List ℕ) → eqb (get_or line i 0) comment ≡ true → words_on w (drop i line) ≡ closed w (words_on [] (drop i line))
+  at-comment : (w : List ℕ) → eqb (get_or line i 0) comment ≡ true → words_on w (drop i line) ≡ closed w (words_on [] (drop i line))
   unfolding words_on
   at-comment w e = rw (drop-cons line i 0 l, e)
 
-  pub at-blank : (w : List ℕ) → blank (get_or line i 0) ≡ true → words_on w (drop i line) ≡ closed w (words_on [] (drop i line))
+  at-blank : (w : List ℕ) → blank (get_or line i 0) ≡ true → words_on w (drop i line) ≡ closed w (words_on [] (drop i line))
   unfolding words_on
   at-blank w e = rw (drop-cons line i 0 l, not-comment _ e, e)
+
+  pub at-stop : (w : List ℕ) → eqb (get_or line i 0) comment || blank (get_or line i 0) ≡ true → words_on w (drop i line) ≡ closed w (words_on [] (drop i line))
+  at-stop w e = go (eqb (get_or line i 0) comment) refl e
+    where
+      go : (b : Bool) → eqb (get_or line i 0) comment ≡ b → b || blank (get_or line i 0) ≡ true → words_on w (drop i line) ≡ closed w (words_on [] (drop i line))
+      go true f h = at-comment w f
+      go false f h = at-blank w h
 
   no_word : blank (get_or line i 0) ≡ false → eqb (get_or line i 0) comment || blank (get_or line i 0) ≡ true → words_on [] (drop i line) ≡ []
   unfolding words_on

@@ -32,10 +32,8 @@ pub fn letters(word: &[u8]) -> u64
     ensures { result ≡ letters_of word.now }
 {
     let mut number: u64 = 0;
-    let mut i = 0;
-    while i < word.len() {
-        number = with_letter(number, word[i]);
-        i += 1;
+    for letter in word {
+        number = with_letter(number, *letter);
     }
     number
 }
@@ -69,14 +67,11 @@ pub fn whole(word: &[u8]) -> u64
         return NONE;
     }
     let mut number: u64 = 0;
-    let mut i = 0;
-    while i < word.len() {
-        let b = word[i];
-        if !is_digit(b) {
+    for b in word {
+        if !is_digit(*b) {
             return NONE;
         }
-        number = with_digit(number, b);
-        i += 1;
+        number = with_digit(number, *b);
     }
     number
 }
@@ -85,28 +80,12 @@ pub fn whole(word: &[u8]) -> u64
 fn point(word: &[u8]) -> usize
     ensures { (result ≡ point_in word.now) × (result ≤ length word.now) }
 {
-    let mut i = 0;
-    while i < word.len() {
-        if word[i] == POINT {
+    for (i, b) in word.iter().enumerate() {
+        if *b == POINT {
             return i;
         }
-        i += 1;
     }
-    i
-}
-
-// A power of ten.
-fn tens(k: usize) -> u64
-    requires { k ≤ most }
-    ensures { (result ≡ 10 ^ k) × (result ≤ 10 ^ most) }
-{
-    let mut power: u64 = 1;
-    let mut i: usize = 0;
-    while i < k {
-        power *= 10;
-        i += 1;
-    }
-    power
+    word.len()
 }
 
 // What stands before the point and behind it, in billionths.
@@ -114,7 +93,8 @@ fn joined(before: u64, behind: u64, digits: usize) -> u64
     requires { (before ≤ none) × (behind ≤ none) × (digits ≤ most) }
     ensures { result ≡ joined before behind digits }
 {
-    before * version::DECIMAL + behind * tens(MOST_DIGITS - digits)
+    let scale = 10u64.pow((MOST_DIGITS - digits) as u32);
+    before * version::DECIMAL + behind * scale
 }
 
 // A decimal from 0 to 1, in billionths.

@@ -79,12 +79,10 @@ pub fn row_for(table: &[u64; ENTRIES], version: u64, place: u64, word: &[u8]) ->
     requires { table.now ≡ grammar }
     ensures { (result ≡ row_for version place word.now) × (result ≤ rows) }
 {
-    let mut i = 0;
-    while i < ROWS {
+    for i in 0..ROWS {
         if row_takes(table, version, place, word, i) {
             return i;
         }
-        i += 1;
     }
-    i
+    ROWS
 }

@@ -23,14 +23,12 @@ pub fn skip(line: &[u8], at: usize) -> usize
     requires { at ≤ length line.now }
     ensures { Skipped line.now at result }
 {
-    let mut i = at;
-    while i < line.len() {
+    for i in at..line.len() {
         if !is_blank(line[i]) {
             return i;
         }
-        i += 1;
     }
-    i
+    line.len()
 }
 
 // Where the word that begins at a place ends: at a blank, a comment or the line's end.
@@ -38,17 +36,12 @@ pub fn pass(line: &[u8], at: usize) -> usize
     requires { at ≤ length line.now }
     ensures { Passed line.now at result }
 {
-    let mut i = at;
-    while i < line.len() {
-        if line[i] == COMMENT {
+    for i in at..line.len() {
+        if line[i] == COMMENT || is_blank(line[i]) {
             return i;
         }
-        if is_blank(line[i]) {
-            return i;
-        }
-        i += 1;
     }
-    i
+    line.len()
 }
 
 // Where a word stands: from one place up to another, which is the same one where there is no word.

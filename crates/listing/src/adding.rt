@@ -48,9 +48,10 @@ pub fn tell(
 {
     let before = listing.told;
     let after = told::plus(before, line, word, wanted, named, out);
-    let mut next = listing;
-    next.told = after;
-    next
+    Listing {
+        told: after,
+        ..listing
+    }
 }
 
 // Some fans.
@@ -67,9 +68,10 @@ fn added_fans(listing: Listing, first: &[u8], set: [u64; SETS], out: &mut [u8]) 
     let weight = set[OF_WEIGHT] as u16;
     let board = set[OF_BOARD] as u8;
     let after = fans::plus(before, more, parts, weight, board, listing.lines);
-    let mut next = listing;
-    next.fans = after;
-    next
+    Listing {
+        fans: after,
+        ..listing
+    }
 }
 
 // A board.
@@ -83,10 +85,11 @@ fn added_board(listing: Listing, first: &[u8], set: [u64; SETS], out: &mut [u8])
     }
     let mut switchboards = listing.switchboards;
     switchboards[g] = set[OF_PARTS] as u32;
-    let mut next = listing;
-    next.switchboards = switchboards;
-    next.boards = g + 1;
-    next
+    Listing {
+        switchboards,
+        boards: g + 1,
+        ..listing
+    }
 }
 
 // A system.
@@ -99,9 +102,10 @@ fn added_system(listing: Listing, first: &[u8], set: [u64; SETS], out: &mut [u8]
         return tell(listing, listing.lines, first, MANY_SYSTEMS, 0, out);
     }
     let after = listed::plus(before, set);
-    let mut next = listing;
-    next.systems = after;
-    next
+    Listing {
+        systems: after,
+        ..listing
+    }
 }
 
 // What the line is, by what it has set.
@@ -111,9 +115,10 @@ pub fn added(listing: Listing, first: &[u8], set: [u64; SETS], out: &mut [u8]) -
 {
     let thing = set[OF_THING];
     if thing == A_VERSION {
-        let mut next = listing;
-        next.version = set[OF_NUMBER];
-        return next;
+        return Listing {
+            version: set[OF_NUMBER],
+            ..listing
+        };
     }
     if thing == SOME_FANS {
         return added_fans(listing, first, set, out);

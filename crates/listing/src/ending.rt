@@ -73,10 +73,8 @@ pub fn unplaced(before: Told, fans: Fans, g: usize, out: &mut [u8]) -> Told
         told: before,
         line: 0,
     };
-    let mut i: usize = 0;
-    while i < fans.count {
+    for i in 0..fans.count {
         passed = pass(passed, lines[i], boards[i], g, out);
-        i += 1;
     }
     passed.told
 }

@@ -80,10 +80,11 @@ fn count_line(listing: Listing, begun: bool) -> Listing
     requires { listing.lines < most_lines }
     ensures { Counts listing result begun }
 {
-    let mut next = listing;
-    next.lines = listing.lines + 1;
-    next.begun = begun;
-    next
+    Listing {
+        lines: listing.lines + 1,
+        begun,
+        ..listing
+    }
 }
 
 // A line with words, the first of them where it stands.
@@ -195,12 +196,15 @@ pub fn last(listing: Listing, out: &mut [u8]) -> Listing
     let first = ending::missing(before, lines, fans.count == 0, NO_FAN, out);
     let second = ending::missing(first, lines, systems.count == 0, NO_SYSTEM, out);
     let third = ending::missing(second, lines, boardless(listing.version, g), NO_BOARD, out);
-    let mut next = listing;
     if g == 0 {
-        next.told = third;
-        return next;
+        return Listing {
+            told: third,
+            ..listing
+        };
     }
     let fourth = ending::unplaced(third, fans, g, out);
-    next.told = fourth;
-    next
+    Listing {
+        told: fourth,
+        ..listing
+    }
 }

@@ -9,12 +9,10 @@ pub fn line_end(text: &[u8], at: usize) -> usize
     requires { at ≤ length text.now }
     ensures { LineEnds text.now at result }
 {
-    let mut i = at;
-    while i < text.len() {
+    for i in at..text.len() {
         if text[i] == NEWLINE {
             return i;
         }
-        i += 1;
     }
-    i
+    text.len()
 }

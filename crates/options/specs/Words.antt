@@ -4,6 +4,8 @@ use Rattle.std.specs.Prelude.{Bool, true, false, cond, not, ◌&&◌, List, [], 
 use Rattle.text.specs.Decimal.{text}
 use Rattle.options.specs.Texts.{same_text}
 use Rattle.options.specs.declared.Asked.{Asked}
+use Rattle.options.specs.declared.Task.{Task}
+use Rattle.options.specs.declared.Task.TheVariants.{Work, Help, Version, Unknown, Many, Missing}
 
 -- a row of the table: a name of at most 11 bytes, blanks behind it, then `=` where a word belongs to the option
 abbrev pub name_length : ℕ
@@ -38,12 +40,21 @@ option_in table word = option_from (rows_of table) 0 table word
 abbrev pub takes_word : (table : List ℕ) (k : ℕ) → Bool
 takes_word table k = eqb (get_or table (row_length * k + name_length) 0) 61
 
+-- no word has decided what is to be done
+abbrev pub is_work : Task → Bool
+is_work Work = true
+is_work Help = false
+is_work Version = false
+is_work Unknown = false
+is_work Many = false
+is_work Missing = false
+
 -- before any word
 abbrev pub nothing : Asked
-nothing = record { task = 0; at = 0; given = 0 ∷ 0 ∷ 0 ∷ 0 ∷ 0 ∷ 0 ∷ 0 ∷ 0 ∷ []; waits = 0; ended = 0; operands = 0; first = 0 }
+nothing = record { task = Work; at = 0; given = 0 ∷ 0 ∷ 0 ∷ 0 ∷ 0 ∷ 0 ∷ 0 ∷ 0 ∷ []; waits = 0; ended = 0; operands = 0; first = 0 }
 
 -- a word decides what is to be done
-abbrev pub decided : (task : ℕ) → Asked → (place : ℕ) → Asked
+abbrev pub decided : (task : Task) → Asked → (place : ℕ) → Asked
 decided task a place = record {
   task = task;
   at = place;
@@ -82,17 +93,17 @@ one_operand a place = record {
 }
 
 abbrev pub with_operand : (most : ℕ) → Asked → (place : ℕ) → Asked
-with_operand most a place = cond (ltb a.operands most) (one_operand a place) (decided 4 a place)
+with_operand most a place = cond (ltb a.operands most) (one_operand a place) (decided Many a place)
 
 -- an option of the table, or one that it does not have
 abbrev pub with_row : (table : List ℕ) → Asked → (place k : ℕ) → Asked
-with_row table a place k = cond (ltb k (rows_of table)) (option_at k (cond (takes_word table k) (k + 1) 0) a place) (decided 3 a place)
+with_row table a place k = cond (ltb k (rows_of table)) (option_at k (cond (takes_word table k) (k + 1) 0) a place) (decided Unknown a place)
 
 abbrev pub with_option : (table : List ℕ) → Asked → (place : ℕ) (word : List ℕ) → Asked
 with_option table a place word =
     cond (same_text word (text "--")) (ended_at a place)
-    (cond (same_text word (text "--help")) (decided 1 a place)
-    (cond (same_text word (text "--version")) (decided 2 a place)
+    (cond (same_text word (text "--help")) (decided Help a place)
+    (cond (same_text word (text "--version")) (decided Version a place)
     (with_row table a place (option_in table word))))
 
 -- a word of two bytes or more that begins with a `-` is an option, unless `--` was before it
@@ -102,7 +113,7 @@ is_option ended word = eqb ended 0 && leb 2 (length word) && eqb (get_or word 0 
 -- one word more
 unfoldable pub heard : (table : List ℕ) (most : ℕ) → Asked → (place : ℕ) (word : List ℕ) → Asked
 heard table most a place word =
-    cond (eqb a.task 0)
+    cond (is_work a.task)
     (cond (eqb a.waits 0)
     (cond (is_option a.ended word) (with_option table a place word) (with_operand most a place))
     (option_at (a.waits - 1) 0 a place))
@@ -114,7 +125,7 @@ heard_all table most a place [] = a
 heard_all table most a place (word ∷ words) = heard_all table most (heard table most a place word) (suc place) words
 
 abbrev pub finished : Asked → (place : ℕ) → Asked
-finished a place = cond (eqb a.task 0 && not (eqb a.waits 0)) (decided 5 a place) a
+finished a place = cond (is_work a.task && not (eqb a.waits 0)) (decided Missing a place) a
 
 abbrev pub asked_by : (table : List ℕ) (most : ℕ) → List (List ℕ) → Asked
 asked_by table most words = finished (heard_all table most nothing 1 words) (length words)

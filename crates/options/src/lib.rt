@@ -22,24 +22,22 @@ const MINUS: u8 = 45;
 pub const OPTIONS: usize = 8;
 
 // What a program is to do: its work, or what a word asks for or breaks first.
-pub const WORK: u64 = 0;
-
-pub const HELP: u64 = 1;
-
-pub const VERSION: u64 = 2;
-
-pub const UNKNOWN: u64 = 3;
-
-pub const MANY: u64 = 4;
-
-pub const MISSING: u64 = 5;
+#[derive(Clone, Copy, PartialEq, Eq)]
+pub enum Task {
+    Work,
+    Help,
+    Version,
+    Unknown,
+    Many,
+    Missing,
+}
 
 // Places are those of the program's words, from 1 on; 0 is none. What is to be done, and the place of the word that
 // says so; where each option was given, its word's place or its own where none belongs to it; one more than the option
 // that waits for its word; where `--` has ended the options; the operands.
 #[derive(Clone, Copy)]
 pub struct Asked {
-    pub task: u64,
+    pub task: Task,
     pub at: usize,
     pub given: [usize; OPTIONS],
     pub waits: usize,
@@ -54,7 +52,7 @@ pub fn nothing() -> Asked
 {
     let given = [0usize; OPTIONS];
     Asked {
-        task: WORK,
+        task: Task::Work,
         at: 0,
         given,
         waits: 0,
@@ -82,12 +80,10 @@ fn row_is(table: &[u8], k: usize, word: &[u8]) -> bool
     if word.len() > NAME {
         return false;
     }
-    let mut j: usize = 0;
-    while j < NAME {
+    for j in 0..NAME {
         if table[ROW * k + j] != byte_of(word, j) {
             return false;
         }
-        j += 1;
     }
     true
 }
@@ -97,29 +93,22 @@ fn option_in(table: &[u8], word: &[u8]) -> usize
     ensures { result ≡ option_in table.now word.now }
 {
     let rows = table.len() / ROW;
-    let mut k: usize = 0;
-    while k < rows {
+    for k in 0..rows {
         if row_is(table, k, word) {
             return k;
         }
-        k += 1;
     }
-    k
+    rows
 }
 
 // A word that decides what is to be done.
-fn decide(task: u64, asked: Asked, place: usize) -> Asked
+fn decide(task: Task, asked: Asked, place: usize) -> Asked
     ensures { result ≡ decided task asked place }
 {
-    let given = asked.given;
     Asked {
         task,
         at: place,
-        given,
-        waits: asked.waits,
-        ended: asked.ended,
-        operands: asked.operands,
-        first: asked.first,
+        ..asked
     }
 }
 
@@ -131,13 +120,9 @@ fn give(k: usize, waits: usize, asked: Asked, place: usize) -> Asked
     let mut given = asked.given;
     given[k] = place;
     Asked {
-        task: asked.task,
-        at: asked.at,
         given,
         waits,
-        ended: asked.ended,
-        operands: asked.operands,
-        first: asked.first,
+        ..asked
     }
 }
 
@@ -145,15 +130,9 @@ fn give(k: usize, waits: usize, asked: Asked, place: usize) -> Asked
 fn end(asked: Asked, place: usize) -> Asked
     ensures { result ≡ ended_at asked place }
 {
-    let given = asked.given;
     Asked {
-        task: asked.task,
-        at: asked.at,
-        given,
-        waits: asked.waits,
         ended: place,
-        operands: asked.operands,
-        first: asked.first,
+        ..asked
     }
 }
 
@@ -173,18 +152,13 @@ fn operand(most: u64, asked: Asked, place: usize) -> Asked
     ensures { result ≡ with_operand most asked place }
 {
     if asked.operands < most {
-        let given = asked.given;
         return Asked {
-            task: asked.task,
-            at: asked.at,
-            given,
-            waits: asked.waits,
-            ended: asked.ended,
             operands: asked.operands + 1,
             first: first_of(asked, place),
+            ..asked
         };
     }
-    decide(MANY, asked, place)
+    decide(Task::Many, asked, place)
 }
 
 // What option k waits for: one more than itself where a word belongs to it.
@@ -207,7 +181,7 @@ fn row(table: &[u8], asked: Asked, place: usize, k: usize) -> Asked
     if k < table.len() / ROW {
         return give(k, waiting(table, k), asked, place);
     }
-    decide(UNKNOWN, asked, place)
+    decide(Task::Unknown, asked, place)
 }
 
 // A word that is an option.
@@ -219,10 +193,10 @@ fn option(table: &[u8], asked: Asked, place: usize, word: &[u8]) -> Asked
         return end(asked, place);
     }
     if same(word, b"--help") {
-        return decide(HELP, asked, place);
+        return decide(Task::Help, asked, place);
     }
     if same(word, b"--version") {
-        return decide(VERSION, asked, place);
+        return decide(Task::Version, asked, place);
     }
     row(table, asked, place, option_in(table, word))
 }
@@ -246,7 +220,7 @@ pub fn hear(table: &[u8], most: u64, asked: Asked, place: usize, word: &[u8]) ->
     ensures is { result ≡ heard table.now most asked place word.now }
     ensures sound { Sound result }
 {
-    if asked.task != WORK {
+    if asked.task != Task::Work {
         return asked;
     }
     if asked.waits != 0 {
@@ -262,28 +236,18 @@ pub fn hear(table: &[u8], most: u64, asked: Asked, place: usize, word: &[u8]) ->
 pub fn finish(asked: Asked, place: usize) -> Asked
     ensures { result ≡ finished asked place }
 {
-    if asked.task != WORK {
+    if asked.task != Task::Work {
         return asked;
     }
     if asked.waits == 0 {
         return asked;
     }
-    decide(MISSING, asked, place)
+    decide(Task::Missing, asked, place)
 }
 
 // Whether two texts are the same.
 pub fn same(a: &[u8], b: &[u8]) -> bool
     ensures { result ≡ same_text a.now b.now }
 {
-    if a.len() != b.len() {
-        return false;
-    }
-    let mut i = 0;
-    while i < a.len() {
-        if a[i] != b[i] {
-            return false;
-        }
-        i += 1;
-    }
-    true
+    a == b
 }

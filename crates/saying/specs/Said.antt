@@ -1,7 +1,9 @@
 -- What a program says where its words ask for no work: how it is started, its version, or which word is wrong and what to do.
-use Rattle.std.specs.Prelude.{cond, ◌&&◌, List, [], ◌++◌, map, ℕ, ◌-◌, eqb, leb, take, get_or}
+use Rattle.std.specs.Prelude.{cond, ◌&&◌, List, [], ◌++◌, map, ℕ, ◌-◌, leb, take, get_or}
 use Rattle.text.specs.Decimal.{text}
 use Rattle.options.specs.Words.{asked_by}
+use Rattle.options.specs.declared.Task.{Task}
+use Rattle.options.specs.declared.Task.TheVariants.{Help, Version, Unknown, Many}
 
 -- a program's name and its synopsis are no longer
 abbrev pub name_room : ℕ
@@ -29,25 +31,26 @@ abbrev pub shown : (word : List ℕ) → List ℕ
 shown word = map plain (take most_shown word)
 
 -- what is wrong with it: an option that the table does not have, an operand too many, an option without its word
-abbrev pub wrong_words : (task : ℕ) → List ℕ
-wrong_words task =
-    cond (eqb task 3) (text ": there is no such option; ")
-    (cond (eqb task 4) (text ": one word too many; ") (text ": the word that belongs to it is missing; "))
+abbrev pub wrong_words : Task → List ℕ
+wrong_words Unknown = text ": there is no such option; "
+wrong_words Many = text ": one word too many; "
+wrong_words task = text ": the word that belongs to it is missing; "
 
 -- and what to do
-abbrev pub remedy_text : (task : ℕ) (program : List ℕ) → List ℕ
+abbrev pub remedy_text : (task : Task) (program : List ℕ) → List ℕ
 remedy_text task program = wrong_words task ++ program ++ text " --help says what it takes\n"
 
 abbrev pub remedy_room : ℕ
 remedy_room = 96
 
-abbrev pub wrong_text : (program : List ℕ) (task : ℕ) (word : List ℕ) → List ℕ
+abbrev pub wrong_text : (program : List ℕ) (task : Task) (word : List ℕ) → List ℕ
 wrong_text program task word = program ++ text ": " ++ shown word ++ remedy_text task program
 
 -- by what the words ask for; the word there is the one that decided
-abbrev pub answer_text : (program synopsis : List ℕ) (task : ℕ) (word : List ℕ) → List ℕ
-answer_text program synopsis task word =
-    cond (eqb task 1) (help_text program synopsis) (cond (eqb task 2) (version_text program) (wrong_text program task word))
+abbrev pub answer_text : (program synopsis : List ℕ) (task : Task) (word : List ℕ) → List ℕ
+answer_text program synopsis Help word = help_text program synopsis
+answer_text program synopsis Version word = version_text program
+answer_text program synopsis task word = wrong_text program task word
 
 abbrev pub answer_room : ℕ
 answer_room = 256

@@ -6,6 +6,8 @@ ghost use Rattle.text.specs.Added.{Added};
 ghost use Rattle.saying.specs.Said.{name_room, synopsis_room, most_shown, remedy_room, answer_room};
 ghost use Rattle.saying.specs.Said.{plain, shown, remedy_text, help_text, wrong_text, answer_text};
 
+use options::Task;
+
 // Room for all that is said.
 pub const SAID: usize = 256;
 
@@ -54,12 +56,10 @@ fn put_plain(word: &[u8], out: &mut [u8]) -> usize
     requires { length word.now ≤ length out.old }
     ensures { Added (map plain word.now) out.old 0 out.new result }
 {
-    let mut k: usize = 0;
-    while k < word.len() {
-        out[k] = plain(word[k]);
-        k += 1;
+    for (k, byte) in word.iter().enumerate() {
+        out[k] = plain(*byte);
     }
-    k
+    word.len()
 }
 
 // Puts the front of a word so.
@@ -74,15 +74,15 @@ pub fn put_shown(word: &[u8], out: &mut [u8]) -> usize
 }
 
 // What is wrong with a word, and what to do.
-fn put_remedy(task: u64, program: &[u8], out: &mut [u8], at: usize) -> usize
+fn put_remedy(task: Task, program: &[u8], out: &mut [u8], at: usize) -> usize
     requires named { length program.now ≤ name_room }
     requires room { at + remedy_room ≤ length out.old }
     ensures { Added (remedy_text task program.now) out.old at out.new result }
 {
     let last: &[u8] = b" --help says what it takes\n";
     match task {
-        options::UNKNOWN => put_three(b": there is no such option; ", program, last, out, at),
-        options::MANY => put_three(b": one word too many; ", program, last, out, at),
+        Task::Unknown => put_three(b": there is no such option; ", program, last, out, at),
+        Task::Many => put_three(b": one word too many; ", program, last, out, at),
         _ => put_three(
             b": the word that belongs to it is missing; ",
             program,
@@ -94,7 +94,7 @@ fn put_remedy(task: u64, program: &[u8], out: &mut [u8], at: usize) -> usize
 }
 
 // Which word is wrong and what to do.
-fn put_wrong(program: &[u8], task: u64, word: &[u8], out: &mut [u8]) -> usize
+fn put_wrong(program: &[u8], task: Task, word: &[u8], out: &mut [u8]) -> usize
     requires named { length program.now ≤ name_room }
     requires room { answer_room ≤ length out.old }
     ensures { let text = wrong_text program.now task word.now in
@@ -107,15 +107,15 @@ fn put_wrong(program: &[u8], task: u64, word: &[u8], out: &mut [u8]) -> usize
 }
 
 // What the program says, by its words: how it is started, its version, or which word is wrong.
-pub fn put_answer(program: &[u8], synopsis: &[u8], task: u64, word: &[u8], out: &mut [u8]) -> usize
+pub fn put_answer(program: &[u8], synopsis: &[u8], task: Task, word: &[u8], out: &mut [u8]) -> usize
     requires named { (length program.now ≤ name_room) × (length synopsis.now ≤ synopsis_room) }
     requires room { answer_room ≤ length out.old }
     ensures { let text = answer_text program.now synopsis.now task word.now in
         Added text out.old 0 out.new result }
 {
     match task {
-        options::HELP => put_help(program, synopsis, out),
-        options::VERSION => put_three(program, b" ", b"1.1.0\n", out, 0),
+        Task::Help => put_help(program, synopsis, out),
+        Task::Version => put_three(program, b" ", b"1.1.0\n", out, 0),
         _ => put_wrong(program, task, word, out),
     }
 }

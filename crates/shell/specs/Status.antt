@@ -1,5 +1,7 @@
 -- How a program ends: its exit status.
 use Rattle.std.specs.Prelude.{ℤ, pos, negsuc, Bool, true, false, cond, ◌⊎◌, ◌≡◌, ℕ, ◌≤◌, eqb, ltb}
+use Rattle.options.specs.declared.Task.{Task}
+use Rattle.options.specs.declared.Task.TheVariants.{Help, Version}
 use Rattle.shell.specs.declared.starting.Begun.{Begun}
 
 -- what was asked for was written
@@ -27,8 +29,10 @@ abbrev pub Handed : (size : ℕ) (r : ℤ) → Type 0
 Handed size r = OrFailed (status_of (eqb size 0)) r
 
 -- what words ask for without work was written, or a word was wrong
-abbrev pub answer_status : (task : ℕ) → ℤ
-answer_status task = cond (eqb task 1) done (cond (eqb task 2) done failed)
+abbrev pub answer_status : Task → ℤ
+answer_status Help = done
+answer_status Version = done
+answer_status task = failed
 
 -- one of the three
 abbrev pub is_status : ℤ → Bool

@@ -104,8 +104,7 @@ fn read_once(input: &mut Opened, buffer: &mut [u8]) -> Result<usize, Error>
 pub fn read_some(input: &mut Opened, buffer: &mut [u8]) -> Input
     ensures { FitsIn (length buffer.new) result }
 {
-    let mut tries: u64 = 0;
-    while tries < MOST_TRIES {
+    for _ in 0..MOST_TRIES {
         match read_once(input, buffer) {
             Ok(filled) => return Input::Filled(filled),
             Err(why) => {
@@ -115,7 +114,6 @@ pub fn read_some(input: &mut Opened, buffer: &mut [u8]) -> Input
                 }
             }
         }
-        tries += 1;
     }
     Input::Failed
 }

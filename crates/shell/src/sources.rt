@@ -123,8 +123,7 @@ pub fn read_more(
     ensures { FitsNext (length buffer.new) result }
 {
     let mut source = source;
-    let mut turns: usize = 0;
-    while turns < MOST_WORDS {
+    for _ in 0..MOST_WORDS {
         let Input::Filled(filled) = read_told(rt, &mut source, label, buffer) else {
             break;
         };
@@ -141,7 +140,6 @@ pub fn read_more(
         if !is_open(&source) {
             break;
         }
-        turns += 1;
     }
     More {
         source,

@@ -5,7 +5,7 @@ ghost use Rattle.saying.specs.Said.{name_room, synopsis_room};
 ghost use Rattle.shell.specs.Status.{status_of, answer_status, Handed, OrFailed, Status, Begins};
 
 use crate::{reading, taking, words, writing};
-use options::Asked;
+use options::{Asked, Task};
 
 // What a program is to do, with so many bytes of its input in a buffer; or it has ended, with its status.
 #[derive(Clone, Copy)]
@@ -23,13 +23,11 @@ pub fn hear_all(rt: &HostRuntime, table: &[u8], most: u64) -> Asked
     let count = words::count(rt);
     let mut word = io::buffer();
     let mut asked = options::nothing();
-    let mut i: usize = 1;
-    while i < count {
+    for i in 1..count {
         let length = words::put_word(rt, i, &mut word);
         asked = options::hear(table, most, asked, i, &word[..length]);
-        i += 1;
     }
-    options::finish(asked, i - 1)
+    options::finish(asked, count.saturating_sub(1))
 }
 
 // Hears the words; those that ask for no work are answered, and the program has ended.
@@ -39,7 +37,7 @@ pub fn hear(rt: &HostRuntime, program: &[u8], synopsis: &[u8], table: &[u8], mos
     ensures { Begins 0 result }
 {
     let asked = hear_all(rt, table, most);
-    if asked.task != options::WORK {
+    if asked.task != Task::Work {
         let status = answer(rt, program, synopsis, asked);
         return Begun {
             asked,
@@ -139,10 +137,8 @@ fn answer(rt: &HostRuntime, program: &[u8], synopsis: &[u8], asked: Asked) -> i3
     let length = words::put_word(rt, asked.at, &mut word);
     let mut out = [0u8; saying::SAID];
     let end = saying::put_answer(program, synopsis, asked.task, &word[..length], &mut out);
-    let task = asked.task;
-    match task {
-        options::HELP => print(rt, program, 0, &out[..end], false),
-        options::VERSION => print(rt, program, 0, &out[..end], false),
+    match asked.task {
+        Task::Help | Task::Version => print(rt, program, 0, &out[..end], false),
         _ => {
             writing::say(rt, &out[..end]);
             crate::FAILED

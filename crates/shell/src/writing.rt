@@ -51,8 +51,7 @@ fn write_once(output: &mut Output, bytes: &[u8]) -> Result<usize, Error>
 fn write_some(output: &mut Output, bytes: &[u8]) -> usize
     ensures { result ≤ length bytes.now }
 {
-    let mut tries: u64 = 0;
-    while tries < MOST_TRIES {
+    for _ in 0..MOST_TRIES {
         match write_once(output, bytes) {
             Ok(put) => return put,
             Err(why) => {
@@ -62,7 +61,6 @@ fn write_some(output: &mut Output, bytes: &[u8]) -> usize
                 }
             }
         }
-        tries += 1;
     }
     0
 }

@@ -1,12 +1,10 @@
--- What the machine reads back from the bits of a signed number is the number. By its sign it has one of two forms, and -1 less a negative number is
--- that number's absolute value less 1, which fits where the absolute value does not. Assumes nothing.
-use mathlib.Core.Path.{◌≡◌, refl, ap, ◌∙◌}
+-- What the machine reads back from the bits of a signed number is the number. By its sign it has one of two forms. Assumes nothing.
+use mathlib.Core.Path.{◌≡◌, refl}
 use mathlib.Core.Bool.{true, false, false≢true}
-use Prim.Native.Nat.{ℕ, suc}
 use native.Mathlib.Omega.{arith}
-use lib.IntN.{ℤ, pos, negsuc, ◌-ℤ◌}
+use lib.IntN.{ℤ, pos, negsuc}
 use lib.Signed.{le_z, mag}
-use borrow.Author.Tests.{le-ltb, leb-false}
+use borrow.Author.Tests.{leb-false}
 use mir.Syntax.{w64}
 use mir.Val.{SFits, to_z, of_z}
 use mir.ValLaws.{to_z-of_z}
@@ -29,13 +27,3 @@ module _ (z : ℤ) (fits : SFits w64 z) where
       by : (x : ℤ) → le_z (pos 0) x ≡ false → x ≡ negsuc (mag x)
       by (pos n) h = absurd (omega (arith, leb-false 0 n h))
       by (negsuc n) h = refl
-
-  -- the difference, and what is read back from it
-  pub one_less : le_z (pos 0) (held z) ≡ false → negsuc 0 -ℤ held z ≡ pos (mag z)
-  one_less left = rw (to_z-of_z w64 z fits) (ap (λ x. negsuc 0 -ℤ x) (negative left) ∙ from_one (mag z))
-    where
-      from_one : (n : ℕ) → negsuc 0 -ℤ negsuc n ≡ pos n
-      from_one n = rw (le-ltb (suc n) 1 (omega arith)) (ap pos (omega arith))
-
-  pub one-less-held : le_z (pos 0) (held z) ≡ false → held (negsuc 0 -ℤ held z) ≡ pos (mag z)
-  one-less-held left = ap held (one_less left) ∙ to_z-of_z w64 (pos (mag z)) (record { sfits = fits.sfits })

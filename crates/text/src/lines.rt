@@ -18,10 +18,7 @@ pub fn put_pair(first: &[u8], a: u64, second: &[u8], b: u64, out: &mut [u8], at:
 pub fn absolute(z: i64) -> u64
     ensures { result ≡ nat_abs z }
 {
-    if z >= 0 {
-        return z as u64;
-    }
-    (-1 - z) as u64 + 1
+    z.unsigned_abs()
 }
 
 // A named signed number.

@@ -61,10 +61,8 @@ pub fn plus(fans: Fans, more: u64, parts: u32, weight: u16, board: u8, line: u64
     ensures { MoreFans fans result more parts weight board line }
 {
     let mut all = fans;
-    let mut i: u64 = 0;
-    while i < more {
+    for _ in 0..more {
         all = plus_one(all, parts, weight, board, line);
-        i += 1;
     }
     all
 }

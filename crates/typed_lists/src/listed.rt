@@ -44,10 +44,8 @@ pub fn plus(systems: Systems, set: [u64; SETS]) -> Systems
 {
     let at = systems.count * PER_LISTED;
     let mut numbers = systems.numbers;
-    let mut k: usize = 0;
-    while k < PER_LISTED {
+    for k in 0..PER_LISTED {
         numbers[at + k] = set[k] as u16;
-        k += 1;
     }
     Systems {
         count: systems.count + 1,
@@ -81,10 +79,8 @@ pub fn numbers(systems: Systems, fans: u16) -> [u16; NUMBERS]
 {
     let listed = systems.numbers;
     let mut all = [0u16; NUMBERS];
-    let mut j: usize = 0;
-    while j < systems.count * PER_SYSTEM {
+    for j in 0..systems.count * PER_SYSTEM {
         all[j] = number_at(&listed, j, fans);
-        j += 1;
     }
     all
 }

@@ -3,11 +3,7 @@ use native.Mathlib.Omega.{arith}
 use Rattle.text.proofs.Adding.{put-added, added_more}
 use Rattle.faults.specs.Told.{fault_text}
 use Rattle.faults.proofs.Lengths.{spot-short, wanted-short}
-use borrow.Author.Rules.{rules}
 use Rattle.faults.proofs.put_fault.Goals as goal
-
-pub put_spot-spot-requires : goal.put_spot-spot-requires
-put_spot-spot-requires c = search rules
 
 pub put-middle-requires : goal.put-middle-requires
 put-middle-requires c =
@@ -24,9 +20,6 @@ put-requires c =
     let short = spot-short c.args.line c.args.word.now in
     let middle = put-added (omega (arith, c.requires, c.put_spot-spot.auto, c.put_spot-spot.ensures.ends, short)) c.put-middle.ensures in
     omega (arith, c.requires, c.put_spot-spot.auto, c.put_spot-spot.ensures.ends, short, c.put-middle.auto, middle.ends, c.put_wanted-end.auto, c.put_wanted-end.ensures.ends, wanted-short c.args.wanted c.args.named)
-
-pub shape_of-out : goal.shape_of-out
-shape_of-out c = search rules
 
 pub returns : goal.returns
 unfolding fault_text

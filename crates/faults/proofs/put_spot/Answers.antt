@@ -2,14 +2,7 @@
 use native.Mathlib.Omega.{arith}
 use Rattle.text.specs.Decimal.{text}
 use Rattle.text.proofs.Adding.{put-added, named-added, named-reach, added_more}
-use borrow.Author.Rules.{rules}
 use Rattle.faults.proofs.put_spot.Goals as goal
-
-pub put_named-number-requires : goal.put_named-number-requires
-put_named-number-requires c = search rules
-
-pub put-end-requires : goal.put-end-requires
-put-end-requires c = search rules
 
 pub put_shown-requires : goal.put_shown-requires
 put_shown-requires c =
@@ -17,9 +10,6 @@ put_shown-requires c =
     let reach = named-reach (text "line ") c.args.line one in
     let two = put-added (omega (arith, c.requires, c.put_named-number.auto, reach)) c.put-end.ensures in
     omega (arith, c.requires, c.put_named-number.auto, reach, c.put-end.auto, two.ends)
-
-pub shape_of-out : goal.shape_of-out
-shape_of-out c = search rules
 
 pub returns : goal.returns
 returns c =

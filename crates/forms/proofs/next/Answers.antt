@@ -1,13 +1,9 @@
 -- `next` meets its contract, by whether the byte is a mark. Assumes nothing.
 use mathlib.Core.Path.{refl}
 use native.Mathlib.Omega.{arith}
-use borrow.Author.Rules.{rules}
 use borrow.Author.Tests.{eq-eqb, ne_eqb}
 use Rattle.forms.specs.Form.{mark}
 use Rattle.forms.proofs.next.Goals as goal
-
-pub overflow_add-result : goal.overflow_add-result
-overflow_add-result c = search rules
 
 pub returns-then-byte-eq-MARK : goal.returns-then-byte-eq-MARK
 returns-then-byte-eq-MARK c = rw (eq-eqb c.args.byte mark c.if-byte-eq-MARK.true) (omega arith)

@@ -3,20 +3,10 @@ use native.Mathlib.Omega.{arith}
 use native.Mathlib.Numerals.{add-one}
 use lib.ListN.{length-set}
 use lib.Seq.{take-suc-set}
-use borrow.Author.Rules.{rules}
 use Rattle.forms.proofs.put_byte.Goals as goal
 
 pub returns-then-at-out : goal.returns-then-at-out
 returns-then-at-out c = record { within = omega arith; added = λ room. absurd (omega (arith, c.if-at-out.true, room)) }
-
-pub bounds-out-at : goal.bounds-out-at
-bounds-out-at c = search rules
-
-pub overflow_add-result : goal.overflow_add-result
-overflow_add-result c = search rules
-
-pub shape_of-out : goal.shape_of-out
-shape_of-out c = search rules
 
 pub returns : goal.returns
 returns c = record {

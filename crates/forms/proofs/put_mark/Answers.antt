@@ -1,5 +1,4 @@
 -- `put_mark` meets its contract, by whether there is such a number. Assumes nothing.
-use borrow.Author.Rules.{rules}
 use borrow.Author.Tests.{lt-ltb, le-ltb}
 use Rattle.text.proofs.Adding.{put-added, none-added}
 use Rattle.forms.specs.Form.{most_marks}
@@ -8,18 +7,6 @@ use Rattle.forms.proofs.put_mark.Goals as goal
 pub returns-then-k-ge-MARKS : goal.returns-then-k-ge-MARKS
 returns-then-k-ge-MARKS c =
     rw (le-ltb c.args.k most_marks c.if-k-ge-MARKS.true) (record { within = c.requires; added = λ room. none-added _ _ })
-
-pub offset_bounds-numbers-k : goal.offset_bounds-numbers-k
-offset_bounds-numbers-k c = search rules
-
-pub bounds-numbers-k : goal.bounds-numbers-k
-bounds-numbers-k c = search rules
-
-pub put_number-requires : goal.put_number-requires
-put_number-requires c = search rules
-
-pub shape_of-out : goal.shape_of-out
-shape_of-out c = search rules
 
 pub returns : goal.returns
 returns c =

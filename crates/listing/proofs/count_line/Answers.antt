@@ -1,11 +1,7 @@
 -- `count_line` meets its contract: nothing else changes. Assumes nothing.
 use mathlib.Core.Path.{refl, ap}
 use Prim.Native.Nat.{◌+◌}
-use borrow.Author.Rules.{rules}
 use Rattle.listing.proofs.count_line.Goals as goal
-
-pub overflow_add-next : goal.overflow_add-next
-overflow_add-next c = search rules
 
 pub returns : goal.returns
 returns c = record {

@@ -1,25 +1,15 @@
 -- `last` meets its contract: three things that may be lacking are told, and then the fans on boards that are not there. Assumes nothing.
 use Rattle.typed_lists.proofs.Telling.{told-then}
 use Rattle.listing.proofs.TextEnd.{ended-steps, ended-boardless, ended-boarded}
-use borrow.Author.Rules.{rules}
 use Rattle.listing.proofs.last.Goals as goal
-
-pub missing-first-requires : goal.missing-first-requires
-missing-first-requires c = search rules
 
 pub missing-second-requires : goal.missing-second-requires
 missing-second-requires c =
     (c.missing-first.ensures.room, c.requires.1)
 
-pub boardless-requires : goal.boardless-requires
-boardless-requires c = search rules
-
 pub missing-third-requires : goal.missing-third-requires
 missing-third-requires c =
     (c.missing-second.ensures.room, c.requires.1)
-
-pub shape_of-out-then-g-eq0 : goal.shape_of-out-then-g-eq0
-shape_of-out-then-g-eq0 c = search rules
 
 pub returns-then-g-eq0 : goal.returns-then-g-eq0
 returns-then-g-eq0 c =
@@ -29,9 +19,6 @@ returns-then-g-eq0 c =
 pub unplaced-fourth-requires : goal.unplaced-fourth-requires
 unplaced-fourth-requires c =
     (c.missing-third.ensures.room, c.requires.0.counted.fans)
-
-pub shape_of-out : goal.shape_of-out
-shape_of-out c = search rules
 
 pub returns : goal.returns
 returns c =

@@ -2,14 +2,7 @@
 use mathlib.Core.Path.{refl}
 use native.Mathlib.Omega.{arith}
 use Rattle.faults.specs.Told.{faults_text}
-use borrow.Author.Rules.{rules}
 use Rattle.listing.proofs.none.Goals as goal
-
-pub no_fans-fans-requires : goal.no_fans-fans-requires
-no_fans-fans-requires c = search rules
-
-pub no_systems-systems-requires : goal.no_systems-systems-requires
-no_systems-systems-requires c = search rules
 
 pub returns : goal.returns
 unfolding faults_text

@@ -5,17 +5,10 @@ use native.Mathlib.Omega.{arith}
 use lib.ListN.{length, take}
 use Rattle.listing.proofs.Ends.{whole-none, whole-on, lines-on, lines_end, last-goes-on, one_none, beyond}
 use Rattle.listing.proofs.Reading.{steps-none, steps_on, steps_up}
-use borrow.Author.Rules.{rules}
 use Rattle.listing.proofs.read_lines.Goals as goal
-
-pub table-table-requires : goal.table-table-requires
-table-table-requires c = search rules
 
 pub loop-at-init : goal.loop-at-init
 loop-at-init c = (omega arith, c.table-table.ensures, whole-none, steps-none c.requires.0, refl)
-
-pub line_end-end-requires : goal.line_end-end-requires
-line_end-end-requires c = omega arith
 
 pub slice_bounds-with_line-count : goal.slice_bounds-with_line-count
 slice_bounds-with_line-count c =

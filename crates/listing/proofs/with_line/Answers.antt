@@ -2,18 +2,11 @@
 use native.Mathlib.Omega.{arith}
 use Rattle.grammar.specs.Text.{counted}
 use Rattle.listing.proofs.Holding.{long-line, blank-line, wordy-line}
-use borrow.Author.Rules.{rules}
 use Rattle.listing.proofs.with_line.Goals as goal
-
-pub count_line-next-requires : goal.count_line-next-requires
-count_line-next-requires c = search rules
 
 pub tell-requires : goal.tell-requires
 tell-requires c =
     c.count_line-next.ensures.sane _ c.requires.1
-
-pub shape_of-out-then-line-gt-LONGEST_LINE : goal.shape_of-out-then-line-gt-LONGEST_LINE
-shape_of-out-then-line-gt-LONGEST_LINE c = search rules
 
 pub returns-then-line-gt-LONGEST_LINE : goal.returns-then-line-gt-LONGEST_LINE
 returns-then-line-gt-LONGEST_LINE c =
@@ -26,12 +19,6 @@ returns-then-line-gt-LONGEST_LINE c =
           long-line s c.args.line.now c.if-line-gt-LONGEST_LINE.true (rw (next.lines, h.begun) at e);
     }
 
-pub next-first-requires : goal.next-first-requires
-next-first-requires c = search rules
-
-pub count_line-requires : goal.count_line-requires
-count_line-requires c = search rules
-
 pub returns-then-from-upto : goal.returns-then-from-upto
 returns-then-from-upto c =
     record {
@@ -39,12 +26,6 @@ returns-then-from-upto c =
       few = omega (arith, c.count_line.ensures.one);
       holds = λ s h. blank-line s c.args.line.now c.if-line-gt-LONGEST_LINE.false (c.next-first.ensures.none c.if-from-upto.true) (rw h.begun at (c.count_line.ensures.holds _ s h));
     }
-
-pub with_words-requires : goal.with_words-requires
-with_words-requires c = search rules
-
-pub shape_of-out : goal.shape_of-out
-shape_of-out c = search rules
 
 pub returns : goal.returns
 returns c =

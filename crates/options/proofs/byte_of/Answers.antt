@@ -3,13 +3,7 @@ use Rattle.options.proofs.Table.{in-word}
 use lib.ListN.{get_or-eq_default}
 use native.Mathlib.Omega.{arith}
 use mathlib.Core.Path.{sym}
-use borrow.Author.Rules.{rules}
-use Rattle.options.proofs.byte_of.Reads as reads
-use Rattle.options.proofs.byte_of.Lts as lts
 use Rattle.options.proofs.byte_of.Goals as goal
-
-pub bounds-word-j : goal.bounds-word-j
-bounds-word-j c = search rules
 
 pub returns-then-j-word : goal.returns-then-j-word
 returns-then-j-word c = in-word c.args.word.now c.args.j 0 32 c.if-j-word.true

@@ -1,7 +1,5 @@
 -- `first_of` meets its contract, test by test. Assumes nothing.
 use borrow.Author.Tests.{eq-eqb, ne_eqb}
-use Rattle.options.proofs.first_of.Reads as reads
-use Rattle.options.proofs.first_of.Lts as lts
 use Rattle.options.proofs.first_of.Goals as goal
 
 pub returns-then-asked-eq0 : goal.returns-then-asked-eq0

@@ -1,8 +1,5 @@
 -- `give` meets its contract: the option is one of the table's. Assumes nothing.
 use native.Mathlib.Omega.{arith}
-use borrow.Author.Rules.{rules}
-use Rattle.options.proofs.give.Reads as reads
-use Rattle.options.proofs.give.Lts as lts
 use Rattle.options.proofs.give.Goals as goal
 
 pub offset_bounds-given-k : goal.offset_bounds-given-k
@@ -10,6 +7,3 @@ offset_bounds-given-k c = omega (arith, c.requires.0)
 
 pub bounds-given-k : goal.bounds-given-k
 bounds-given-k c = omega (arith, c.requires.0)
-
-pub returns : goal.returns
-returns c = search rules

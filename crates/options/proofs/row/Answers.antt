@@ -4,12 +4,6 @@ use native.Mathlib.Nat.{div-mul-le_self}
 use native.Mathlib.Omega.{arith}
 use mathlib.Core.Path.{sym}
 use borrow.Author.Tests.{lt-ltb, le-ltb}
-use borrow.Author.Rules.{rules}
-use Rattle.options.proofs.row.Reads as reads
-use Rattle.options.proofs.row.Lts as lts
-use Rattle.options.proofs.decide.Reads as decide-reads
-use Rattle.options.proofs.give.Reads as give-reads
-use Rattle.options.proofs.waiting.Reads as waiting-reads
 use Rattle.options.proofs.row.Goals as goal
 
 pub waiting-requires : goal.waiting-requires
@@ -20,9 +14,6 @@ give-requires c = (omega (arith, c.if-k-table.true, c.requires.0, div-mul-le_sel
 
 pub returns-then-k-table : goal.returns-then-k-table
 returns-then-k-table c = rw (lt-ltb _ _ c.if-k-table.true, sym c.waiting.ensures) c.give.ensures
-
-pub decide-requires : goal.decide-requires
-decide-requires c = search rules
 
 pub returns : goal.returns
 returns c = rw (le-ltb _ _ c.if-k-table.false) c.decide.ensures

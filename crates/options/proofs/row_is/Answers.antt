@@ -1,8 +1,7 @@
--- `row_is` meets its contract: the bytes passed are the same, so the rest tells. The measure is what is left of the name. Assumes nothing.
+-- `row_is` meets its contract: the bytes passed are the same, so the rest tells. Assumes nothing.
 use mathlib.Core.Path.{refl, sym, ◌∙◌}
-use Prim.Native.Nat.{◌-◌, ◌*◌}
+use Prim.Native.Nat.{◌*◌}
 use native.Mathlib.Omega.{arith}
-use borrow.Author.Rules.{rules}
 use borrow.Author.Tests.{le-leb, lt-leb}
 use Rattle.options.specs.Words.{name_length, row_length}
 use Rattle.options.proofs.Table.{next-same, next-other, none_left}
@@ -12,36 +11,18 @@ pub returns-then-word-gt-NAME : goal.returns-then-word-gt-NAME
 returns-then-word-gt-NAME c = simp (lt-leb _ _ c.if-word-gt-NAME.true)
 
 pub loop-j-init : goal.loop-j-init
-loop-j-init c = (omega arith, refl)
-
-pub overflow_mul-k : goal.overflow_mul-k
-overflow_mul-k c = search rules
-
-pub overflow_add-k : goal.overflow_add-k
-overflow_add-k c = search rules
-
-pub bounds-table-k : goal.bounds-table-k
-bounds-table-k c = search rules
-
-pub byte_of-requires : goal.byte_of-requires
-byte_of-requires c = search rules
+loop-j-init c = refl
 
 pub returns-then-table-k : goal.returns-then-table-k
 returns-then-table-k c =
     let byte = next-other c.args.table.now (row_length * c.args.k) c.args.word.now name_length c.loop-j.j (omega arith) (λ e. c.if-table-k.true (e ∙ sym c.byte_of.ensures)) in
-    simp (le-leb _ _ c.if-word-gt-NAME.false, sym c.loop-j.invariant.1 ∙ byte)
-
-pub overflow_add-j : goal.overflow_add-j
-overflow_add-j c = omega arith
-
-pub loop-j-smaller : goal.loop-j-smaller
-loop-j-smaller c = omega arith
+    simp (le-leb _ _ c.if-word-gt-NAME.false, sym c.loop-j.invariant ∙ byte)
 
 pub loop-j-preserved : goal.loop-j-preserved
 loop-j-preserved c =
-    (omega arith, next-same c.args.table.now (row_length * c.args.k) c.args.word.now name_length c.loop-j.j (omega arith) (c.if-table-k.false ∙ c.byte_of.ensures) ∙ c.loop-j.invariant.1)
+    next-same c.args.table.now (row_length * c.args.k) c.args.word.now name_length c.loop-j.j (omega arith) (c.if-table-k.false ∙ c.byte_of.ensures) ∙ c.loop-j.invariant
 
 pub returns : goal.returns
 returns c =
     let all = none_left c.args.table.now (row_length * c.args.k) c.args.word.now name_length c.loop-j.j (omega arith) in
-    simp (le-leb _ _ c.if-word-gt-NAME.false, sym c.loop-j.invariant.1 ∙ all)
+    simp (le-leb _ _ c.if-word-gt-NAME.false, sym c.loop-j.invariant ∙ all)

@@ -3,11 +3,7 @@ use native.Mathlib.Omega.{arith}
 use Rattle.text.specs.Decimal.{text}
 use Rattle.text.proofs.Adding.{added_more}
 use Rattle.saying.proofs.Texts.{three-ends}
-use borrow.Author.Rules.{rules}
 use Rattle.saying.proofs.put_help.Goals as goal
-
-pub put_three-first-requires : goal.put_three-first-requires
-put_three-first-requires c = search rules
 
 pub put_three-second-requires : goal.put_three-second-requires
 put_three-second-requires c =
@@ -19,9 +15,6 @@ put_three-requires c =
     let one = three-ends (text "usage: ") c.args.program.now (text " ") c.put_three-first.ensures in
     let two = three-ends c.args.synopsis.now (text "\n       ") c.args.program.now c.put_three-second.ensures in
     omega (arith, c.requires.named.0, c.requires.named.1, c.requires.room, c.put_three-first.auto, c.put_three-second.auto, one, two)
-
-pub shape_of-out : goal.shape_of-out
-shape_of-out c = search rules
 
 pub returns : goal.returns
 returns c =

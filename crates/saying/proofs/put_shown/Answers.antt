@@ -1,10 +1,8 @@
 -- `put_shown` meets its contract, by the word's length. Assumes nothing.
-use mathlib.Core.Path.{sym, ap}
+use mathlib.Core.Path.{sym}
 use native.Mathlib.Omega.{arith}
-use lib.ListN.{length}
 use lib.Seq.{length-take-le, take_all}
-use Rattle.saying.specs.Said.{plain, most_shown}
-use borrow.Author.Rules.{rules}
+use Rattle.saying.specs.Said.{most_shown}
 use Rattle.saying.proofs.put_shown.Goals as goal
 
 pub slice_bounds-put_plain-end : goal.slice_bounds-put_plain-end
@@ -14,18 +12,6 @@ slice_bounds-put_plain-end c =
 pub put_plain-requires : goal.put_plain-requires
 put_plain-requires c =
     omega (arith, c.requires, length-take-le most_shown c.args.word.now (omega (arith, c.if-word-gt-SHOWN.true)))
-
-pub shape_of-out-then-word-gt-SHOWN : goal.shape_of-out-then-word-gt-SHOWN
-shape_of-out-then-word-gt-SHOWN c = search rules
-
-pub returns-then-word-gt-SHOWN : goal.returns-then-word-gt-SHOWN
-returns-then-word-gt-SHOWN c = search rules
-
-pub put_plain-requires-2 : goal.put_plain-requires-2
-put_plain-requires-2 c = search rules
-
-pub shape_of-out : goal.shape_of-out
-shape_of-out c = search rules
 
 pub returns : goal.returns
 returns c =

@@ -1,20 +1,7 @@
 -- `put_three` meets its contract: each text fits behind the one before it. Assumes nothing.
 use native.Mathlib.Omega.{arith}
 use Rattle.text.proofs.Adding.{put-added, added_more}
-use borrow.Author.Rules.{rules}
 use Rattle.saying.proofs.put_three.Goals as goal
-
-pub put-first-requires : goal.put-first-requires
-put-first-requires c = search rules
-
-pub put-second-requires : goal.put-second-requires
-put-second-requires c = search rules
-
-pub put-requires : goal.put-requires
-put-requires c = search rules
-
-pub shape_of-out : goal.shape_of-out
-shape_of-out c = search rules
 
 pub returns : goal.returns
 returns c =

@@ -1,20 +1,9 @@
 -- `put_wrong` meets its contract: the front of the word as it is shown stands between the name and the remedy. Assumes nothing.
 use native.Mathlib.Omega.{arith}
-use lib.ListN.{length}
 use Rattle.text.specs.Decimal.{text}
 use Rattle.text.proofs.Adding.{added-counts, added_more}
 use Rattle.saying.proofs.Texts.{three-ends, shown-short}
-use borrow.Author.Rules.{rules}
 use Rattle.saying.proofs.put_wrong.Goals as goal
-
-pub slice_bounds-put_shown-end : goal.slice_bounds-put_shown-end
-slice_bounds-put_shown-end c = search rules
-
-pub put_shown-length-requires : goal.put_shown-length-requires
-put_shown-length-requires c = search rules
-
-pub slice_bounds-put_three-end-2 : goal.slice_bounds-put_three-end-2
-slice_bounds-put_three-end-2 c = search rules
 
 pub slice_bounds-front-end : goal.slice_bounds-front-end
 slice_bounds-front-end c =
@@ -29,9 +18,6 @@ put_remedy-requires c =
     let counts = (added-counts c.put_shown-length.ensures).1 in
     let ends = three-ends c.args.program.now (text ": ") _ c.put_three-end.ensures in
     record { named = c.requires.named; room = omega (arith, c.requires.named, c.requires.room, c.put_three-end.auto, ends, counts, c.put_shown-length.ensures.ends, shown-short c.args.word.now) }
-
-pub shape_of-out : goal.shape_of-out
-shape_of-out c = search rules
 
 pub returns : goal.returns
 returns c =

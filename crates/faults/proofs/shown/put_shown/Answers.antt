@@ -8,14 +8,7 @@ use lib.Seq.{length-take-le}
 use borrow.Author.Tests.{eq-eqb, ne_eqb, lt-ltb, le-ltb}
 use Rattle.text.proofs.Adding.{put-added, added_more}
 use Rattle.faults.specs.Told.{plain, most_shown, shown}
-use borrow.Author.Rules.{rules}
 use Rattle.faults.proofs.shown.put_shown.Goals as goal
-
-pub put-requires : goal.put-requires
-put-requires c = search rules
-
-pub shape_of-out-then-word-eq0 : goal.shape_of-out-then-word-eq0
-shape_of-out-then-word-eq0 c = search rules
 
 pub returns-then-word-eq0 : goal.returns-then-word-eq0
 unfolding shown
@@ -36,9 +29,6 @@ put-requires-then-word-gt-MOST_SHOWN c =
     let ends : c.put_plain-end.result ≡ c.args.at + length (map plain (take most_shown c.args.word.now)) = c.put_plain-end.ensures.ends in
     omega (arith, c.requires, c.put_plain-end.auto, size, length-map (take most_shown c.args.word.now) plain)
 
-pub shape_of-out-then-word-gt-MOST_SHOWN : goal.shape_of-out-then-word-gt-MOST_SHOWN
-shape_of-out-then-word-gt-MOST_SHOWN c = search rules
-
 pub returns-then-word-gt-MOST_SHOWN : goal.returns-then-word-gt-MOST_SHOWN
 unfolding shown
 returns-then-word-gt-MOST_SHOWN c =
@@ -46,12 +36,6 @@ returns-then-word-gt-MOST_SHOWN c =
     let room = length-map (take most_shown c.args.word.now) plain in
     rw (ne_eqb _ 0 c.if-word-eq0.false, lt-ltb _ _ c.if-word-gt-MOST_SHOWN.true)
     (added_more c.put_plain-end.ensures (put-added (omega (arith, c.requires, c.put_plain-end.auto, c.put_plain-end.ensures.ends, size, room)) c.put-then-word-gt-MOST_SHOWN.ensures))
-
-pub put_plain-requires : goal.put_plain-requires
-put_plain-requires c = search rules
-
-pub shape_of-out : goal.shape_of-out
-shape_of-out c = search rules
 
 pub returns : goal.returns
 unfolding shown

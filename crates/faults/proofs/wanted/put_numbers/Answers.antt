@@ -6,36 +6,17 @@ use borrow.Author.Tests.{eq-eqb, ne_eqb}
 use Rattle.text.specs.Decimal.{text}
 use Rattle.text.proofs.Digits.{decimal-short}
 use Rattle.text.proofs.Adding.{put-added, added_more, none-added, pair-reach}
-use borrow.Author.Rules.{rules}
 use Rattle.faults.proofs.wanted.put_numbers.Goals as goal
-
-pub below-parts-requires : goal.below-parts-requires
-below-parts-requires c = search rules
-
-pub overflow_add-parts : goal.overflow_add-parts
-overflow_add-parts c = search rules
-
-pub put_pair-end-requires : goal.put_pair-end-requires
-put_pair-end-requires c = search rules
 
 pub put-requires : goal.put-requires
 put-requires c =
     omega (arith, c.requires, c.put_pair-end.auto, pair-reach [] c.below-parts.result (text " or ") (c.below-parts.result + 1) c.put_pair-end.ensures)
-
-pub shape_of-out-then-wanted-eq-BETWEEN_PARTS : goal.shape_of-out-then-wanted-eq-BETWEEN_PARTS
-shape_of-out-then-wanted-eq-BETWEEN_PARTS c = search rules
 
 pub returns-then-wanted-eq-BETWEEN_PARTS : goal.returns-then-wanted-eq-BETWEEN_PARTS
 returns-then-wanted-eq-BETWEEN_PARTS c =
     let reach = pair-reach [] c.below-parts.result (text " or ") (c.below-parts.result + 1) c.put_pair-end.ensures in
     let both = added_more c.put_pair-end.ensures (put-added (omega (arith, c.requires, c.put_pair-end.auto, reach)) c.put.ensures) in
     rw (eq-eqb _ _ c.if-wanted-eq-BETWEEN_PARTS.true) (rw c.below-parts.ensures at both)
-
-pub put_number-requires : goal.put_number-requires
-put_number-requires c = search rules
-
-pub shape_of-out-then-wanted-eq-NO_SUCH_BOARD : goal.shape_of-out-then-wanted-eq-NO_SUCH_BOARD
-shape_of-out-then-wanted-eq-NO_SUCH_BOARD c = search rules
 
 pub returns-then-wanted-eq-NO_SUCH_BOARD : goal.returns-then-wanted-eq-NO_SUCH_BOARD
 returns-then-wanted-eq-NO_SUCH_BOARD c =

@@ -2,15 +2,11 @@
 use Rattle.grammar.specs.Words.{lines_on}
 use Rattle.faults.specs.Wanted.{by_place}
 use Rattle.faults.proofs.Tables.{place_short, fits}
-use borrow.Author.Rules.{rules}
 use Rattle.faults.proofs.wanted.put_place.Goals as goal
 
 pub put_line-requires : goal.put_line-requires
 unfolding lines_on by_place
 put_line-requires c = fits _ _ (place_short c.args.place) c.requires
-
-pub shape_of-out : goal.shape_of-out
-shape_of-out c = search rules
 
 pub returns : goal.returns
 unfolding lines_on by_place

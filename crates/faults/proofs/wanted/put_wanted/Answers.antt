@@ -3,18 +3,11 @@ use native.Mathlib.Omega.{arith}
 use Rattle.text.proofs.Adding.{added_more}
 use Rattle.faults.specs.Wanted.{wanted_text}
 use Rattle.faults.proofs.Tables.{words-short}
-use borrow.Author.Rules.{rules}
 use Rattle.faults.proofs.wanted.put_wanted.Goals as goal
-
-pub put_words-end-requires : goal.put_words-end-requires
-put_words-end-requires c = search rules
 
 pub put_numbers-requires : goal.put_numbers-requires
 put_numbers-requires c =
     omega (arith, c.requires, c.put_words-end.auto, c.put_words-end.ensures.ends, words-short c.args.wanted)
-
-pub shape_of-out : goal.shape_of-out
-shape_of-out c = search rules
 
 pub returns : goal.returns
 unfolding wanted_text

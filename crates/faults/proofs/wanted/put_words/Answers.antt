@@ -6,14 +6,7 @@ use borrow.Author.Tests.{lt-ltb, le-ltb}
 use Rattle.text.proofs.Adding.{none-added}
 use Rattle.grammar.specs.Grammar.{taken}
 use Rattle.faults.specs.Wanted.{by_place}
-use borrow.Author.Rules.{rules}
 use Rattle.faults.proofs.wanted.put_words.Goals as goal
-
-pub put_name-requires : goal.put_name-requires
-put_name-requires c = search rules
-
-pub shape_of-out-then-wanted-ge-NO_BOARDS : goal.shape_of-out-then-wanted-ge-NO_BOARDS
-shape_of-out-then-wanted-ge-NO_BOARDS c = search rules
 
 pub returns-then-wanted-ge-NO_BOARDS : goal.returns-then-wanted-ge-NO_BOARDS
 returns-then-wanted-ge-NO_BOARDS c = rw (le-ltb _ _ c.if-wanted-ge-NO_BOARDS.true) c.put_name.ensures
@@ -23,12 +16,6 @@ unfolding by_place
 returns-then-wanted-lt-TAKEN c =
     let e : c.args.wanted - taken ≡ 0 = omega arith in
     rw (lt-ltb _ _ c.if-wanted-ge-NO_BOARDS.false, e) (none-added c.args.out.now c.args.at)
-
-pub put_place-requires : goal.put_place-requires
-put_place-requires c = search rules
-
-pub shape_of-out : goal.shape_of-out
-shape_of-out c = search rules
 
 pub returns : goal.returns
 returns c =

@@ -2,12 +2,8 @@
 use mathlib.Core.Path.{sym, ap, ◌∙◌}
 use Rattle.grammar.specs.Line.{read_line}
 use Rattle.grammar.proofs.Whole.{start-few, goes-few, line-ends, line-stops, line-goes}
-use borrow.Author.Rules.{rules}
 use native.Mathlib.Omega.{arith}
 use Rattle.grammar.proofs.line.read_line.Goals as goal
-
-pub start_of-place-requires : goal.start_of-place-requires
-start_of-place-requires c = search rules
 
 pub loop-after-init : goal.loop-after-init
 unfolding read_line
@@ -26,9 +22,6 @@ step-next-requires c =
 pub returns-then-from-upto : goal.returns-then-from-upto
 returns-then-from-upto c =
     let e = line-ends c.args.line.now c.args.version c.loop-after.place c.loop-after.set c.loop-after.at _ _ c.next-span.ensures _ c.loop-after.invariant.2 _ _ c.step-next.ensures.0 c.step-next.ensures.1 c.if-from-upto.true in record { low = c.next-span.ensures.mid; high = c.next-span.ensures.high; ended = sym (ap (λ x. x.ended) e); word = sym (ap (λ x. x.word) e); set = sym (ap (λ x. x.set) e) }
-
-pub goes_on-requires : goal.goes_on-requires
-goes_on-requires c = search rules
 
 pub returns-then-not-goes_on : goal.returns-then-not-goes_on
 returns-then-not-goes_on c =

@@ -5,12 +5,8 @@ use lib.ListN.{length}
 use lib.Seq.{length-take-le}
 use Rattle.grammar.specs.Numbers.{joined, whole, decimal_at}
 use Rattle.grammar.proofs.Parts.{rest_all, no-digits, many-digits, above-one, in-billionths}
-use borrow.Author.Rules.{rules}
 use native.Mathlib.Omega.{arith}
 use Rattle.grammar.proofs.numbers.fraction.Goals as goal
-
-pub point-at-requires : goal.point-at-requires
-point-at-requires c = search rules
 
 pub overflow_sub-length : goal.overflow_sub-length
 overflow_sub-length c = omega (arith, c.point-at.ensures.1)
@@ -33,14 +29,8 @@ pub slice_bounds-whole-end : goal.slice_bounds-whole-end
 slice_bounds-whole-end c =
     omega (arith, length-take-le c.point-at.result c.args.word.now c.point-at.ensures.1)
 
-pub whole-before-requires : goal.whole-before-requires
-whole-before-requires c = search rules
-
 pub slice_bounds-whole-count : goal.slice_bounds-whole-count
 slice_bounds-whole-count c = omega (arith, c.if-length-at-lt2.false)
-
-pub whole-behind-requires : goal.whole-behind-requires
-whole-behind-requires c = search rules
 
 pub joined-value-requires : goal.joined-value-requires
 joined-value-requires c = (c.whole-before.ensures.1, c.whole-behind.ensures.1, c.if-digits-gt-MOST_DIGITS.false)

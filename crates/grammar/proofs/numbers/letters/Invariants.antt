@@ -1,12 +1,8 @@
--- `numbers::letters` meets its contract: a turn takes a letter more. The measure is what is left. Assumes nothing.
+-- `numbers::letters` meets its contract: a turn takes a letter more. Assumes nothing.
 use mathlib.Core.Path.{◌≡◌}
-use Prim.Native.Nat.{◌-◌, ◌≤◌}
-use lib.ListN.{length, drop}
+use lib.ListN.{drop}
 use Rattle.grammar.specs.Numbers.{letters_on, letters_of}
 use Rattle.grammar.proofs.numbers.letters.Given as goal
 
-abbrev pub invariant-loop-i : goal.invariant-loop-i
-invariant-loop-i l = (l.i ≤ length l.word) × (letters_of l.word ≡ letters_on l.number (drop l.i l.word))
-
-abbrev pub decreases-loop-i : goal.decreases-loop-i
-decreases-loop-i l = length l.word - l.i
+abbrev pub invariant-loop-letter : goal.invariant-loop-letter
+invariant-loop-letter l = letters_of l.word ≡ letters_on l.number (drop l.letter-index l.word)

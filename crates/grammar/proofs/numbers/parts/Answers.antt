@@ -2,17 +2,10 @@
 use mathlib.Core.Path.{sym, ap, ◌∙◌}
 use Rattle.grammar.specs.Numbers.{share}
 use Rattle.grammar.proofs.Parts.{parts_whole, parts-decimal}
-use borrow.Author.Rules.{rules}
 use Rattle.grammar.proofs.numbers.parts.Goals as goal
-
-pub whole-number-requires : goal.whole-number-requires
-whole-number-requires c = search rules
 
 pub returns-then-number-ne-NONE : goal.returns-then-number-ne-NONE
 returns-then-number-ne-NONE c = c.whole-number.ensures.0 ∙ sym (parts_whole _ _ (λ e. c.if-number-ne-NONE.true (c.whole-number.ensures.0 ∙ e)))
-
-pub fraction-requires : goal.fraction-requires
-fraction-requires c = search rules
 
 pub share-requires : goal.share-requires
 share-requires c = c.fraction.ensures.1

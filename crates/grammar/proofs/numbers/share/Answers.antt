@@ -4,18 +4,11 @@ use Prim.Native.Nat.{◌*◌}
 use native.Mathlib.Nat.{mul-le-mul_left}
 use Rattle.units.proofs.Laws.{whole-most}
 use Rattle.grammar.proofs.Parts.{share-none, share-whole, share-between}
-use borrow.Author.Rules.{rules}
 use native.Mathlib.Omega.{arith}
 use Rattle.grammar.proofs.numbers.share.Goals as goal
 
 pub returns-then-billionths-eq-NONE : goal.returns-then-billionths-eq-NONE
 returns-then-billionths-eq-NONE c = sym (share-none _ _ c.if-billionths-eq-NONE.true)
-
-pub is_decimal-requires : goal.is_decimal-requires
-is_decimal-requires c = search rules
-
-pub whole-requires : goal.whole-requires
-whole-requires c = search rules
 
 pub overflow_mul-all : goal.overflow_mul-all
 overflow_mul-all c =
@@ -24,9 +17,6 @@ overflow_mul-all c =
 pub returns-then-all-eq0 : goal.returns-then-all-eq0
 returns-then-all-eq0 c =
     sym (share-whole _ _ c.if-billionths-eq-NONE.false _ (ap (λ u. c.args.billionths * u) (c.whole.ensures ∙ c.is_decimal.ensures)) c.if-all-eq0.true)
-
-pub overflow_add-result : goal.overflow_add-result
-overflow_add-result c = search rules
 
 pub overflow_add-result-2 : goal.overflow_add-result-2
 overflow_add-result-2 c =

@@ -1,7 +1,6 @@
 -- `numbers::with_digit` meets its contract: ten times a number up to 2^32 fits. Assumes nothing.
 use borrow.Author.Tests.{lt-ltb, le-ltb}
 use Rattle.grammar.proofs.Reading.{digit-range}
-use borrow.Author.Rules.{rules}
 use native.Mathlib.Omega.{arith}
 use Rattle.grammar.proofs.numbers.with_digit.Goals as goal
 
@@ -10,9 +9,6 @@ overflow_mul-next c = omega (arith, c.requires.0)
 
 pub overflow_sub-next : goal.overflow_sub-next
 overflow_sub-next c = omega (arith, (digit-range c.args.b c.requires.1).0)
-
-pub overflow_cast-next : goal.overflow_cast-next
-overflow_cast-next c = search rules
 
 pub overflow_add-next : goal.overflow_add-next
 overflow_add-next c = omega (arith, c.requires.0, c.ranges.b)

@@ -1,17 +1,10 @@
 -- `table::reading` meets its contract, way by way. Assumes nothing.
 use mathlib.Core.Path.{sym, ◌∙◌}
 use Rattle.grammar.proofs.Ways.{read-parts, read_number, read-boardless, read-boards, read_letters}
-use borrow.Author.Rules.{rules}
 use Rattle.grammar.proofs.table.reading.Goals as goal
-
-pub parts-requires : goal.parts-requires
-parts-requires c = search rules
 
 pub returns-then-way-eq-AS_PARTS : goal.returns-then-way-eq-AS_PARTS
 returns-then-way-eq-AS_PARTS c = c.parts.ensures ∙ sym (read-parts _ _ _ c.if-way-eq-AS_PARTS.true)
-
-pub whole-requires : goal.whole-requires
-whole-requires c = search rules
 
 pub returns-then-way-eq-AS_NUMBER : goal.returns-then-way-eq-AS_NUMBER
 returns-then-way-eq-AS_NUMBER c = c.whole.ensures.0 ∙ sym (read_number _ _ _ c.if-way-eq-AS_PARTS.false c.if-way-eq-AS_NUMBER.true)
@@ -19,14 +12,8 @@ returns-then-way-eq-AS_NUMBER c = c.whole.ensures.0 ∙ sym (read_number _ _ _ c
 pub returns-then-version-ne-BOARDED : goal.returns-then-version-ne-BOARDED
 returns-then-version-ne-BOARDED c = sym (read-boardless _ _ _ c.if-way-eq-AS_PARTS.false c.if-way-eq-AS_NUMBER.false c.if-way-eq-WITH_BOARDS.true c.if-version-ne-BOARDED.true)
 
-pub letters-requires : goal.letters-requires
-letters-requires c = search rules
-
 pub returns-then-way-eq-WITH_BOARDS : goal.returns-then-way-eq-WITH_BOARDS
 returns-then-way-eq-WITH_BOARDS c = c.letters.ensures ∙ sym (read-boards _ _ _ c.if-way-eq-AS_PARTS.false c.if-way-eq-AS_NUMBER.false c.if-way-eq-WITH_BOARDS.true c.if-version-ne-BOARDED.false)
-
-pub letters-requires-2 : goal.letters-requires-2
-letters-requires-2 c = search rules
 
 pub returns : goal.returns
 returns c = c.letters-2.ensures ∙ sym (read_letters _ _ _ c.if-way-eq-AS_PARTS.false c.if-way-eq-AS_NUMBER.false c.if-way-eq-WITH_BOARDS.false)

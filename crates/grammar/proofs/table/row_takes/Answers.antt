@@ -1,7 +1,6 @@
 -- `table::row_takes` meets its contract, test by test. Assumes nothing.
 use mathlib.Core.Path.{sym}
 use Rattle.grammar.proofs.Ways.{other_place, below-least, up-to-most}
-use borrow.Author.Rules.{rules}
 use native.Mathlib.Omega.{arith}
 use Rattle.grammar.proofs.table.row_takes.Goals as goal
 
@@ -26,9 +25,6 @@ offset_bounds-table-at-2 c = omega (arith, c.requires.1)
 
 pub bounds-table-at-2 : goal.bounds-table-at-2
 bounds-table-at-2 c = omega (arith, c.requires.1)
-
-pub reading-number-requires : goal.reading-number-requires
-reading-number-requires c = search rules
 
 pub overflow_add-at-2 : goal.overflow_add-at-2
 overflow_add-at-2 c =

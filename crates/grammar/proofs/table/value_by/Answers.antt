@@ -1,6 +1,5 @@
 -- `table::value_by` meets its contract, by its one test. Assumes nothing.
 use Rattle.grammar.proofs.Ways.{value-own, value_read}
-use borrow.Author.Rules.{rules}
 use native.Mathlib.Omega.{arith}
 use Rattle.grammar.proofs.table.value_by.Goals as goal
 
@@ -27,9 +26,6 @@ bounds-table-at-then-way-lt-AS_NUMBER c = omega (arith, c.requires.1)
 
 pub returns-then-way-lt-AS_NUMBER : goal.returns-then-way-lt-AS_NUMBER
 returns-then-way-lt-AS_NUMBER c = value-own c.args.table.now c.requires.0 c.args.row c.args.version _ c.if-way-lt-AS_NUMBER.true
-
-pub reading-requires : goal.reading-requires
-reading-requires c = search rules
 
 pub returns : goal.returns
 returns c = value_read c.args.table.now c.requires.0 c.args.row c.args.version _ _ c.if-way-lt-AS_NUMBER.false c.reading.ensures

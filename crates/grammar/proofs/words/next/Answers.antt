@@ -1,10 +1,6 @@
 -- `words::next` meets its contract: blanks skipped, and then a word passed. Assumes nothing.
 use Rattle.grammar.proofs.Walking.{spanned}
-use borrow.Author.Rules.{rules}
 use Rattle.grammar.proofs.words.next.Goals as goal
-
-pub skip-from-requires : goal.skip-from-requires
-skip-from-requires c = search rules
 
 pub pass-upto-requires : goal.pass-upto-requires
 pass-upto-requires c = c.skip-from.ensures.high

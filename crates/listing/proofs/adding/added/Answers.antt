@@ -5,14 +5,7 @@ use Rattle.grammar.specs.Grammar.{a_version, some_fans, a_board}
 use Rattle.grammar.specs.Text.{added}
 use native.Mathlib.Omega.{arith}
 use Rattle.listing.proofs.Holding.{step-as}
-use borrow.Author.Rules.{rules}
 use Rattle.listing.proofs.adding.added.Goals as goal
-
-pub bounds-set-6 : goal.bounds-set-6
-bounds-set-6 c = search rules
-
-pub bounds-set-0 : goal.bounds-set-0
-bounds-set-0 c = search rules
 
 pub returns-then-thing-eq-A_VERSION : goal.returns-then-thing-eq-A_VERSION
 unfolding added
@@ -25,33 +18,15 @@ returns-then-thing-eq-A_VERSION c =
           (record { lines = h.lines; version = refl; begun = h.begun; fans = h.fans; boards = h.boards; systems = h.systems; told = h.told });
     }
 
-pub added_fans-requires : goal.added_fans-requires
-added_fans-requires c = search rules
-
-pub shape_of-out-then-thing-eq-SOME_FANS : goal.shape_of-out-then-thing-eq-SOME_FANS
-shape_of-out-then-thing-eq-SOME_FANS c = search rules
-
 pub returns-then-thing-eq-SOME_FANS : goal.returns-then-thing-eq-SOME_FANS
 unfolding added
 returns-then-thing-eq-SOME_FANS c =
     step-as c.added_fans.ensures (λ s. rw (ne_eqb _ a_version c.if-thing-eq-A_VERSION.false, eq-eqb _ some_fans c.if-thing-eq-SOME_FANS.true))
 
-pub added_board-requires : goal.added_board-requires
-added_board-requires c = search rules
-
-pub shape_of-out-then-thing-eq-A_BOARD : goal.shape_of-out-then-thing-eq-A_BOARD
-shape_of-out-then-thing-eq-A_BOARD c = search rules
-
 pub returns-then-thing-eq-A_BOARD : goal.returns-then-thing-eq-A_BOARD
 unfolding added
 returns-then-thing-eq-A_BOARD c =
     step-as c.added_board.ensures (λ s. rw (ne_eqb _ a_version c.if-thing-eq-A_VERSION.false, ne_eqb _ some_fans c.if-thing-eq-SOME_FANS.false, eq-eqb _ a_board c.if-thing-eq-A_BOARD.true))
-
-pub added_system-requires : goal.added_system-requires
-added_system-requires c = search rules
-
-pub shape_of-out : goal.shape_of-out
-shape_of-out c = search rules
 
 pub returns : goal.returns
 unfolding added

@@ -8,17 +8,7 @@ use Rattle.grammar.specs.Text.{many_boards}
 use Rattle.grammar.specs.Grammar.{of_parts}
 use Rattle.typed_lists.proofs.Storing.{stored_more}
 use Rattle.listing.proofs.Holding.{none_left, some_left}
-use borrow.Author.Rules.{rules}
 use Rattle.listing.proofs.adding.added_board.Goals as goal
-
-pub overflow_add-g : goal.overflow_add-g
-overflow_add-g c = search rules
-
-pub tell-requires : goal.tell-requires
-tell-requires c = search rules
-
-pub shape_of-out-then-g-gt-BOARDS : goal.shape_of-out-then-g-gt-BOARDS
-shape_of-out-then-g-gt-BOARDS c = search rules
 
 pub returns-then-g-gt-BOARDS : goal.returns-then-g-gt-BOARDS
 returns-then-g-gt-BOARDS c =
@@ -28,20 +18,8 @@ returns-then-g-gt-BOARDS c =
       holds = λ s h. none_left s h (length s.switchboards + 1) most_boards many_boards _ _ (omega (arith, h.boards.counted, c.if-g-gt-BOARDS.true)) c.tell.ensures;
     }
 
-pub bounds-set-7 : goal.bounds-set-7
-bounds-set-7 c = search rules
-
 pub overflow_cast-switchboards : goal.overflow_cast-switchboards
 overflow_cast-switchboards c = omega (arith, c.requires.1.small of_parts)
-
-pub offset_bounds-switchboards-g : goal.offset_bounds-switchboards-g
-offset_bounds-switchboards-g c = search rules
-
-pub bounds-switchboards-g : goal.bounds-switchboards-g
-bounds-switchboards-g c = search rules
-
-pub overflow_add-next : goal.overflow_add-next
-overflow_add-next c = search rules
 
 pub returns : goal.returns
 returns c =

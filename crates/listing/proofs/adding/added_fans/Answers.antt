@@ -6,21 +6,11 @@ use Rattle.rules.specs.File.{most_fans}
 use Rattle.grammar.specs.Text.{many_fans}
 use Rattle.grammar.specs.Grammar.{of_number, of_parts, of_weight, of_board}
 use Rattle.listing.proofs.Holding.{none_left, some_left}
-use borrow.Author.Rules.{rules}
 use Rattle.listing.proofs.adding.added_fans.Goals as goal
-
-pub bounds-set-0 : goal.bounds-set-0
-bounds-set-0 c = search rules
 
 pub overflow_add-before : goal.overflow_add-before
 overflow_add-before c =
     omega (arith, c.requires.0.counted.fans.few, c.requires.1.small of_number)
-
-pub tell-requires : goal.tell-requires
-tell-requires c = search rules
-
-pub shape_of-out-then-before-more : goal.shape_of-out-then-before-more
-shape_of-out-then-before-more c = search rules
 
 pub returns-then-before-more : goal.returns-then-before-more
 returns-then-before-more c =
@@ -30,26 +20,14 @@ returns-then-before-more c =
       holds = λ s h. none_left s h (length s.survival + get_or c.args.set of_number 0) most_fans many_fans _ _ (omega (arith, h.fans.parts.counted, c.if-before-more.true)) c.tell.ensures;
     }
 
-pub bounds-set-7 : goal.bounds-set-7
-bounds-set-7 c = search rules
-
 pub overflow_cast-parts : goal.overflow_cast-parts
 overflow_cast-parts c = omega (arith, c.requires.1.small of_parts)
-
-pub bounds-set-8 : goal.bounds-set-8
-bounds-set-8 c = search rules
 
 pub overflow_cast-weight : goal.overflow_cast-weight
 overflow_cast-weight c = omega (arith, c.requires.1.small of_weight)
 
-pub bounds-set-9 : goal.bounds-set-9
-bounds-set-9 c = search rules
-
 pub overflow_cast-board : goal.overflow_cast-board
 overflow_cast-board c = omega (arith, c.requires.1.small of_board)
-
-pub plus-after-requires : goal.plus-after-requires
-plus-after-requires c = search rules
 
 pub returns : goal.returns
 returns c =

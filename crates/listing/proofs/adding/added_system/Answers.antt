@@ -5,17 +5,7 @@ use native.Mathlib.Omega.{arith}
 use Rattle.rules.specs.File.{most_systems}
 use Rattle.grammar.specs.Text.{many_systems}
 use Rattle.listing.proofs.Holding.{none_left, some_left}
-use borrow.Author.Rules.{rules}
 use Rattle.listing.proofs.adding.added_system.Goals as goal
-
-pub overflow_add-before : goal.overflow_add-before
-overflow_add-before c = search rules
-
-pub tell-requires : goal.tell-requires
-tell-requires c = search rules
-
-pub shape_of-out-then-before-gt-SYSTEMS : goal.shape_of-out-then-before-gt-SYSTEMS
-shape_of-out-then-before-gt-SYSTEMS c = search rules
 
 pub returns-then-before-gt-SYSTEMS : goal.returns-then-before-gt-SYSTEMS
 returns-then-before-gt-SYSTEMS c =
@@ -24,9 +14,6 @@ returns-then-before-gt-SYSTEMS c =
       few = c.tell.ensures.few;
       holds = λ s h. none_left s h (length s.systems + 1) most_systems many_systems _ _ (omega (arith, h.systems.count, c.if-before-gt-SYSTEMS.true)) c.tell.ensures;
     }
-
-pub plus-after-requires : goal.plus-after-requires
-plus-after-requires c = search rules
 
 pub returns : goal.returns
 returns c =

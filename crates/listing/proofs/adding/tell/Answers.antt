@@ -1,14 +1,10 @@
 -- `adding::tell` meets its contract: of what is held, the faults alone change. Assumes nothing.
 use native.Mathlib.Omega.{arith}
-use borrow.Author.Rules.{rules}
 use Rattle.listing.proofs.adding.tell.Goals as goal
 
 pub plus-after-requires : goal.plus-after-requires
 plus-after-requires c =
     c.requires.room
-
-pub shape_of-out : goal.shape_of-out
-shape_of-out c = search rules
 
 pub returns : goal.returns
 returns c =

@@ -1,7 +1,6 @@
 -- `ending::pass` meets its contract, test by test. Assumes nothing.
 use Rattle.typed_lists.proofs.Telling.{told_none}
 use Rattle.listing.proofs.Passing.{placed, told-already, not_yet}
-use borrow.Author.Rules.{rules}
 use Rattle.listing.proofs.ending.pass.Goals as goal
 
 pub returns-then-board-g : goal.returns-then-board-g
@@ -13,12 +12,6 @@ pub returns-then-line-before : goal.returns-then-line-before
 returns-then-line-before c =
     let e = told-already c.args.g c.args.before.line c.args.line c.args.board c.if-board-g.false c.if-line-before.true in
     record { told = rw e (told_none c.requires); line = rw e }
-
-pub tell_board-after-requires : goal.tell_board-after-requires
-tell_board-after-requires c = search rules
-
-pub shape_of-out : goal.shape_of-out
-shape_of-out c = search rules
 
 pub returns : goal.returns
 returns c =

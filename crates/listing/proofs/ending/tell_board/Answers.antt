@@ -4,26 +4,10 @@ use native.Mathlib.Omega.{arith}
 use lib.Seq.{length-take-le}
 use Rattle.text.proofs.Digits.{decimal-short}
 use Rattle.text.proofs.Adding.{put-added}
-use borrow.Author.Rules.{rules}
 use Rattle.listing.proofs.ending.tell_board.Goals as goal
-
-pub slice_bounds-put_number-end : goal.slice_bounds-put_number-end
-slice_bounds-put_number-end c = search rules
-
-pub put_number-end-requires : goal.put_number-end-requires
-put_number-end-requires c = search rules
-
-pub slice_bounds-word-end : goal.slice_bounds-word-end
-slice_bounds-word-end c = search rules
 
 pub slice_bounds-plus-end : goal.slice_bounds-plus-end
 slice_bounds-plus-end c = sym (length-take-le c.put_number-end.result _ c.put_number-end.ensures.within)
-
-pub plus-requires : goal.plus-requires
-plus-requires c = search rules
-
-pub shape_of-out : goal.shape_of-out
-shape_of-out c = search rules
 
 pub returns : goal.returns
 returns c =

@@ -1,9 +1,6 @@
--- `reading::read_some` meets its contract: what was read lies within the buffer. The measure is the tries left. Assumes nothing.
-use Rattle.std.proofs.Common.{◌-◌, ◌≡◌, length}
+-- `reading::read_some` meets its contract: what was read lies within the buffer. Assumes nothing.
+use Rattle.std.proofs.Common.{◌≡◌, length}
 use Rattle.shell.proofs.reading.read_some.Given as goal
 
-abbrev pub invariant-loop-tries : goal.invariant-loop-tries
-invariant-loop-tries l = length l.buffer ≡ length l.initial.buffer
-
-abbrev pub decreases-loop-tries : goal.decreases-loop-tries
-decreases-loop-tries l = 1000000 - l.tries
+abbrev pub invariant-loop : goal.invariant-loop
+invariant-loop l = length l.buffer ≡ length l.initial.buffer

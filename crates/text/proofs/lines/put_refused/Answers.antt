@@ -2,17 +2,7 @@
 use native.Mathlib.Omega.{arith}
 use Rattle.text.specs.Decimal.{text}
 use Rattle.text.proofs.Adding.{put-added, named-added, named-reach, added_more}
-use borrow.Author.Rules.{rules}
 use Rattle.text.proofs.lines.put_refused.Goals as goal
-
-pub put_named-end-requires : goal.put_named-end-requires
-put_named-end-requires c = search rules
-
-pub put-requires : goal.put-requires
-put-requires c = search rules
-
-pub shape_of-out : goal.shape_of-out
-shape_of-out c = search rules
 
 pub returns : goal.returns
 returns c =

@@ -4,38 +4,16 @@ use native.Mathlib.Omega.{arith}
 use lib.IntN.{nat_abs}
 use mir.Syntax.{w64}
 use mir.ValLaws.{to_z-of_z}
-use borrow.Author.Rules.{rules}
 use Rattle.text.proofs.Digits.{decimal-short}
 use Rattle.text.proofs.Adding.{put-added, named-added, added_more}
 use Rattle.text.proofs.Signed.{not_negative, negative}
 use Rattle.text.proofs.lines.put_signed.Goals as goal
-
-pub absolute-digits-requires : goal.absolute-digits-requires
-absolute-digits-requires c = search rules
-
-pub put_named-requires : goal.put_named-requires
-put_named-requires c = search rules
-
-pub shape_of-out-then-z-ge0 : goal.shape_of-out-then-z-ge0
-shape_of-out-then-z-ge0 c = search rules
 
 pub returns-then-z-ge0 : goal.returns-then-z-ge0
 returns-then-z-ge0 c =
     let is = not_negative c.args.z c.ranges.z c.if-z-ge0.true in
     let digits = c.absolute-digits.ensures ∙ ap nat_abs (to_z-of_z w64 _ c.ranges.z ∙ is) in
     rw is (rw digits at (named-added (omega (arith, c.requires)) c.put_named.ensures))
-
-pub put-sign-requires : goal.put-sign-requires
-put-sign-requires c = search rules
-
-pub put-end-requires : goal.put-end-requires
-put-end-requires c = search rules
-
-pub put_number-requires : goal.put_number-requires
-put_number-requires c = search rules
-
-pub shape_of-out : goal.shape_of-out
-shape_of-out c = search rules
 
 pub returns : goal.returns
 returns c =

@@ -3,19 +3,12 @@ use native.Mathlib.Omega.{arith}
 use mir.Syntax.{w64}
 use mir.ValLaws.{to_z-of_z}
 use Rattle.text.proofs.Adding.{signed-reach, added_more}
-use borrow.Author.Rules.{rules}
 use Rattle.text.proofs.lines.put_signed_pair.Goals as goal
-
-pub put_signed-middle-requires : goal.put_signed-middle-requires
-put_signed-middle-requires c = search rules
 
 pub put_signed-requires : goal.put_signed-requires
 put_signed-requires c =
     let one = rw (to_z-of_z w64 c.args.a c.ranges.a) at c.put_signed-middle.ensures in
     omega (arith, c.requires, c.put_signed-middle.auto, signed-reach c.args.first.now c.args.a one)
-
-pub shape_of-out : goal.shape_of-out
-shape_of-out c = search rules
 
 pub returns : goal.returns
 returns c =

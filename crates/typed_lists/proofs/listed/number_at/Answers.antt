@@ -7,29 +7,7 @@ use lib.Seq.{get_or-drop}
 use Rattle.rules.specs.File.{per_system}
 use Rattle.typed_lists.specs.Lists.{per_listed}
 use Rattle.typed_lists.proofs.MoreSystems.{five-given, five-a, five-b, five-rule}
-use borrow.Author.Rules.{rules}
 use Rattle.typed_lists.proofs.listed.number_at.Goals as goal
-
-pub overflow_mul-from : goal.overflow_mul-from
-overflow_mul-from c = search rules
-
-pub overflow_add-from : goal.overflow_add-from
-overflow_add-from c = search rules
-
-pub offset_bounds-listed-from : goal.offset_bounds-listed-from
-offset_bounds-listed-from c = search rules
-
-pub bounds-listed-from : goal.bounds-listed-from
-bounds-listed-from c = search rules
-
-pub overflow_add-result : goal.overflow_add-result
-overflow_add-result c = search rules
-
-pub offset_bounds-listed-from-then-listed-from-ne0 : goal.offset_bounds-listed-from-then-listed-from-ne0
-offset_bounds-listed-from-then-listed-from-ne0 c = search rules
-
-pub bounds-listed-from-then-listed-from-ne0 : goal.bounds-listed-from-then-listed-from-ne0
-bounds-listed-from-then-listed-from-ne0 c = search rules
 
 pub returns-then-listed-from-ne0 : goal.returns-then-listed-from-ne0
 returns-then-listed-from-ne0 c =
@@ -51,15 +29,6 @@ returns-then-k-eq-B c =
     let at = get_or-drop (c.args.j / per_system * per_listed) c.args.listed.now in
     let l : c.args.j % per_system < per_system = omega arith in
     sym (five-b c.args.fans all (c.args.j % per_system) l (at 5 0 ∙ c.if-listed-from-ne0.false) c.if-k-eq-B.true)
-
-pub overflow_add-result-2 : goal.overflow_add-result-2
-overflow_add-result-2 c = search rules
-
-pub offset_bounds-listed-from-2 : goal.offset_bounds-listed-from-2
-offset_bounds-listed-from-2 c = search rules
-
-pub bounds-listed-from-2 : goal.bounds-listed-from-2
-bounds-listed-from-2 c = search rules
 
 pub returns : goal.returns
 returns c =

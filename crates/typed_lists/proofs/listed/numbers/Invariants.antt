@@ -1,6 +1,6 @@
--- `listed::numbers` meets its contract: after j turns the first j numbers stand there. The measure is what is left. Assumes nothing.
+-- `listed::numbers` meets its contract: after j turns the first j numbers stand there. Assumes nothing.
 use mathlib.Core.List.{List}
-use Prim.Native.Nat.{ℕ, ◌-◌, ◌*◌, ◌≤◌}
+use Prim.Native.Nat.{ℕ, ◌*◌}
 use lib.ListN.{take}
 use Rattle.rules.specs.File.{most_systems, per_system}
 use Rattle.grammar.specs.Text.{numbers_of}
@@ -9,8 +9,4 @@ use Rattle.typed_lists.proofs.listed.numbers.Given as goal
 
 abbrev pub invariant-loop-j : goal.invariant-loop-j
 invariant-loop-j l =
-    (l.j ≤ l.systems.count * per_system)
-    × ((list : List (List ℕ)) → Ruled l.systems list → Stored (most_systems * per_system) l.j l.all (take l.j (numbers_of l.fans list)))
-
-abbrev pub decreases-loop-j : goal.decreases-loop-j
-decreases-loop-j l = l.systems.count * per_system - l.j
+    (list : List (List ℕ)) → Ruled l.fn.systems list → Stored (most_systems * per_system) l.j l.all (take l.j (numbers_of l.fans list))

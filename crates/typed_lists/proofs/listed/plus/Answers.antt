@@ -1,4 +1,4 @@
--- `listed::plus` meets its contract: a turn stores one of the six numbers behind those before it. The measure is what is left. Assumes nothing.
+-- `listed::plus` meets its contract: a turn stores one of the six numbers behind those before it. Assumes nothing.
 use mathlib.Core.Path.{◌≡◌, refl}
 use Prim.Native.Nat.{◌*◌}
 use native.Mathlib.Omega.{arith}
@@ -11,13 +11,7 @@ pub overflow_mul-at : goal.overflow_mul-at
 overflow_mul-at c = omega (arith, c.requires.0)
 
 pub loop-k-init : goal.loop-k-init
-loop-k-init c = (omega arith, λ list f. six-none (most_systems * per_listed) _ list c.args.set f)
-
-pub offset_bounds-set-k : goal.offset_bounds-set-k
-offset_bounds-set-k c = omega arith
-
-pub bounds-set-k : goal.bounds-set-k
-bounds-set-k c = omega arith
+loop-k-init c = λ list f. six-none (most_systems * per_listed) _ list c.args.set f
 
 pub overflow_cast-numbers : goal.overflow_cast-numbers
 overflow_cast-numbers c = omega (arith, six-small _ c.requires.1 c.loop-k.k c.loop-k-test.true)
@@ -25,23 +19,9 @@ overflow_cast-numbers c = omega (arith, six-small _ c.requires.1 c.loop-k.k c.lo
 pub overflow_add-numbers : goal.overflow_add-numbers
 overflow_add-numbers c = omega (arith, c.requires.0)
 
-pub offset_bounds-numbers-at : goal.offset_bounds-numbers-at
-offset_bounds-numbers-at c = omega (arith, c.requires.0)
-
-pub bounds-numbers-at : goal.bounds-numbers-at
-bounds-numbers-at c = omega (arith, c.requires.0)
-
-pub overflow_add-k : goal.overflow_add-k
-overflow_add-k c = omega arith
-
-pub loop-k-smaller : goal.loop-k-smaller
-loop-k-smaller c = omega arith
-
 pub loop-k-preserved : goal.loop-k-preserved
-loop-k-preserved c = (
-  omega arith,
-  λ list f. six-more (most_systems * per_listed) _ list c.args.set (c.loop-k.invariant.1 list f) c.loop-k-test.true (omega (arith, c.requires.0)),
-)
+loop-k-preserved c =
+    λ list f. six-more (most_systems * per_listed) _ list c.args.set (c.loop-k.invariant list f) c.loop-k-test.true (omega (arith, c.requires.0))
 
 pub overflow_add-result : goal.overflow_add-result
 overflow_add-result c =
@@ -49,5 +29,5 @@ overflow_add-result c =
 
 pub returns : goal.returns
 returns c =
-    let e : c.loop-k.k ≡ per_listed = omega (arith, c.loop-k.invariant.0, c.loop-k-test.false) in
-    record { count = refl; ruled = λ systems h. one_more _ h (rw e at (c.loop-k.invariant.1 (sixes systems) h.numbers)) }
+    let e : c.loop-k.k ≡ per_listed = omega (arith, c.loop-k-test.false) in
+    record { count = refl; ruled = λ systems h. one_more _ h (rw e at (c.loop-k.invariant (sixes systems) h.numbers)) }

