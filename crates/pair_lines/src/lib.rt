@@ -65,12 +65,7 @@ fn put_fans(s: u64, a: u64, decimal: bool, best: Best, out: &mut [u8], at: usize
 }
 
 // The best of all pairs of a stretch, row by row.
-fn best_pair(
-    rt: &HostRuntime,
-    question: Question,
-    two: Two,
-    lists: &RatedLists,
-) -> Best
+fn best_pair(rt: &HostRuntime, question: Question, two: Two, lists: &RatedLists) -> Best
     requires { let q = asked_by question lists.now in
         spare_refusal q two.p ≡ 0 }
     ensures { let q = asked_by question lists.now in
@@ -81,13 +76,7 @@ fn best_pair(
     let mut i: usize = 0;
     while i < size {
         progress::show(rt, two.s, best.rated, size as u64);
-        best = pairs::rate_row(
-            question,
-            two.p,
-            i,
-            best,
-            lists,
-        );
+        best = pairs::rate_row(question, two.p, i, best, lists);
         i += 1;
     }
     progress::wipe(rt);
