@@ -92,14 +92,7 @@ pub fn put_asked(
     }
     if job.two {
         let two = Two { s, p: job.p };
-        return pair_lines::put_two(
-            rt,
-            question,
-            two,
-            lists,
-            out,
-            at,
-        );
+        return pair_lines::put_two(rt, question, two, lists, out, at);
     }
     let before = spares::rate_now(question, lists);
     let places = spares::rate_places(question, job.p, lists);
