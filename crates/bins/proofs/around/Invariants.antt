@@ -1,8 +1,7 @@
 -- `around` adds up, over the failed ones around the end, the ways to lay them and the others. Assumes nothing.
 use mathlib.Core.Path.{◌≡◌}
-use Prim.Native.Nat.{suc, ◌-◌, ◌≤◌, min}
 use Rattle.rules.specs.Below.{sum_below}
-use Rattle.bins.specs.Bins.{term, Around}
+use Rattle.bins.specs.Bins.{term}
 use Rattle.bins.proofs.around.Given as goal
 
 abbrev pub invariant-loop-m : goal.invariant-loop-m

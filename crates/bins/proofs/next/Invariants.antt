@@ -1,6 +1,6 @@
 -- `next` makes a row out of the one below, in a sum that slides along. Assumes nothing.
 use mathlib.Core.Path.{◌≡◌}
-use Prim.Native.Nat.{suc, ◌+◌, ◌-◌, ◌≤◌}
+use Prim.Native.Nat.{suc, ◌+◌}
 use Rattle.bins.specs.From.{bins, shift}
 use Rattle.bins.specs.Cells.{Stored}
 use Rattle.places.specs.Map.{bin_row}
