@@ -1,11 +1,7 @@
 -- `counts` refuses as the list of refusals does and writes nothing then; else it fills the room and clears the table. Assumes nothing.
 use native.Mathlib.Omega.{arith}
 use Rattle.counts.proofs.Call.{countable, refused, counted}
-use borrow.Author.Rules.{rules}
 use Rattle.counts.proofs.counts.Goals as goal
-
-pub refusal-given-requires : goal.refusal-given-requires
-refusal-given-requires c = search rules
 
 pub returns-then-given-ne0 : goal.returns-then-given-ne0
 returns-then-given-ne0 c = refused _ _ _ _ _ c.refusal-given.ensures c.if-given-ne0.true
@@ -17,12 +13,6 @@ pub zero-requires : goal.zero-requires
 zero-requires c =
     let able = countable c.args.rule c.args.n c.args.weights.now c.args.table.now c.args.room.now c.refusal-given.ensures c.if-given-ne0.false in
     omega (arith, able.long, c.tally.ensures.used.long)
-
-pub shape_of-table : goal.shape_of-table
-shape_of-table c = search rules
-
-pub shape_of-room : goal.shape_of-room
-shape_of-room c = search rules
 
 pub returns : goal.returns
 returns c =

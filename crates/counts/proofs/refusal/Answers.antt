@@ -5,17 +5,10 @@ use native.Mathlib.Omega.{arith}
 use borrow.Author.Tests.{lt-ltb, le-ltb}
 use Rattle.rules.specs.Refusal.{cells}
 use Rattle.rules.proofs.Unless.{after_none, after-some}
-use borrow.Author.Rules.{rules}
 use Rattle.counts.proofs.refusal.Goals as goal
-
-pub uncounted-requires : goal.uncounted-requires
-uncounted-requires c = search rules
 
 pub returns-then-uncounted : goal.returns-then-uncounted
 returns-then-uncounted c = rw (← c.uncounted.ensures, c.if-uncounted.true)
-
-pub rule_refusal-first-requires : goal.rule_refusal-first-requires
-rule_refusal-first-requires c = search rules
 
 pub returns-then-first-ne0 : goal.returns-then-first-ne0
 returns-then-first-ne0 c =
