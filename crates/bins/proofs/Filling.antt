@@ -4,7 +4,7 @@ use mathlib.Core.List.{List, ◌++◌}
 use Prim.Native.Nat.{ℕ, zero, suc, ◌+◌, ◌-◌, ◌*◌, ◌^◌, ◌≤◌, ◌<◌, min}
 use native.Mathlib.Decide.{dec_lt}
 use native.Mathlib.Omega.{arith}
-use lib.ListN.{length, get_or, set, drop, replicate}
+use lib.ListN.{get_or, set, drop, replicate}
 use borrow.Author.Tests.{lt-ltb, le-ltb}
 use Rattle.rules.specs.Below.{sum_below}
 use Rattle.rules.specs.Memory.{live, row4}
@@ -36,9 +36,6 @@ slide-fits k b (suc j) some h =
 
 pub rows-fewer : {k n rows fewer : ℕ} {t : List ℕ} → fewer ≤ rows → Bins k n rows t → Bins k n fewer t
 rows-fewer l h = record { is = λ b j p m. h.is b j p (omega arith) }
-
-pub sized_same : {k n : ℕ} {a b : List ℕ} → length b ≡ length a → Sized k n a → Sized k n b
-sized_same e s = record { some = s.some; most = s.most; long = omega arith }
 
 -- row b + 1 on the way, made up to column j
 module _ {k n b off : ℕ} (j : ℕ) {before t : List ℕ} (s : Sized k n before) (h : Bins k n (suc b) before) (o : off ≡ b * bin_row)

@@ -36,11 +36,9 @@ fn next(k: usize, n: usize, b: usize, table: &mut [u64])
     let to = from + BIN_ROW;
     let last = n - b;
     let mut held: u64 = 0;
-    let mut j: usize = 0;
-    while j <= last {
+    for j in 0..=last {
         held = slide(k, from, j, held, table);
         table[to + j] = held;
-        j += 1;
     }
 }
 
@@ -51,10 +49,8 @@ pub fn fill(k: usize, n: usize, table: &mut [u64])
 {
     places::zero(table, BIN_ROW);
     table[0] = 1;
-    let mut b: usize = 0;
-    while b <= n {
+    for b in 0..=n {
         next(k, n, b, table);
-        b += 1;
     }
 }
 
@@ -88,12 +84,10 @@ pub fn around(k: usize, top: usize, j: usize, table: &[u64]) -> u64
     requires { Around k top j table.now }
     ensures { result ≡ around_at k top j table.now }
 {
-    let ends = places::lesser(k, j + 1);
+    let ends = k.min(j + 1);
     let mut sum: u64 = 0;
-    let mut m: usize = 0;
-    while m < ends {
+    for m in 0..ends {
         sum += part(top, m, table);
-        m += 1;
     }
     sum
 }

@@ -18,7 +18,7 @@ use Rattle.rules.proofs.Sums.{sum_same}
 use Rattle.bins.specs.From.{from, shift}
 use Rattle.bins.specs.Cells.{Stored, Outside}
 use Rattle.counts.specs.Sums.{lighter, cell_at, Sums, Weighed, Addable, Turnable, Turned}
-use Rattle.bins.proofs.Cells.{below_or, outside-none, outside-then, outside_wider}
+use Rattle.bins.proofs.Cells.{below_or, outside-then, outside_wider}
 use Rattle.bins.proofs.From.{from_end, from-above, from_zero, from_suc, from-fits}
 use Rattle.bins.proofs.InARow.{shift-at, shift_past, sum_past}
 
@@ -94,9 +94,6 @@ pub add-cell : {from to count : ℕ} {f : ℕ → ℕ} {before t : List ℕ} (s 
     → get_or t (to + s) 0 + get_or t (from + s) 0 ≡ get_or before (to + s) 0 + get_or before (from + s) 0
 add-cell {from} {to} s able l w = rw (w.rest.high (to + s) (omega arith), w.rest.low (from + s) (omega arith))
 
-pub turned_none : {w count rows : ℕ} {t : List ℕ} → Turned w count rows rows t t
-turned_none = record { new = λ j s l h g. absurd (omega arith); kept = λ j s l h. refl; rest = outside-none }
-
 module _ {w count rows low : ℕ} {before t : List ℕ} (able : Turnable w count rows before) (o : Turned w count (suc low) rows before t) (l : low < rows) where
   -- this row and the row below are as they were
   old-cells : (s : ℕ) → s < count
@@ -104,14 +101,6 @@ module _ {w count rows low : ℕ} {before t : List ℕ} (able : Turnable w count
   old-cells s h =
       let a : low * heaviest + heaviest + w + s ≡ suc low * heaviest + (w + s) = omega arith in
       (rw a (o.rest.low _ (omega arith)), o.rest.low _ (omega arith))
-
-  pub row-addable : Addable (low * heaviest) (low * heaviest + heaviest + w) count t
-  row-addable =
-      record {
-        apart = omega arith;
-        long = omega arith;
-        fits = λ s h. rw ((old-cells s h).0, (old-cells s h).1) (able.fits low s l h);
-      }
 
   module _ {t' : List ℕ}
       (a : Stored (λ s. get_or t (low * heaviest + heaviest + w + s) 0 + get_or t (low * heaviest + s) 0) (low * heaviest + heaviest + w) 0 count t t') where

@@ -42,9 +42,7 @@ pub fn lay(rule: Rule, n: usize, table: &[u64], room: &mut [u64])
     requires { Layable rule n table.now × (n < length room.old) }
     ensures { Stored (entry_at rule n table.now) 0 0 (suc n) room.old room.new }
 {
-    let mut j: usize = 0;
-    while j <= n {
+    for j in 0..=n {
         room[j] = entry(rule, n, j, table);
-        j += 1;
     }
 }

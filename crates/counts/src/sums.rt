@@ -14,7 +14,7 @@ fn raise(from: usize, to: usize, table: &mut [u64])
     ensures { let t = table.old in
         table.new ≡ set t to (get_or t to 0 + get_or t from 0) }
 {
-    table[to] = table[to] + table[from];
+    table[to] += table[from];
 }
 
 // Adds the `count` cells from `from` on to those from `to` on.
@@ -23,10 +23,8 @@ fn add(from: usize, to: usize, count: usize, table: &mut [u64])
     ensures { let t = table.old in
         Stored (λ s. get_or t (to + s) 0 + get_or t (from + s) 0) to 0 count t table.new }
 {
-    let mut s: usize = 0;
-    while s < count {
+    for s in 0..count {
         raise(from + s, to + s, table);
-        s += 1;
     }
 }
 
@@ -36,9 +34,7 @@ fn turn(w: usize, count: usize, rows: usize, table: &mut [u64])
     requires { Turnable w count rows table.old }
     ensures { Turned w count 0 rows table.old table.new }
 {
-    let mut j = rows;
-    while 0 < j {
-        j -= 1;
+    for j in (0..rows).rev() {
         let below = j * SUM_ROW;
         add(below, below + SUM_ROW + w, count, table);
     }
@@ -50,7 +46,7 @@ fn within(k: usize, w: usize, reach: usize) -> usize
     requires { reach ≤ heaviest }
     ensures { result ≡ min (reach + 1) (k - w) }
 {
-    places::lesser(reach + 1, places::rest(k, w))
+    (reach + 1).min(k.saturating_sub(w))
 }
 
 // All components.
@@ -62,12 +58,10 @@ pub fn fill(k: usize, weights: &[u16], table: &mut [u64])
     places::zero(table, rules::limit::CELLS);
     table[0] = 1;
     let mut reach: usize = 0;
-    let mut i: usize = 0;
-    while i < weights.len() {
-        let w = weights[i] as usize;
+    for (i, weight) in weights.iter().enumerate() {
+        let w = usize::from(*weight);
         turn(w, within(k, w, reach), i + 1, table);
         reach += w;
-        i += 1;
     }
 }
 
@@ -85,10 +79,8 @@ pub fn total(k: usize, from: usize, table: &[u64]) -> u64
     ensures { result ≡ sum_below k (λ s. get_or table.now (from + s) 0) }
 {
     let mut sum: u64 = 0;
-    let mut s: usize = 0;
-    while s < k {
+    for s in 0..k {
         sum += cell(from, s, table);
-        s += 1;
     }
     sum
 }

@@ -15,10 +15,7 @@ fn fails_at(rule: Rule, j: u64) -> bool
     if rule.kind == kind::NUMBER {
         return rule.first <= j;
     }
-    if rule.first <= j {
-        return j <= rule.second;
-    }
-    false
+    rule.first <= j && j <= rule.second
 }
 
 // The states of i components with j failed where each of `times` takes `owed` components away.
@@ -26,7 +23,7 @@ fn left(owed: usize, i: usize, times: usize, j: usize, triangle: &[u64; pascal::
     requires { (i ≤ most) × (times * owed ≤ 4096) × (folded_rule triangle.now ≡ true) }
     ensures { result ≡ ways_of (i - times * owed) j }
 {
-    pascal::ways(triangle, places::rest(i, times * owed), j)
+    pascal::ways(triangle, i.saturating_sub(times * owed), j)
 }
 
 // The working states of a line of i components with j failed: each failed one but the last is followed by `owed` that
@@ -35,7 +32,7 @@ fn apart(owed: usize, i: usize, j: usize, triangle: &[u64; pascal::ENTRIES]) -> 
     requires { Lookup owed i j triangle.now }
     ensures { result ≡ apart_of owed i j }
 {
-    left(owed, i, places::rest(j, 1), j, triangle)
+    left(owed, i, j.saturating_sub(1), j, triangle)
 }
 
 // The working states of a ring: each failed one is followed by `owed` that work, or the ring's end falls among those
@@ -74,9 +71,7 @@ pub fn by_ways(rule: Rule, n: usize, room: &mut [u64])
     ensures { Stored (entry_of rule n) 0 0 (suc n) room.old room.new }
 {
     let triangle = pascal::table();
-    let mut j: usize = 0;
-    while j <= n {
+    for j in 0..=n {
         room[j] = entry(rule, n, j, &triangle);
-        j += 1;
     }
 }

@@ -17,12 +17,6 @@ zero-requires c =
     let able = countable c.args.rule c.args.n c.args.weights.now c.args.table.now c.args.room.now c.in_default.ensures refl in
     omega (arith, able.long, c.tally.ensures.used.long)
 
-pub shape_of-table : goal.shape_of-table
-shape_of-table c = search rules
-
-pub shape_of-room : goal.shape_of-room
-shape_of-room c = search rules
-
 pub returns : goal.returns
 returns c =
     counted _ _ _ _ _ c.in_default.ensures refl c.tally.ensures c.zero.ensures

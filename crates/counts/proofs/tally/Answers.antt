@@ -1,5 +1,5 @@
 -- `tally` hands each kind to what counts it, and lays what the worked table holds. Assumes nothing.
-use mathlib.Core.Logic.{inl, inr, ⊎_elim}
+use mathlib.Core.Logic.{inl, inr}
 use native.Mathlib.Omega.{arith}
 use Rattle.bins.proofs.Cells.{outside-none, stored_same}
 use Rattle.counts.proofs.Entries.{OnWays, on-table, spread, ways-count, layable}
@@ -25,18 +25,9 @@ pub by_ways-requires : goal.by_ways-requires
 by_ways-requires c =
     (spread c.requires.accepted (elim c.in-1-1.branch [ in-1-1 w ↦ inl (search rules) | in_default+else-asked-lt6+then-asked-lt8 w ↦ inr (omega arith, c.requires.counted) ]), c.requires.slots)
 
-pub shape_of-table : goal.shape_of-table
-shape_of-table c = search rules
-
-pub shape_of-room-in_default : goal.shape_of-room-in_default
-shape_of-room-in_default c = search rules
-
 pub returns-in_default : goal.returns-in_default
 returns-in_default c =
     record { used = c.work.ensures.rest; counts = stored_same (λ j l h. c.work.ensures.is j (omega arith)) c.lay.ensures }
-
-pub shape_of-room-in-1 : goal.shape_of-room-in-1
-shape_of-room-in-1 c = search rules
 
 pub returns-in-1 : goal.returns-in-1
 returns-in-1 c =

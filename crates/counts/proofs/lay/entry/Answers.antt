@@ -2,11 +2,7 @@
 use native.Mathlib.Omega.{arith}
 use borrow.Author.Tests.{eq-eqb, ne_eqb}
 use Rattle.counts.specs.Tally.{entry_at}
-use borrow.Author.Rules.{rules}
 use Rattle.counts.proofs.lay.entry.Goals as goal
-
-pub overflow_mul-j : goal.overflow_mul-j
-overflow_mul-j c = search rules
 
 pub total-requires : goal.total-requires
 unfolding entry_at
@@ -21,9 +17,6 @@ pub returns-then-rule-eq-WEIGHT : goal.returns-then-rule-eq-WEIGHT
 unfolding entry_at
 returns-then-rule-eq-WEIGHT c = rw (eq-eqb _ _ c.if-rule-eq-WEIGHT.true) c.total.ensures
 
-pub line-requires : goal.line-requires
-line-requires c = search rules
-
 pub returns-then-rule-eq-ROW : goal.returns-then-rule-eq-ROW
 unfolding entry_at
 returns-then-rule-eq-ROW c = rw (ne_eqb _ _ c.if-rule-eq-WEIGHT.false, eq-eqb _ _ c.if-rule-eq-ROW.true) c.line.ensures
@@ -31,9 +24,6 @@ returns-then-rule-eq-ROW c = rw (ne_eqb _ _ c.if-rule-eq-WEIGHT.false, eq-eqb _ 
 pub returns-then-j-n : goal.returns-then-j-n
 unfolding entry_at
 returns-then-j-n c = rw (ne_eqb _ _ c.if-rule-eq-WEIGHT.false, ne_eqb _ _ c.if-rule-eq-ROW.false, eq-eqb _ _ c.if-j-n.true)
-
-pub between-requires : goal.between-requires
-between-requires c = search rules
 
 pub around-requires : goal.around-requires
 unfolding entry_at

@@ -1,6 +1,5 @@
 -- `work` fills the table of the kind. Assumes nothing.
 use Rattle.counts.proofs.Entries.{weighed, sums-worked, sized, bins-worked}
-use borrow.Author.Rules.{rules}
 use Rattle.counts.proofs.lay.work.Goals as goal
 
 pub fill-requires : goal.fill-requires
@@ -11,15 +10,9 @@ pub fill-requires-else-rule-eq-WEIGHT : goal.fill-requires-else-rule-eq-WEIGHT
 fill-requires-else-rule-eq-WEIGHT c =
     sized c.requires c.if-rule-eq-WEIGHT.false
 
-pub shape_of-table-then-rule-eq-WEIGHT : goal.shape_of-table-then-rule-eq-WEIGHT
-shape_of-table-then-rule-eq-WEIGHT c = search rules
-
 pub returns-then-rule-eq-WEIGHT : goal.returns-then-rule-eq-WEIGHT
 returns-then-rule-eq-WEIGHT c =
     sums-worked c.requires c.if-rule-eq-WEIGHT.true c.fill.ensures
-
-pub shape_of-table-else-rule-eq-WEIGHT : goal.shape_of-table-else-rule-eq-WEIGHT
-shape_of-table-else-rule-eq-WEIGHT c = search rules
 
 pub returns-else-rule-eq-WEIGHT : goal.returns-else-rule-eq-WEIGHT
 returns-else-rule-eq-WEIGHT c =

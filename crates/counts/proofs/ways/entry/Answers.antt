@@ -2,18 +2,11 @@
 use native.Mathlib.Omega.{arith}
 use borrow.Author.Tests.{le-leb, lt-leb, eq-eqb, ne_eqb}
 use Rattle.counts.specs.Ways.{entry_of}
-use borrow.Author.Rules.{rules}
 use Rattle.counts.proofs.ways.entry.Goals as goal
-
-pub fails_at-requires : goal.fails_at-requires
-fails_at-requires c = search rules
 
 pub returns-then-fails_at : goal.returns-then-fails_at
 unfolding entry_of
 returns-then-fails_at c = rw (le-leb _ _ c.if-rule-le-BETWEEN.true, ← c.fails_at.ensures, c.if-fails_at.true)
-
-pub ways-requires : goal.ways-requires
-ways-requires c = search rules
 
 pub returns-then-rule-le-BETWEEN : goal.returns-then-rule-le-BETWEEN
 unfolding entry_of

@@ -1,4 +1,4 @@
--- `fails_at` takes the tests of `failsAt` in their order. Assumes nothing.
+-- `fails_at` takes the tests of its definition in their order. Assumes nothing.
 use borrow.Author.Tests.{eq-eqb, ne_eqb, le-leb, lt-leb}
 use Rattle.counts.specs.Ways.{fails_at}
 use Rattle.counts.proofs.ways.fails_at.Goals as goal
@@ -11,6 +11,6 @@ pub returns-then-rule-j : goal.returns-then-rule-j
 unfolding fails_at
 returns-then-rule-j c = rw (ne_eqb _ _ c.if-rule-eq-NUMBER.false, le-leb _ _ c.if-rule-j.true)
 
-pub returns : goal.returns
+pub returns-else-rule-j : goal.returns-else-rule-j
 unfolding fails_at
-returns c = simp (ne_eqb _ _ c.if-rule-eq-NUMBER.false, lt-leb _ _ c.if-rule-j.false)
+returns-else-rule-j c = simp (ne_eqb _ _ c.if-rule-eq-NUMBER.false, lt-leb _ _ c.if-rule-j.false)

@@ -6,7 +6,6 @@ use native.Mathlib.Omega.{arith}
 use borrow.Author.Tests.{ne_eqb}
 use Rattle.counts.specs.Ways.{ring_of}
 use Rattle.counts.proofs.Apart.{ring-fits}
-use borrow.Author.Rules.{rules}
 use Rattle.counts.proofs.ways.ring.Goals as goal
 use Rattle.counts.proofs.ways.ring.Goals.{After-left-2}
 
@@ -16,12 +15,6 @@ returns-then-j-eq0 c = rw c.if-j-eq0.true
 
 pub left-requires : goal.left-requires
 left-requires c = (c.requires.0.size, omega (arith, mul-le-mul c.requires.0.few c.requires.0.owes), c.requires.0.folded)
-
-pub overflow_sub-n : goal.overflow_sub-n
-overflow_sub-n c = search rules
-
-pub overflow_sub-j : goal.overflow_sub-j
-overflow_sub-j c = search rules
 
 pub left-requires-2 : goal.left-requires-2
 left-requires-2 c =

@@ -8,7 +8,7 @@ pub loop-pair-preserved : goal.loop-pair-preserved
 loop-pair-preserved c =
     let h = c.in-Some.ensures.steps in
     let e = front _ _ h.1.0 (h.1.1 ∙ c.loop-pair.invariant.by_two) in
-    record { by_two = h.0 ∙ c.loop-pair.invariant.by_two; as_far = longest-next _ _ e c.max-r.ensures ∙ c.loop-pair.invariant.as_far }
+    record { by_two = h.0 ∙ c.loop-pair.invariant.by_two; as_far = longest-next _ _ e (omega arith) ∙ c.loop-pair.invariant.as_far }
 
 pub returns : goal.returns
 returns c =
