@@ -2,7 +2,7 @@
 -- more. Assumes nothing.
 use mathlib.Core.Path.{◌≡◌, sym, ap, ◌∙◌}
 use mathlib.Core.List.{List, [], ◌∷◌, ◌++◌}
-use Prim.Native.Nat.{ℕ, suc, ◌+◌, ◌-◌, ◌≤◌, ◌<◌}
+use Prim.Native.Nat.{ℕ, suc, ◌+◌, ◌-◌, ◌<◌}
 use native.Mathlib.Nat.{sub-zero}
 use native.Mathlib.Numerals.{add-one}
 use native.Mathlib.Omega.{arith}
@@ -13,14 +13,14 @@ use Rattle.rules.proofs.Lists.{below_length, below_get}
 use Rattle.arrays.specs.Padded.{padded}
 
 module _ {A : Type 0} where
-  padded-none : (k : ℕ) (filler : A) (f : ℕ → A) → replicate k filler ≡ padded k filler (list_below 0 f)
+  pub padded-none : (k : ℕ) (filler : A) (f : ℕ → A) → replicate k filler ≡ padded k filler (list_below 0 f)
   unfolding padded list_below
   padded-none k filler f = rw sub-zero
 
-  padded-more : (k : ℕ) (filler : A) (f : ℕ → A) (i : ℕ) → i < k
+  padded_set : (k : ℕ) (filler : A) (f : ℕ → A) (i : ℕ) → i < k
       → set (padded k filler (list_below i f)) i (f i) ≡ padded k filler (list_below (i + 1) f)
   unfolding padded list_below
-  padded-more k filler f i h =
+  padded_set k filler f i h =
       let xs = list_below i f in
       let left : k - length xs ≡ suc (k - suc i) = omega (arith, below_length i f) in
       ap (λ n. set (xs ++ replicate n filler) i (f i)) left
@@ -38,19 +38,12 @@ module _ {A : Type 0} where
   padded-get k filler d n f i h =
       get_or-append (list_below n f) (replicate (k - length (list_below n f)) filler) d i (rw (below_length n f) h) ∙ below_get n f d i h
 
--- an array that a loop fills with n entries of f, after i of them: what the loop begins with, what a store makes of it, and what it ends with
-pub record Filled {A : Type 0} (k : ℕ) (filler : A) (f : ℕ → A) (n : ℕ) (xs : List A) (i : ℕ) : Type 0 where
-  pub passed : i ≤ n
-  pub holds : xs ≡ padded k filler (list_below i f)
+  -- what a store makes of an array that holds the first i entries of f
+  pub padded-more : (k : ℕ) (filler : A) (f : ℕ → A) {i : ℕ} {xs : List A} {v : A} → xs ≡ padded k filler (list_below i f) → i < k → v ≡ f i
+      → set xs i v ≡ padded k filler (list_below (i + 1) f)
+  padded-more k filler f {i} holds h e = rw (holds, e) (padded_set k filler f i h)
 
-module _ {A : Type 0} {k : ℕ} {filler : A} {f : ℕ → A} {n : ℕ} where
-  pub filled_none : {x : A} → x ≡ filler → Filled k filler f n (replicate k x) 0
-  filled_none e = record { passed = omega arith; holds = rw e (padded-none k filler f) }
-
-  pub filled_more : {xs : List A} {i : ℕ} {v : A} → Filled k filler f n xs i → i < n → n ≤ k → v ≡ f i → Filled k filler f n (set xs i v) (i + 1)
-  filled_more {i} filled h fits e = record { passed = omega arith; holds = rw (filled.holds, e) (padded-more k filler f i (omega arith)) }
-
-  pub filled-all : {xs : List A} {i : ℕ} → Filled k filler f n xs i → n ≤ i → xs ≡ padded k filler (list_below n f)
-  filled-all {i} filled h =
-      let e : i ≡ n = omega (arith, filled.passed) in
-      filled.holds ∙ ap (λ j. padded k filler (list_below j f)) e
+  -- the array that holds the last entry too
+  pub padded-all : (k : ℕ) (filler : A) (f : ℕ → A) {i n : ℕ} {xs : List A} → xs ≡ padded k filler (list_below i f) → i ≡ n
+      → xs ≡ padded k filler (list_below n f)
+  padded-all k filler f holds e = holds ∙ ap (λ j. padded k filler (list_below j f)) e

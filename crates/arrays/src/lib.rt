@@ -9,20 +9,26 @@ ghost use Rattle.arrays.specs.Padded.{padded};
 use layout::number;
 use rules::{Rule, System, limit};
 
+// The numbers of four bytes each, and zeros.
+fn fours_in<const N: usize>(bytes: &[u8], from: usize, n: usize) -> [u32; N]
+    requires few { n ≤ N }
+    requires whole { from + survival_bytes * n ≤ length bytes.now }
+    ensures { result ≡ padded N 0 (numbers_from survival_bytes bytes.now from n) }
+{
+    let mut numbers = [0u32; N];
+    for i in 0..n {
+        numbers[i] = number::number4(bytes, from + layout::SURVIVAL_BYTES * i) as u32;
+    }
+    numbers
+}
+
 // The survival numbers of n fans, and zeros.
 pub fn survival_in(bytes: &[u8], from: usize, n: usize) -> [u32; limit::FANS]
     requires few { n ≤ most_fans }
     requires whole { from + survival_bytes * n ≤ length bytes.now }
     ensures { result ≡ padded most_fans 0 (numbers_from survival_bytes bytes.now from n) }
 {
-    let mut survival = [0u32; limit::FANS];
-    let mut i = 0;
-    while i < n {
-        let at = from + layout::SURVIVAL_BYTES * i;
-        survival[i] = number::number4(bytes, at) as u32;
-        i += 1;
-    }
-    survival
+    fours_in(bytes, from, n)
 }
 
 // The survival numbers of g boards, and zeros.
@@ -31,14 +37,7 @@ pub fn board_survival_in(bytes: &[u8], from: usize, g: usize) -> [u32; limit::BO
     requires whole { from + survival_bytes * g ≤ length bytes.now }
     ensures { result ≡ padded most_boards 0 (numbers_from survival_bytes bytes.now from g) }
 {
-    let mut survival = [0u32; limit::BOARDS];
-    let mut b = 0;
-    while b < g {
-        let at = from + layout::SURVIVAL_BYTES * b;
-        survival[b] = number::number4(bytes, at) as u32;
-        b += 1;
-    }
-    survival
+    fours_in(bytes, from, g)
 }
 
 // The weights of n fans, and zeros.
@@ -48,11 +47,8 @@ pub fn weights_in(bytes: &[u8], from: usize, n: usize) -> [u16; limit::FANS]
     ensures { result ≡ padded most_fans 0 (numbers_from weight_bytes bytes.now from n) }
 {
     let mut weights = [0u16; limit::FANS];
-    let mut i = 0;
-    while i < n {
-        let at = from + layout::WEIGHT_BYTES * i;
-        weights[i] = number::number2(bytes, at) as u16;
-        i += 1;
+    for i in 0..n {
+        weights[i] = number::number2(bytes, from + layout::WEIGHT_BYTES * i) as u16;
     }
     weights
 }

@@ -38,12 +38,10 @@ pub fn worths_of(file: &[u8], head: Head, s: usize) -> Worths
 {
     let mut lower = [0i64; FANS];
     let mut upper = [0i64; FANS];
-    let mut i: usize = 0;
-    while i < head.fans {
+    for i in 0..head.fans {
         let worth = fan_worths::weigh(file, head, s, i as u64 + 1);
         lower[i] = lower_of(worth);
         upper[i] = upper_of(worth);
-        i += 1;
     }
     Worths { lower, upper }
 }

@@ -8,14 +8,6 @@ const BYTE: u16 = 256;
 
 const TWO_BYTES: u32 = 65536;
 
-// A number in one byte.
-fn put1(x: u8, room: &mut [u8], at: usize)
-    requires { at + 1 ≤ length room.old }
-    ensures { room.new ≡ laid at (bytes_of 1 x) room.old }
-{
-    room[at] = x;
-}
-
 // A number in two bytes, lowest first.
 fn put2(x: u16, room: &mut [u8], at: usize)
     requires { at + 2 ≤ length room.old }
@@ -36,27 +28,21 @@ fn put4(x: u32, room: &mut [u8], at: usize)
     put2((x / TWO_BYTES) as u16, room, at + 2);
 }
 
-// The numbers of a list in a byte each, one after the other.
+// The numbers of a list in a byte each, which is the list itself.
 pub fn put_all1(numbers: &[u8], room: &mut [u8], at: usize)
     requires { at + 1 * length numbers.now ≤ length room.old }
     ensures { room.new ≡ laid at (all_bytes 1 numbers.now) room.old }
 {
-    let mut i: usize = 0;
-    while i < numbers.len() {
-        put1(numbers[i], room, at + 1 * i);
-        i += 1;
-    }
+    room[at..at + numbers.len()].copy_from_slice(numbers);
 }
 
-// In two bytes each.
+// In two bytes each, one after the other.
 pub fn put_all2(numbers: &[u16], room: &mut [u8], at: usize)
     requires { at + 2 * length numbers.now ≤ length room.old }
     ensures { room.new ≡ laid at (all_bytes 2 numbers.now) room.old }
 {
-    let mut i: usize = 0;
-    while i < numbers.len() {
-        put2(numbers[i], room, at + 2 * i);
-        i += 1;
+    for (i, number) in numbers.iter().enumerate() {
+        put2(*number, room, at + 2 * i);
     }
 }
 
@@ -65,9 +51,7 @@ pub fn put_all4(numbers: &[u32], room: &mut [u8], at: usize)
     requires { at + 4 * length numbers.now ≤ length room.old }
     ensures { room.new ≡ laid at (all_bytes 4 numbers.now) room.old }
 {
-    let mut i: usize = 0;
-    while i < numbers.len() {
-        put4(numbers[i], room, at + 4 * i);
-        i += 1;
+    for (i, number) in numbers.iter().enumerate() {
+        put4(*number, room, at + 4 * i);
     }
 }

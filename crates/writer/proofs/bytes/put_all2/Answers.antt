@@ -1,6 +1,5 @@
 -- `bytes::put_all2` meets its contract: a turn lays one number more, in two bytes. Assumes nothing.
 use mathlib.Core.Path.{refl}
-use Prim.Native.Nat.{◌-◌}
 use native.Mathlib.Omega.{arith}
 use Rattle.writer.proofs.Laying.{laying-none, laying-more, laying-all}
 use Rattle.writer.proofs.bytes.put_all2.Goals as goal
@@ -8,26 +7,8 @@ use Rattle.writer.proofs.bytes.put_all2.Goals as goal
 pub loop-i-init : goal.loop-i-init
 loop-i-init c = laying-none c.requires
 
-pub offset_bounds-numbers-i : goal.offset_bounds-numbers-i
-offset_bounds-numbers-i c = omega arith
-
-pub bounds-numbers-i : goal.bounds-numbers-i
-bounds-numbers-i c = omega arith
-
-pub overflow_mul-i : goal.overflow_mul-i
-overflow_mul-i c = omega arith
-
-pub overflow_add-at : goal.overflow_add-at
-overflow_add-at c = omega arith
-
 pub put2-requires : goal.put2-requires
 put2-requires c = omega (arith, c.loop-i.invariant.long)
-
-pub overflow_add-i : goal.overflow_add-i
-overflow_add-i c = omega arith
-
-pub loop-i-smaller : goal.loop-i-smaller
-loop-i-smaller c = omega arith
 
 pub loop-i-preserved : goal.loop-i-preserved
 loop-i-preserved c =

@@ -1,11 +1,6 @@
 -- `bytes::put_all2` meets its contract: a turn lays one number more, in two bytes. Assumes nothing.
-use Prim.Native.Nat.{◌-◌}
-use lib.ListN.{length}
 use Rattle.writer.proofs.Laying.{Laying}
 use Rattle.writer.proofs.bytes.put_all2.Given as goal
 
 abbrev pub invariant-loop-i : goal.invariant-loop-i
 invariant-loop-i l = Laying 2 l.numbers l.at l.initial.room l.room l.i
-
-abbrev pub decreases-loop-i : goal.decreases-loop-i
-decreases-loop-i l = length l.numbers - l.i
