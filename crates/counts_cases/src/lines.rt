@@ -18,13 +18,11 @@ fn put_entries(room: &[u64], n: u64, out: &mut [u8], at: usize) -> usize
     ensures { result ≤ length out.new }
 {
     let mut end = at;
-    let mut j: usize = 0;
-    while j < room.len() {
+    for (j, entry) in room.iter().enumerate() {
         if n < j as u64 {
             return end;
         }
-        end = put_entry(room[j], out, end);
-        j += 1;
+        end = put_entry(*entry, out, end);
     }
     end
 }

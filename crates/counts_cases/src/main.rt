@@ -123,17 +123,15 @@ fn run(bytes: &[u8], out: &mut [u8]) -> usize
         return 0;
     }
     let cases = words::word(bytes, 0);
-    let mut done: u64 = 0;
     let mut at: usize = 1;
     let mut end: usize = 0;
-    while done < cases {
+    for _ in 0..cases {
         let size = cases::case_size(bytes, at, HEAD);
         if size < HEAD {
             return end;
         }
         end = run_case(bytes, at, size, out, end);
         at += size;
-        done += 1;
     }
     end
 }

@@ -124,10 +124,8 @@ fn put_systems(
     ensures { Added (systems_text percent words file.now) out.old at out.new result }
 {
     let mut end = at;
-    let mut s: usize = 0;
-    while s < head.systems {
+    for s in 0..head.systems {
         end = put_system(percent, words, file, head, s, out, end);
-        s += 1;
     }
     end
 }

@@ -37,8 +37,7 @@ fn read_text(
 {
     let mut piece = [0u8; PIECE];
     let mut feeding = text_stream::start();
-    let mut pieces: u64 = 0;
-    while pieces < MOST_PIECES {
+    for _ in 0..MOST_PIECES {
         let Input::Filled(filled) = reading::read_some(input, &mut piece) else {
             failing::fail(rt, label, reading::why(input));
             break;
@@ -50,7 +49,6 @@ fn read_text(
             };
         }
         feeding = text_stream::feed(feeding, &piece[..filled], line, out);
-        pieces += 1;
     }
     Text {
         feeding,

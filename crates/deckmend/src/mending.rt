@@ -53,11 +53,9 @@ fn put_changes(list: &[u64], changed: usize, out: &mut [u8]) -> usize
     ensures reach { result ≤ change_room * changed }
 {
     let mut end: usize = 0;
-    let mut i: usize = 0;
-    while i < changed {
+    for i in 0..changed {
         let at = PER_CHANGE * i;
         end = put_change(list[at], list[at + 1], list[at + 2], out, end);
-        i += 1;
     }
     end
 }

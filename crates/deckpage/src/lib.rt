@@ -32,10 +32,8 @@ fn put_cards(file: &[u8], head: Head, out: &mut [u8], at: usize) -> usize
     ensures { Within result out.new }
 {
     let mut end = at;
-    let mut s: usize = 0;
-    while s < head.systems {
+    for s in 0..head.systems {
         end += card::put_card(file, head, s, &mut out[end..]);
-        s += 1;
     }
     end
 }

@@ -35,10 +35,8 @@ fn put_boards(file: &[u8], head: Head, out: &mut [u8], at: usize) -> usize
     ensures { Added (boards_text (deck_in file.now)) out.old at out.new result }
 {
     let mut end = at;
-    let mut i: usize = 0;
-    while i < head.boards {
+    for i in 0..head.boards {
         end = put_board(file, head, i, out, end);
-        i += 1;
     }
     end
 }
@@ -63,10 +61,8 @@ fn put_fans(file: &[u8], head: Head, out: &mut [u8], at: usize) -> usize
     ensures { Added (fans_text (deck_in file.now)) out.old at out.new result }
 {
     let mut end = at;
-    let mut i: usize = 0;
-    while i < head.fans {
+    for i in 0..head.fans {
         end = put_fan(file, head, i, out, end);
-        i += 1;
     }
     end
 }
@@ -98,10 +94,8 @@ fn put_systems(file: &[u8], head: Head, out: &mut [u8], at: usize) -> usize
     ensures { Added (systems_text (deck_in file.now)) out.old at out.new result }
 {
     let mut end = at;
-    let mut s: usize = 0;
-    while s < head.systems {
+    for s in 0..head.systems {
         end = put_system(file, head, s, out, end);
-        s += 1;
     }
     end
 }

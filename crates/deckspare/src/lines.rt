@@ -73,8 +73,7 @@ fn put_systems(
     ensures { Added (systems_text p wanted file.now) out.old 0 out.new result }
 {
     let mut end = 0;
-    let mut s: usize = 0;
-    while s < head.systems {
+    for s in 0..head.systems {
         let job = Job {
             s,
             p,
@@ -82,7 +81,6 @@ fn put_systems(
             two: wanted.two,
         };
         end = put_system(rt, file, head, job, out, end);
-        s += 1;
     }
     end
 }

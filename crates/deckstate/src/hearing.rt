@@ -193,13 +193,11 @@ fn hear_words(rt: &HostRuntime, n: u64, g: u64, boards: &[u8]) -> AllHeard
     let mut word = [0u8; WORD];
     let mut hearing = silence();
     let mut at: usize = 0;
-    let mut i: usize = 1;
-    while i < count {
+    for i in 1..count {
         let length = words::put_word(rt, i, &mut word);
         let next = hear(n, g, boards, hearing, i, &word[..length]);
         at = listened(hearing, next, i, at);
         hearing = next;
-        i += 1;
     }
     AllHeard { hearing, at }
 }

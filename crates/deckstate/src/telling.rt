@@ -62,10 +62,8 @@ fn put_systems(file: &[u8], head: Head, state: u64, out: &mut [u8]) -> usize
     ensures { Added (states_text state file.now) out.old 0 out.new result }
 {
     let mut end: usize = 0;
-    let mut s: usize = 0;
-    while s < head.systems {
+    for s in 0..head.systems {
         end = put_system(file, head, s, state, out, end);
-        s += 1;
     }
     end
 }

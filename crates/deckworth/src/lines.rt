@@ -98,10 +98,8 @@ fn put_fans(words: bool, file: &[u8], head: Head, s: usize, out: &mut [u8], at: 
     ensures { Added (fans_text words file.now s) out.old at out.new result }
 {
     let mut end = at;
-    let mut i: usize = 0;
-    while i < head.fans {
+    for i in 0..head.fans {
         end = put_fan(words, file, head, s, i, out, end);
-        i += 1;
     }
     end
 }
@@ -121,10 +119,8 @@ fn put_some(
     ensures { Added (some_text words file.now from count) out.old 0 out.new result }
 {
     let mut end = 0;
-    let mut k: usize = 0;
-    while k < count {
+    for k in 0..count {
         end = put_fans(words, file, head, from + k, out, end);
-        k += 1;
     }
     end
 }

@@ -113,17 +113,15 @@ fn run(bytes: &[u8], out: &mut [u8]) -> usize
         return 0;
     }
     let cases = words::word(bytes, 0);
-    let mut done: u64 = 0;
     let mut at: usize = 1;
     let mut end: usize = 0;
-    while done < cases {
+    for _ in 0..cases {
         let s = size::sizes_at(bytes, at);
         if !s.whole {
             return end;
         }
         end = run_case(bytes, at, s, out, end);
         at += s.long;
-        done += 1;
     }
     end
 }

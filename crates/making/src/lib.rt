@@ -53,11 +53,10 @@ fn put_warnings(file: &[u8], count: usize, out: &mut [u8]) -> usize
 {
     let opened = deck::open(file);
     let mut end: usize = 0;
-    let mut s: usize = 0;
-    while s < count {
-        s += 1;
-        let rating = systems::rate_opened(file, opened, s as u64);
-        end = put_warning(s as u64, rating, out, end);
+    for s in 0..count {
+        let system = s as u64 + 1;
+        let rating = systems::rate_opened(file, opened, system);
+        end = put_warning(system, rating, out, end);
     }
     end
 }

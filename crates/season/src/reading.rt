@@ -69,8 +69,10 @@ fn read_stream(
     let mut piece = [0u8; LONGEST];
     let mut reading = season_stream::start();
     let mut source = source;
-    let mut pieces: u64 = 0;
-    while pieces < MOST_PIECES && !reading.closed {
+    for _ in 0..MOST_PIECES {
+        if reading.closed {
+            break;
+        }
         let wanted = season_stream::lacks(reading);
         let more = read_piece(rt, asked, source, label, wanted, &mut piece);
         source = more.source;
@@ -83,7 +85,6 @@ fn read_stream(
         }
         reading = season_stream::feed(reading, &piece[..filled]);
         show(rt, shown, reading);
-        pieces += 1;
     }
     Got {
         reading,

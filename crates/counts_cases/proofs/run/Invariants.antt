@@ -1,12 +1,8 @@
--- `counts_cases::run` meets its contract: the next case stands within the file, and the lines so far within the buffer. The measure is the
+-- `counts_cases::run` meets its contract: the next case stands within the file, and the lines so far within the buffer. Assumes nothing.
 use Prim.Native.Nat.{◌-◌}
 use Rattle.casefile.specs.Cases.{Running}
 use Rattle.counts_cases.proofs.run.Given as goal
 
--- number of cases left. Assumes nothing.
-abbrev pub invariant-loop-done : goal.invariant-loop-done
-invariant-loop-done l =
+abbrev pub invariant-loop : goal.invariant-loop
+invariant-loop l =
     Running l.bytes l.initial.out l.at l.out l.end
-
-abbrev pub decreases-loop-done : goal.decreases-loop-done
-decreases-loop-done l = l.cases - l.done

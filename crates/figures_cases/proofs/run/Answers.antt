@@ -1,4 +1,4 @@
--- `figures_cases::run` meets its contract: the next case stands within the file, and the lines so far within the buffer. The measure is the
+-- `figures_cases::run` meets its contract: the next case stands within the file, and the lines so far within the buffer. Assumes nothing.
 use mathlib.Core.Path.{refl}
 use Prim.Native.Nat.{◌-◌}
 use native.Mathlib.Omega.{arith}
@@ -16,39 +16,33 @@ returns-then-whole-lt1 c = (omega arith, refl)
 pub word-cases-requires : goal.word-cases-requires
 word-cases-requires c = search rules
 
-pub loop-done-init : goal.loop-done-init
-loop-done-init c = record { place = omega arith; kept = refl; within = omega arith }
+pub loop-init : goal.loop-init
+loop-init c = record { place = omega arith; kept = refl; within = omega arith }
 
 pub sizes_at-s-requires : goal.sizes_at-s-requires
 sizes_at-s-requires c = omega arith
 
 pub shape_of-out-then-not-s : goal.shape_of-out-then-not-s
-shape_of-out-then-not-s c = c.loop-done.invariant.kept
+shape_of-out-then-not-s c = c.loop.invariant.kept
 
 pub returns-then-not-s : goal.returns-then-not-s
-returns-then-not-s c = run-written c.loop-done.invariant
+returns-then-not-s c = run-written c.loop.invariant
 
 pub run_case-end-requires : goal.run_case-end-requires
 run_case-end-requires c =
-    record { case = c.sizes_at-s.ensures (not-false _ c.if-not-s.false); within = c.loop-done.invariant.within }
+    record { case = c.sizes_at-s.ensures (not-false _ c.if-not-s.false); within = c.loop.invariant.within }
 
 pub overflow_add-at : goal.overflow_add-at
 overflow_add-at c =
     omega (arith, c.sizes_at-s.ensures (not-false _ c.if-not-s.false), c.well_formed.0.0)
 
-pub overflow_add-done : goal.overflow_add-done
-overflow_add-done c = omega arith
-
-pub loop-done-smaller : goal.loop-done-smaller
-loop-done-smaller c = omega arith
-
-pub loop-done-preserved : goal.loop-done-preserved
-loop-done-preserved c =
+pub loop-preserved : goal.loop-preserved
+loop-preserved c =
     let whole = c.sizes_at-s.ensures (not-false _ c.if-not-s.false) in
-    case-passed c.loop-done.invariant (omega (arith, whole.ends, whole.long)) (omega (arith, c.run_case-end.auto)) c.run_case-end.ensures
+    case-passed c.loop.invariant (omega (arith, whole.ends, whole.long)) (omega (arith, c.run_case-end.auto)) c.run_case-end.ensures
 
 pub shape_of-out : goal.shape_of-out
-shape_of-out c = c.loop-done.invariant.kept
+shape_of-out c = c.loop.invariant.kept
 
 pub returns : goal.returns
-returns c = run-written c.loop-done.invariant
+returns c = run-written c.loop.invariant

@@ -1,5 +1,4 @@
 -- `making::make` meets its contract: where something is told, that is what is said; else nothing is, the writer does not refuse, and the warnings are said. Assumes nothing.
-use borrow.Author.Rules.{rules}
 use Rattle.making.proofs.Saying.{told-made, none_made}
 use Rattle.making.proofs.make.Goals as goal
 
@@ -20,12 +19,6 @@ slice_bounds-put_warnings-end-2 c = c.put_file-size.ensures.counts.1
 pub put_warnings-end-requires : goal.put_warnings-end-requires
 put_warnings-end-requires c =
     record { few = c.requires.sane.counted.systems; room = c.requires.room.1 }
-
-pub shape_of-file : goal.shape_of-file
-shape_of-file c = search rules
-
-pub shape_of-out : goal.shape_of-out
-shape_of-out c = search rules
 
 pub returns : goal.returns
 returns c =

@@ -5,7 +5,6 @@ use lib.Seq.{length-take-le}
 use Rattle.grammar.specs.Text.{typed_by}
 use Rattle.listing.proofs.Handed.{held-typed}
 use Rattle.making.proofs.Filing.{written-counts, file-written, never_other}
-use borrow.Author.Rules.{rules}
 use Rattle.making.proofs.put_file.Goals as goal
 
 pub overflow_cast-n : goal.overflow_cast-n
@@ -55,18 +54,6 @@ slice_bounds-numbers-end c =
 pub slice_bounds-write_deck-end-5 : goal.slice_bounds-write_deck-end-5
 slice_bounds-write_deck-end-5 c = sym (length-take-le _ _ ((omega (arith, c.requires.systems))))
 
-pub write_deck-written-requires : goal.write_deck-written-requires
-write_deck-written-requires c = search rules
-
-pub enum_known-written : goal.enum_known-written
-enum_known-written c = search rules
-
-pub enum_known-written-in-Refused-1 : goal.enum_known-written-in-Refused-1
-enum_known-written-in-Refused-1 c = search rules
-
-pub shape_of-file-in-Written : goal.shape_of-file-in-Written
-shape_of-file-in-Written c = search rules
-
 pub returns-in-Written : goal.returns-in-Written
 returns-in-Written c =
     let wrote-file = rw c.in-Written.is at c.write_deck-written.ensures in
@@ -76,9 +63,6 @@ returns-in-Written c =
           let e = held-typed h c.numbers-numbers.result c.numbers-numbers.ensures in
           file-written (typed_by s) _ _ _ (rw e at wrote-file);
     }
-
-pub shape_of-file-in-Refused : goal.shape_of-file-in-Refused
-shape_of-file-in-Refused c = search rules
 
 pub returns-in-Refused : goal.returns-in-Refused
 returns-in-Refused c =

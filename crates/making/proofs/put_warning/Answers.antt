@@ -2,17 +2,7 @@
 use native.Mathlib.Omega.{arith}
 use Rattle.text.specs.Decimal.{text}
 use Rattle.text.proofs.Adding.{none-added, put-added, added_more, pair-reach}
-use borrow.Author.Rules.{rules}
 use Rattle.making.proofs.put_warning.Goals as goal
-
-pub enum_known-rating : goal.enum_known-rating
-enum_known-rating c = search rules
-
-pub enum_known-rating-in-Refused-1 : goal.enum_known-rating-in-Refused-1
-enum_known-rating-in-Refused-1 c = search rules
-
-pub put_pair-end-requires : goal.put_pair-end-requires
-put_pair-end-requires c = search rules
 
 pub put-requires : goal.put-requires
 put-requires c =
@@ -21,9 +11,6 @@ put-requires c =
 pub returns-in-Range : goal.returns-in-Range
 returns-in-Range c =
     rw c.in-Range.is (none-added c.args.out.now c.args.at)
-
-pub shape_of-out : goal.shape_of-out
-shape_of-out c = search rules
 
 pub returns-in-Refused : goal.returns-in-Refused
 returns-in-Refused c =

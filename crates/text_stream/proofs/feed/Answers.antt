@@ -7,12 +7,8 @@ use lib.ListN.{length, take, drop, length-drop, length-take}
 use lib.Seq.{length-take-le, take_all}
 use Rattle.text_stream.specs.Feeding.{line_room}
 use Rattle.text_stream.proofs.Pieces.{fed-part, fed-lines}
-use borrow.Author.Rules.{rules}
 use Rattle.text_stream.proofs.feed.Goals as goal
 use Rattle.text_stream.proofs.feed.Goals.{After-slice_known-3-1}
-
-pub line_end-first-requires : goal.line_end-first-requires
-line_end-first-requires c = search rules
 
 pub slice_bounds-keep-end : goal.slice_bounds-keep-end
 slice_bounds-keep-end c =
@@ -21,9 +17,6 @@ slice_bounds-keep-end c =
 pub keep-kept-requires : goal.keep-kept-requires
 keep-kept-requires c =
     (c.requires.sane.1, c.requires.sane.0.within)
-
-pub shape_of-line-then-first-piece : goal.shape_of-line-then-first-piece
-shape_of-line-then-first-piece c = search rules
 
 pub returns-then-first-piece : goal.returns-then-first-piece
 returns-then-first-piece c =
@@ -44,9 +37,6 @@ pub read_line-across-requires : goal.read_line-across-requires
 read_line-across-requires c =
     (c.requires.sane.0.listing, omega (arith, c.line_end-first.ensures.high, c.if-first-piece.false, c.requires.piece_bound))
 
-pub overflow_add-tail : goal.overflow_add-tail
-overflow_add-tail c = search rules
-
 pub slice_bounds-tail-count : goal.slice_bounds-tail-count
 slice_bounds-tail-count c =
     omega (arith, c.line_end-first.ensures.high, c.if-first-piece.false)
@@ -63,12 +53,6 @@ slice_bounds-keep-count c =
 pub keep-rest-requires : goal.keep-rest-requires
 keep-rest-requires c =
     (omega (arith, c.keep-kept.auto, c.requires.sane.1), omega arith)
-
-pub shape_of-line : goal.shape_of-line
-shape_of-line c = search rules
-
-pub shape_of-out : goal.shape_of-out
-shape_of-out c = search rules
 
 pub returns : goal.returns
 returns c =

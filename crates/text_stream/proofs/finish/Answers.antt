@@ -3,15 +3,11 @@ use mathlib.Core.Path.{sym}
 use native.Mathlib.Omega.{arith}
 use lib.Seq.{length-take-le}
 use Rattle.text_stream.proofs.Pieces.{ends-none, ends-line}
-use borrow.Author.Rules.{rules}
 use Rattle.text_stream.proofs.finish.Goals as goal
 
 pub last-requires : goal.last-requires
 last-requires c =
     (c.requires.sane.0.listing, omega (arith, c.requires.lines_bound))
-
-pub shape_of-out-then-kept-eq0 : goal.shape_of-out-then-kept-eq0
-shape_of-out-then-kept-eq0 c = search rules
 
 pub returns-then-kept-eq0 : goal.returns-then-kept-eq0
 returns-then-kept-eq0 c =
@@ -28,9 +24,6 @@ read_line-read-requires c =
 pub last-requires-2 : goal.last-requires-2
 last-requires-2 c =
     (c.read_line-read.ensures.sane, omega (arith, c.requires.lines_bound, c.read_line-read.ensures.few))
-
-pub shape_of-out : goal.shape_of-out
-shape_of-out c = search rules
 
 pub returns : goal.returns
 returns c =

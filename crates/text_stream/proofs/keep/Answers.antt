@@ -7,17 +7,7 @@ use lib.Seq.{length-take-le}
 use Rattle.text.proofs.Adding.{put-added}
 use Rattle.text_stream.specs.Feeding.{line_room}
 use Rattle.text_stream.proofs.Pieces.{kept-all, kept-cut}
-use borrow.Author.Rules.{rules}
 use Rattle.text_stream.proofs.keep.Goals as goal
-
-pub overflow_sub-left : goal.overflow_sub-left
-overflow_sub-left c = search rules
-
-pub put-requires : goal.put-requires
-put-requires c = search rules
-
-pub shape_of-line-then-more-left : goal.shape_of-line-then-more-left
-shape_of-line-then-more-left c = search rules
 
 pub returns-then-more-left : goal.returns-then-more-left
 returns-then-more-left c =
@@ -27,12 +17,6 @@ returns-then-more-left c =
 pub slice_bounds-put-end : goal.slice_bounds-put-end
 slice_bounds-put-end c =
     sym (length-take-le _ _ (omega (arith, c.if-more-left.false)))
-
-pub put-requires-2 : goal.put-requires-2
-put-requires-2 c = search rules
-
-pub shape_of-line : goal.shape_of-line
-shape_of-line c = search rules
 
 pub returns : goal.returns
 returns c =

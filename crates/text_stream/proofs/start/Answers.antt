@@ -7,11 +7,7 @@ use lib.ListN.{replicate, length-replicate}
 use Rattle.typed_lists.specs.Told.{told_room}
 use Rattle.grammar.specs.Text.{nothing}
 use Rattle.listing.proofs.Handed.{sane-held}
-use borrow.Author.Rules.{rules}
 use Rattle.text_stream.proofs.start.Goals as goal
-
-pub none-listing-requires : goal.none-listing-requires
-none-listing-requires c = search rules
 
 pub returns : goal.returns
 returns c =

@@ -4,11 +4,7 @@ use Rattle.text.specs.Decimal.{text}
 use Rattle.text.proofs.Adding.{put-added, named-added, named-reach, added_more}
 use Rattle.wording.specs.Lines.{fan_text}
 use Rattle.wording.proofs.Lengths.{some-short}
-use borrow.Author.Rules.{rules}
 use Rattle.wording.proofs.put_fan.Goals as goal
-
-pub put_named-number-requires : goal.put_named-number-requires
-put_named-number-requires c = search rules
 
 pub put_some-weighed-requires : goal.put_some-weighed-requires
 put_some-weighed-requires c =
@@ -28,9 +24,6 @@ put-requires c =
     let weighs = some-short (text " weight ") c.args.weight in
     let stands = some-short (text " on ") c.args.board in
     omega (arith, c.requires, c.put_named-number.auto, reach, c.put_some-weighed.auto, c.put_some-weighed.ensures.ends, c.put_some-end.auto, c.put_some-end.ensures.ends)
-
-pub shape_of-out : goal.shape_of-out
-shape_of-out c = search rules
 
 pub returns : goal.returns
 unfolding fan_text

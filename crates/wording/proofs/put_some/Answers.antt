@@ -2,17 +2,10 @@
 use native.Mathlib.Omega.{arith}
 use borrow.Author.Tests.{eq-eqb, ne_eqb}
 use Rattle.text.proofs.Adding.{none-added, named-added}
-use borrow.Author.Rules.{rules}
 use Rattle.wording.proofs.put_some.Goals as goal
 
 pub returns-then-n-eq0 : goal.returns-then-n-eq0
 returns-then-n-eq0 c = rw (eq-eqb _ 0 c.if-n-eq0.true) (none-added c.args.out.now c.args.at)
-
-pub put_named-requires : goal.put_named-requires
-put_named-requires c = search rules
-
-pub shape_of-out : goal.shape_of-out
-shape_of-out c = search rules
 
 pub returns : goal.returns
 returns c =

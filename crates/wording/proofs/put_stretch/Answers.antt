@@ -3,19 +3,12 @@ use mathlib.Core.Logic.{inl, inr}
 use borrow.Author.Tests.{eq-eqb}
 use Rattle.text.proofs.Adding.{none-added}
 use Rattle.wording.proofs.Rows.{not-whole}
-use borrow.Author.Rules.{rules}
 use Rattle.wording.proofs.put_stretch.Goals as goal
 use Rattle.wording.proofs.put_stretch.Goals.{then-a-eq1+else-b-n, else-a-eq1}
 
 pub returns-then-b-n : goal.returns-then-b-n
 returns-then-b-n c =
     rw (eq-eqb _ 1 c.if-a-eq1.true, eq-eqb _ _ c.if-b-n.true) (none-added c.args.out.now c.args.at)
-
-pub put_pair-requires : goal.put_pair-requires
-put_pair-requires c = search rules
-
-pub shape_of-out : goal.shape_of-out
-shape_of-out c = search rules
 
 pub returns : goal.returns
 returns c =

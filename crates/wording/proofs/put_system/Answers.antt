@@ -3,11 +3,7 @@ use native.Mathlib.Omega.{arith}
 use Rattle.text.proofs.Adding.{put-added, added_more}
 use Rattle.wording.specs.Lines.{system_text}
 use Rattle.wording.proofs.Lengths.{rule-short, stretch-short}
-use borrow.Author.Rules.{rules}
 use Rattle.wording.proofs.put_system.Goals as goal
-
-pub put-name-requires : goal.put-name-requires
-put-name-requires c = search rules
 
 pub put_rule-words-requires : goal.put_rule-words-requires
 put_rule-words-requires c =
@@ -26,9 +22,6 @@ put-requires c =
     let short = rule-short c.args.kind c.args.first c.args.second in
     let ends = stretch-short c.args.n c.args.a c.args.b in
     omega (arith, c.requires, c.put-name.auto, one.ends, c.put_rule-words.auto, c.put_rule-words.ensures.ends, c.put_stretch-end.auto, c.put_stretch-end.ensures.ends)
-
-pub shape_of-out : goal.shape_of-out
-shape_of-out c = search rules
 
 pub returns : goal.returns
 unfolding system_text

@@ -1,18 +1,11 @@
 -- `put_two` meets its contract: the two numbers and what stands behind them fit. Assumes nothing.
 use native.Mathlib.Omega.{arith}
 use Rattle.text.proofs.Adding.{put-added, pair-reach, added_more}
-use borrow.Author.Rules.{rules}
 use Rattle.wording.proofs.put_two.Goals as goal
-
-pub put_pair-end-requires : goal.put_pair-end-requires
-put_pair-end-requires c = search rules
 
 pub put-requires : goal.put-requires
 put-requires c =
     omega (arith, c.requires, c.put_pair-end.auto, pair-reach c.args.before.now c.args.a c.args.between.now c.args.b c.put_pair-end.ensures)
-
-pub shape_of-out : goal.shape_of-out
-shape_of-out c = search rules
 
 pub returns : goal.returns
 returns c =

@@ -5,7 +5,4 @@ use lib.ListN.{length}
 use Rattle.counts_cases.proofs.lines.put_entries.Given as goal
 
 abbrev pub invariant-loop-j : goal.invariant-loop-j
-invariant-loop-j l = (l.j ≤ length l.room) × (length l.out ≡ length l.initial.out) × (l.end ≤ length l.out)
-
-abbrev pub decreases-loop-j : goal.decreases-loop-j
-decreases-loop-j l = length l.room - l.j
+invariant-loop-j l = l.end ≤ length l.out

@@ -1,4 +1,4 @@
--- `lines::put_systems` meets its contract: the buffer so far has the lines of the systems passed, and room for the rest. The measure is the
+-- `lines::put_systems` meets its contract: the buffer so far has the lines of the systems passed, and room for the rest. Assumes nothing.
 use Prim.Native.Nat.{◌+◌}
 use native.Mathlib.Omega.{arith}
 use Rattle.rules.specs.State.{unit_of}
@@ -19,13 +19,6 @@ put_system-end-requires c =
       room = room-left c.loop-s.invariant line_room most_systems (λ s. line-short c.args.percent c.args.words u (s + 1) (why_in c.args.file.now s) (answer_in c.args.file.now s)) c.loop-s-test.true (few-systems c.requires.headed)
           c.requires.room;
     }
-
-pub overflow_add-s : goal.overflow_add-s
-overflow_add-s c =
-    omega (arith, c.loop-s-test.true, few-systems c.requires.headed)
-
-pub loop-s-smaller : goal.loop-s-smaller
-loop-s-smaller c = omega (arith, c.loop-s-test.true)
 
 pub loop-s-preserved : goal.loop-s-preserved
 loop-s-preserved c =

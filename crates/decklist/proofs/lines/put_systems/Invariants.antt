@@ -1,12 +1,8 @@
--- `lines::put_systems` meets its contract: the buffer so far has the lines of the systems passed, and room for the rest. The measure is the
+-- `lines::put_systems` meets its contract: the buffer so far has the lines of the systems passed, and room for the rest. Assumes nothing.
 use Prim.Native.Nat.{◌-◌}
 use Rattle.printing.proofs.Lined.{Lined}
 use Rattle.decklist.specs.Lines.{system_line}
 use Rattle.decklist.proofs.lines.put_systems.Given as goal
 
--- number of systems left. Assumes nothing.
 abbrev pub invariant-loop-s : goal.invariant-loop-s
 invariant-loop-s l = Lined l.head.systems (system_line l.percent l.words l.file) l.initial.out l.at l.out l.end l.s
-
-abbrev pub decreases-loop-s : goal.decreases-loop-s
-decreases-loop-s l = l.head.systems - l.s

