@@ -3,7 +3,7 @@
 #![tactic(auto)]
 
 ghost use Rattle.std.specs.Prelude.{◌≡◌, not, false, ◌+◌, ◌^◌, ◌≤◌, ◌<◌, eqb, length, get_or};
-ghost use Rattle.rules.specs.Refusal.{most_boards};
+ghost use Rattle.rules.specs.Refusal.{most_boards, refusal_in};
 ghost use Rattle.rules.specs.File.{most_fans, switchboards_offset, number_at, board_count_in, system_in, deck_in};
 ghost use Rattle.rules.specs.File.{bad_start, boards_elsewhere, bad_layout, misplaced_in};
 ghost use Rattle.rules.specs.Doubles.{other_refusal};
@@ -13,7 +13,8 @@ ghost use Rattle.deck.specs.Head.{lists_elsewhere, boards_by, length_by, counts_
 ghost use Rattle.deck.specs.Outcome.{body_refusal, refused_by, Opens, Headed, Placed};
 
 use layout::number;
-use rules::{System, limit, refusal};
+use rules::refusal::{self, Refusal};
+use rules::{System, limit};
 
 // A file's head: its version, and how many fans, systems and boards it has, n, m and g.
 #[derive(Clone, Copy)]
@@ -74,20 +75,20 @@ pub fn length_given(head: Head) -> usize
     layout::file_length(head.version, head.fans, head.boards, head.systems)
 }
 
-// Refusals 2, 12 and 20, of the counts that a head gives; 0 for none.
-pub fn counts_refusal(head: Head) -> u64
-    ensures { result ≡ counts_refusal head }
+// Refusals 2, 12 and 20, of the counts that a head gives.
+pub fn counts_refusal(head: Head) -> Result<(), Refusal>
+    ensures { refusal_in result ≡ counts_refusal head }
 {
     if refusals::outside(1, head.fans as u64, limit::FANS as u64) {
-        return refusal::SIZE;
+        return Err(Refusal::Size);
     }
     if refusals::outside(1, head.systems as u64, limit::SYSTEMS as u64) {
-        return refusal::SYSTEMS;
+        return Err(Refusal::Systems);
     }
     if board_lists::boards_out(head.version, head.boards as u64) {
-        return refusal::BOARDS;
+        return Err(Refusal::Boards);
     }
-    0
+    Ok(())
 }
 
 // Is the offset in a field of the header not the layout's?
@@ -155,22 +156,19 @@ fn misplaced(bytes: &[u8], head: Head) -> bool
     board_lists::misplaced(head.version, n, head.boards as u64, boards, 0, n)
 }
 
-// Refusals 2, 12, 20, 13 and 21, of a file whose header is there; 0 for none.
-fn body_refusal(bytes: &[u8], head: Head) -> u64
+// Refusals 2, 12, 20, 13 and 21, of a file whose header is there.
+fn body_refusal(bytes: &[u8], head: Head) -> Result<(), Refusal>
     requires { Given bytes.now head }
-    ensures { result ≡ body_refusal bytes.now }
+    ensures { refusal_in result ≡ body_refusal bytes.now }
 {
-    let counted = counts_refusal(head);
-    if counted != 0 {
-        return counted;
-    }
+    counts_refusal(head)?;
     if bad_layout(bytes, head) {
-        return refusal::LAYOUT;
+        return Err(Refusal::Layout);
     }
     if misplaced(bytes, head) {
-        return refusal::BOARD;
+        return Err(Refusal::Board);
     }
-    0
+    Ok(())
 }
 
 // A refusal, with a head of zeros beside it.
@@ -201,9 +199,8 @@ pub fn open(file: &[u8]) -> Opened
         return refused(refusal::SHORT);
     }
     let head = head_given(file, version);
-    let found = body_refusal(file, head);
-    if found != 0 {
-        return refused(found);
+    if let Err(found) = body_refusal(file, head) {
+        return refused(found.number());
     }
     Opened { refusal: 0, head }
 }

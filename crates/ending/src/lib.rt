@@ -25,7 +25,7 @@ pub fn asks(bytes: &[u8]) -> usize
         return header;
     }
     let head = deck::head_given(bytes, version);
-    if deck::counts_refusal(head) != 0 {
+    if let Err(_) = deck::counts_refusal(head) {
         return header;
     }
     deck::length_given(head)

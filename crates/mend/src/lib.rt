@@ -6,6 +6,7 @@ mod changes; // changes.rt: where two lists of bytes differ
 
 ghost use Rattle.std.specs.Prelude.{◌≡◌, ◌*◌, ◌≤◌, length, replicate};
 ghost use Rattle.rules.specs.File.{header_length};
+ghost use Rattle.rules.specs.Refusal.{refusal_in};
 ghost use Rattle.rules.specs.Mending.{mended, per_change, changes_in, changed_in};
 ghost use Rattle.deck.specs.Head.{Given};
 ghost use Rattle.writer.specs.Laid.{laid};
@@ -14,27 +15,25 @@ ghost use Rattle.mend.specs.Outcome.{longest_header, Mended};
 
 use deck::{Head, Opened};
 use layout::number;
-use rules::{Mending, refusal};
+use rules::Mending;
+use rules::refusal::{self, Refusal};
 use writer::bytes as laying;
 
 // The longest header.
 const HEADER: usize = 28;
 
-// Refusals 2, 12, 20 and 22, of a file whose header is there, checked in that order; 0 for none.
-fn cut_refusal(bytes: &[u8], head: Head) -> u64
+// Refusals 2, 12, 20 and 22, of a file whose header is there, checked in that order.
+fn cut_refusal(bytes: &[u8], head: Head) -> Result<(), Refusal>
     requires { Given bytes.now head }
-    ensures { result ≡ cut_refusal bytes.now }
+    ensures { refusal_in result ≡ cut_refusal bytes.now }
 {
     let counted = deck::counts_refusal(head);
-    let miscounted = counted != 0;
     let early = bytes.len() < deck::length_given(head);
-    if miscounted {
-        return counted;
-    }
+    counted?;
     if early {
-        return refusal::CUT;
+        return Err(Refusal::Cut);
     }
-    0
+    Ok(())
 }
 
 // Looks at a file: its refusal, 10, 11 for the version only, 10 again, 2, 12, 20 and 22, checked in that order, or its
@@ -53,11 +52,11 @@ fn look(bytes: &[u8]) -> Opened
         return deck::refused(refusal::SHORT);
     }
     let head = deck::head_given(bytes, version);
-    let found = cut_refusal(bytes, head);
-    Opened {
-        refusal: found,
-        head,
-    }
+    let refusal = match cut_refusal(bytes, head) {
+        Ok(()) => 0,
+        Err(found) => found.number(),
+    };
+    Opened { refusal, head }
 }
 
 // How long the header is.

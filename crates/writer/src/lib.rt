@@ -6,11 +6,13 @@ pub mod bytes; // bytes.rt: numbers as bytes, laid over a room
 
 ghost use Rattle.std.specs.Prelude.{◌≡◌, ◌/◌, length};
 ghost use Rattle.rules.specs.Boards.{boards_read};
+ghost use Rattle.rules.specs.Refusal.{refusal_in};
 ghost use Rattle.rules.specs.File.{per_system, file_length, header_of};
 ghost use Rattle.rules.specs.Writing.{typed_of, bytes_for, bad_fives, write_refusal};
 ghost use Rattle.writer.specs.Laid.{laid};
 ghost use Rattle.writer.specs.Outcome.{Sized, Heads, Wrote};
 
+use rules::refusal::Refusal;
 use rules::{Writing, limit};
 
 // A system is typed as five numbers: kind, first, second, a, b.
@@ -36,7 +38,7 @@ fn file_size(version: u64, n: usize, switchboards: &[u32], systems: &[u16]) -> u
     layout::file_length(version, n, own.len(), systems.len() / PER_SYSTEM)
 }
 
-// Refusals 11, 2, 5, 12, 20, 21 and 16, checked in that order; 0 for none.
+// Refusals 11, 2, 5, 12, 20, 21 and 16, checked in that order.
 fn refusal(
     version: u64,
     survival: &[u32],
@@ -45,33 +47,30 @@ fn refusal(
     switchboards: &[u32],
     systems: &[u16],
     room: &[u8],
-) -> u64
-    ensures { result ≡ write_refusal (typed_of version survival.now weights.now
+) -> Result<(), Refusal>
+    ensures { refusal_in result ≡ write_refusal (typed_of version survival.now weights.now
         boards.now switchboards.now systems.now) room.now }
 {
     if refusals::version_out(version) {
-        return rules::refusal::VERSION;
+        return Err(Refusal::Version);
     }
     let n = survival.len();
     if refusals::size_out(n as u64) {
-        return rules::refusal::SIZE;
+        return Err(Refusal::Size);
     }
     let unpaired = weights.len() != n;
     let bad_systems = bad_fives(systems.len());
     if unpaired {
-        return rules::refusal::WEIGHTS;
+        return Err(Refusal::Weights);
     }
     if bad_systems {
-        return rules::refusal::SYSTEMS;
+        return Err(Refusal::Systems);
     }
-    let boarded = board_lists::refusal(version, n, switchboards.len() as u64, boards, 0, n);
-    if boarded != 0 {
-        return boarded;
-    }
+    board_lists::refusal(version, n, switchboards.len() as u64, boards, 0, n)?;
     if room.len() < file_size(version, n, switchboards, systems) {
-        return rules::refusal::ROOM;
+        return Err(Refusal::Room);
     }
-    0
+    Ok(())
 }
 
 // The header of a file of n fans, g boards and m systems: its version and counts in two bytes each, then its offsets in
@@ -137,7 +136,7 @@ pub fn write_deck(
     ensures { Wrote (typed_of version survival.now weights.now boards.now
         switchboards.now systems.now) room.old room.new result }
 {
-    let refused = refusal(
+    if let Err(refused) = refusal(
         version,
         survival,
         weights,
@@ -145,9 +144,8 @@ pub fn write_deck(
         switchboards,
         systems,
         room,
-    );
-    if refused != 0 {
-        return Writing::Refused(refused);
+    ) {
+        return Writing::Refused(refused.number());
     }
     put_file(
         version,

@@ -1,6 +1,8 @@
 -- `deck::body_refusal` meets its contract: the counts' refusal, then 13, then 21. Assumes nothing.
 use mathlib.Core.Path.{◌≡◌, sym, ap, ◌∙◌}
 use mathlib.Core.List.{[]}
+use Rattle.rules.specs.Refusal.{refusal_in}
+use Rattle.rules.proofs.Numbers.{number-some, handed_on}
 use Rattle.rules.proofs.Unless.{after_none, after-some}
 use Rattle.rules.proofs.Accepted.{first-of, first-after}
 use Rattle.deck.specs.Head.{head_of, counts_refusal}
@@ -9,27 +11,21 @@ use Rattle.deck.proofs.Checks.{none_left}
 use Rattle.deck.proofs.Outcome.{head-is}
 use borrow.Author.Rules.{rules}
 use Rattle.deck.proofs.body_refusal.Goals as goal
-use Rattle.deck.proofs.body_refusal.Goals.{After-counts_refusal-counted}
+use Rattle.deck.proofs.body_refusal.Goals.{After-counts_refusal}
 
-counted : (c : After-counts_refusal-counted) → c.counts_refusal-counted.result ≡ counts_refusal (head_of c.args.bytes.now)
-counted c = c.counts_refusal-counted.ensures ∙ ap counts_refusal (head-is c.requires.says)
+counted : (c : After-counts_refusal) → refusal_in c.counts_refusal.result ≡ counts_refusal (head_of c.args.bytes.now)
+counted c = c.counts_refusal.ensures ∙ ap counts_refusal (head-is c.requires.says)
 
-pub counts_refusal-counted-requires : goal.counts_refusal-counted-requires
-counts_refusal-counted-requires c = search rules
-
-pub returns-then-counted-ne0 : goal.returns-then-counted-ne0
+pub returns-in_err-counts_refusal : goal.returns-in_err-counts_refusal
 unfolding body_refusal
-returns-then-counted-ne0 c =
-    let e = counted ((goal.at.returns-then-counted-ne0 c).After-counts_refusal-counted) in
-    e ∙ sym (after-some _ _ (λ z. c.if-counted-ne0.true (e ∙ z)))
-
-pub bad_layout-requires : goal.bad_layout-requires
-bad_layout-requires c = search rules
+returns-in_err-counts_refusal c =
+    let e = sym (ap refusal_in c.in_err-counts_refusal.was) ∙ counted ((goal.at.returns-in_err-counts_refusal c).After-counts_refusal) in
+    handed_on _ _ c.from_residual.ensures.1 (e ∙ sym (after-some _ _ (λ z. number-some _ (e ∙ z))))
 
 pub returns-then-bad_layout : goal.returns-then-bad_layout
 unfolding body_refusal
 returns-then-bad_layout c =
-    let none = sym (counted ((goal.at.returns-then-bad_layout c).After-counts_refusal-counted)) ∙ c.if-counted-ne0.false in
+    let none = sym (counted ((goal.at.returns-then-bad_layout c).After-counts_refusal)) ∙ ap refusal_in c.in_ok-counts_refusal.was in
     sym (after_none _ _ none ∙ first-of 13 _ _ (sym c.bad_layout.ensures ∙ c.if-bad_layout.true))
 
 pub misplaced-requires : goal.misplaced-requires
@@ -39,7 +35,7 @@ misplaced-requires c =
 pub returns-then-misplaced : goal.returns-then-misplaced
 unfolding body_refusal
 returns-then-misplaced c =
-    let none = sym (counted ((goal.at.returns-then-misplaced c).After-counts_refusal-counted)) ∙ c.if-counted-ne0.false in
+    let none = sym (counted ((goal.at.returns-then-misplaced c).After-counts_refusal)) ∙ ap refusal_in c.in_ok-counts_refusal.was in
     sym
     (after_none _ _ none
     ∙ first-after 13 _ _ (sym c.bad_layout.ensures ∙ c.if-bad_layout.false)
@@ -48,7 +44,7 @@ returns-then-misplaced c =
 pub returns : goal.returns
 unfolding body_refusal
 returns c =
-    let none = sym (counted ((goal.at.returns c).After-counts_refusal-counted)) ∙ c.if-counted-ne0.false in
+    let none = sym (counted ((goal.at.returns c).After-counts_refusal)) ∙ ap refusal_in c.in_ok-counts_refusal.was in
     sym
     (after_none _ _ none
     ∙ first-after 13 _ _ (sym c.bad_layout.ensures ∙ c.if-bad_layout.false)

@@ -7,15 +7,9 @@ use Rattle.deck.proofs.Checks.{none_left}
 use borrow.Author.Rules.{rules}
 use Rattle.deck.proofs.counts_refusal.Goals as goal
 
-pub outside-requires : goal.outside-requires
-outside-requires c = search rules
-
 pub returns-then-outside : goal.returns-then-outside
 unfolding counts_refusal
 returns-then-outside c = sym (first-of 2 _ _ (sym c.outside.ensures ∙ c.if-outside.true))
-
-pub outside-requires-2 : goal.outside-requires-2
-outside-requires-2 c = search rules
 
 pub returns-then-outside-2 : goal.returns-then-outside-2
 unfolding counts_refusal
@@ -23,9 +17,6 @@ returns-then-outside-2 c =
     sym
     (first-after 2 _ _ (sym c.outside.ensures ∙ c.if-outside.false)
     ∙ first-of 12 _ _ (sym c.outside-2.ensures ∙ c.if-outside-2.true))
-
-pub boards_out-requires : goal.boards_out-requires
-boards_out-requires c = search rules
 
 pub returns-then-boards_out : goal.returns-then-boards_out
 unfolding counts_refusal

@@ -5,6 +5,7 @@ use native.Mathlib.Omega.{arith}
 use lib.ListN.{length}
 use borrow.Author.Tests.{lt-ltb, le-ltb}
 use Rattle.rules.specs.File.{header_length, version_in, bad_start, file_refusal}
+use Rattle.rules.proofs.Numbers.{number-some}
 use Rattle.rules.proofs.Accepted.{first-of, first-after}
 use Rattle.deck.specs.Outcome.{body_refusal}
 use Rattle.deck.proofs.Checks.{body-after}
@@ -25,21 +26,9 @@ past c =
     body-after _ (le-ltb _ _ c.if-file-lt-SHORTEST_HEADER.false) (sym c.bad_start.ensures ∙ c.if-bad_start.false)
     (le-ltb _ _ (rw (c.header_length.ensures.0 ∙ ap header_length c.number2-version.ensures) at c.if-file-header_length.false))
 
-pub refused-requires : goal.refused-requires
-refused-requires c = search rules
-
 pub returns-then-file-lt-SHORTEST_HEADER : goal.returns-then-file-lt-SHORTEST_HEADER
 unfolding file_refusal
 returns-then-file-lt-SHORTEST_HEADER c = opens-refused (sym (first-of 10 _ _ (lt-ltb _ _ c.if-file-lt-SHORTEST_HEADER.true))) (λ z. omega arith) c.refused.ensures
-
-pub number2-version-requires : goal.number2-version-requires
-number2-version-requires c = search rules
-
-pub bad_start-requires : goal.bad_start-requires
-bad_start-requires c = search rules
-
-pub refused-requires-then-bad_start : goal.refused-requires-then-bad_start
-refused-requires-then-bad_start c = search rules
 
 pub returns-then-bad_start : goal.returns-then-bad_start
 unfolding file_refusal
@@ -47,12 +36,6 @@ returns-then-bad_start c =
     opens-refused
     (sym (first-after 10 _ _ (le-ltb _ _ c.if-file-lt-SHORTEST_HEADER.false) ∙ first-of 11 _ _ (sym c.bad_start.ensures ∙ c.if-bad_start.true)))
     (λ z. omega arith) c.refused-then-bad_start.ensures
-
-pub header_length-requires : goal.header_length-requires
-header_length-requires c = search rules
-
-pub refused-requires-then-file-header_length : goal.refused-requires-then-file-header_length
-refused-requires-then-file-header_length c = search rules
 
 pub returns-then-file-header_length : goal.returns-then-file-header_length
 unfolding file_refusal
@@ -67,16 +50,10 @@ returns-then-file-header_length c =
 pub head_given-head-requires : goal.head_given-head-requires
 head_given-head-requires c = record { long = rw (header ((goal.at.head_given-head-requires c).After-header_length)) at c.if-file-header_length.false; is = c.number2-version.ensures }
 
-pub body_refusal-found-requires : goal.body_refusal-found-requires
-body_refusal-found-requires c = search rules
-
-pub refused-requires-then-found-ne0 : goal.refused-requires-then-found-ne0
-refused-requires-then-found-ne0 c = search rules
-
-pub returns-then-found-ne0 : goal.returns-then-found-ne0
-returns-then-found-ne0 c =
-    opens-refused (c.body_refusal-found.ensures ∙ sym (past ((goal.at.returns-then-found-ne0 c).Else-file-header_length))) c.if-found-ne0.true c.refused-then-found-ne0.ensures
+pub returns-in-Err : goal.returns-in-Err
+returns-in-Err c =
+    opens-refused (c.number.ensures ∙ c.in-Err.ensures ∙ sym (past ((goal.at.returns-in-Err c).Else-file-header_length))) (λ none. number-some _ (sym c.number.ensures ∙ none)) c.refused-in-Err.ensures
 
 pub returns : goal.returns
 returns c =
-    opens-head c.head_given-head.ensures.says (past ((goal.at.returns c).Else-file-header_length) ∙ sym c.body_refusal-found.ensures ∙ c.if-found-ne0.false)
+    opens-head c.head_given-head.ensures.says (past ((goal.at.returns c).Else-file-header_length) ∙ sym c.in_default.ensures)

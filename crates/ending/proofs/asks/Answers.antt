@@ -3,6 +3,7 @@ use mathlib.Core.Path.{◌≡◌, sym, ap, ◌∙◌}
 use mathlib.Core.Bool.{false}
 use native.Mathlib.Omega.{arith}
 use Rattle.rules.specs.File.{header_length, version_in, bad_start}
+use Rattle.rules.proofs.Numbers.{number-some}
 use Rattle.layout.proofs.Versions.{header-bounds}
 use Rattle.deck.specs.Head.{length_by, counts_refusal}
 use Rattle.deck.proofs.Outcome.{head-is}
@@ -21,19 +22,10 @@ started c = sym c.bad_start.ensures ∙ c.if-bad_start.false
 pub returns-then-bytes-lt-SHORTEST_HEADER : goal.returns-then-bytes-lt-SHORTEST_HEADER
 returns-then-bytes-lt-SHORTEST_HEADER c = (sym (asks-short _ c.if-bytes-lt-SHORTEST_HEADER.true), omega arith)
 
-pub number2-version-requires : goal.number2-version-requires
-number2-version-requires c = search rules
-
-pub header_length-header-requires : goal.header_length-header-requires
-header_length-header-requires c = search rules
-
 pub returns-then-bytes-header : goal.returns-then-bytes-header
 returns-then-bytes-header c =
     let is = header ((goal.at.returns-then-bytes-header c).After-header_length-header) in
     (is ∙ sym (asks-header c.args.bytes.now c.if-bytes-lt-SHORTEST_HEADER.false (rw is at c.if-bytes-header.true)), omega (arith, is, header-bounds (version_in c.args.bytes.now)))
-
-pub bad_start-requires : goal.bad_start-requires
-bad_start-requires c = search rules
 
 pub returns-then-bad_start : goal.returns-then-bad_start
 returns-then-bad_start c =
@@ -45,23 +37,17 @@ pub head_given-head-requires : goal.head_given-head-requires
 head_given-head-requires c =
     record { long = rw (header ((goal.at.head_given-head-requires c).After-header_length-header)) at c.if-bytes-header.false; is = c.number2-version.ensures }
 
-pub counts_refusal-requires : goal.counts_refusal-requires
-counts_refusal-requires c = search rules
-
-pub returns-then-counts_refusal-ne0 : goal.returns-then-counts_refusal-ne0
-returns-then-counts_refusal-ne0 c =
-    let is = header ((goal.at.returns-then-counts_refusal-ne0 c).After-header_length-header) in
+pub returns-in-Err : goal.returns-in-Err
+returns-in-Err c =
+    let is = header ((goal.at.returns-in-Err c).After-header_length-header) in
     let there = rw is at c.if-bytes-header.false in
-    let counts = c.counts_refusal.ensures ∙ ap counts_refusal (head-is c.head_given-head.ensures.says) in
-    (is ∙ sym (asks-refused c.args.bytes.now there (started ((goal.at.returns-then-counts_refusal-ne0 c).Else-bad_start)) (λ e. c.if-counts_refusal-ne0.true (counts ∙ e))), omega (arith, is, header-bounds (version_in c.args.bytes.now)))
-
-pub length_given-requires : goal.length_given-requires
-length_given-requires c = search rules
+    let counts = c.in-Err.ensures ∙ ap counts_refusal (head-is c.head_given-head.ensures.says) in
+    (is ∙ sym (asks-refused c.args.bytes.now there (started ((goal.at.returns-in-Err c).Else-bad_start)) (λ e. number-some _ (counts ∙ e))), omega (arith, is, header-bounds (version_in c.args.bytes.now)))
 
 pub returns : goal.returns
 returns c =
     let there = rw (header ((goal.at.returns c).After-header_length-header)) at c.if-bytes-header.false in
     let head = head-is c.head_given-head.ensures.says in
-    let none = sym (c.counts_refusal.ensures ∙ ap counts_refusal head) ∙ c.if-counts_refusal-ne0.false in
+    let none = sym (c.in_default.ensures ∙ ap counts_refusal head) in
     let whole = c.length_given.ensures ∙ ap length_by head in
     (whole ∙ sym (asks-whole c.args.bytes.now there (started ((goal.at.returns c).Else-bad_start)) none), omega (arith, whole, whole-most c.args.bytes.now none))

@@ -20,33 +20,15 @@ header c = c.header_length.ensures.0 ∙ ap header_length c.number2-version.ensu
 versioned : (c : Else-version_out) → let read = c.before.before in bad_version (version_in read.before.before.before.args.bytes.now) ≡ false
 versioned c = ap bad_version (sym c.number2-version.ensures) ∙ sym c.version_out.ensures ∙ c.if-version_out.false
 
-pub refused-requires : goal.refused-requires
-refused-requires c = search rules
-
 pub returns-then-bytes-lt-SHORTEST_HEADER : goal.returns-then-bytes-lt-SHORTEST_HEADER
 unfolding beyond_mending
 returns-then-bytes-lt-SHORTEST_HEADER c = looks-refused (sym (first-of 10 _ _ (lt-ltb _ _ c.if-bytes-lt-SHORTEST_HEADER.true))) (λ z. omega arith) c.refused.ensures
-
-pub number2-version-requires : goal.number2-version-requires
-number2-version-requires c = search rules
-
-pub version_out-requires : goal.version_out-requires
-version_out-requires c = search rules
-
-pub refused-requires-then-version_out : goal.refused-requires-then-version_out
-refused-requires-then-version_out c = search rules
 
 pub returns-then-version_out : goal.returns-then-version_out
 unfolding beyond_mending
 returns-then-version_out c =
     let bad = ap bad_version (sym c.number2-version.ensures) ∙ sym c.version_out.ensures ∙ c.if-version_out.true in
     looks-refused (sym (first-after 10 _ _ (le-ltb _ _ c.if-bytes-lt-SHORTEST_HEADER.false) ∙ first-of 11 _ _ bad)) (λ z. omega arith) c.refused-then-version_out.ensures
-
-pub header_length-requires : goal.header_length-requires
-header_length-requires c = search rules
-
-pub refused-requires-then-bytes-header_length : goal.refused-requires-then-bytes-header_length
-refused-requires-then-bytes-header_length c = search rules
 
 pub returns-then-bytes-header_length : goal.returns-then-bytes-header_length
 unfolding beyond_mending
@@ -61,10 +43,12 @@ returns-then-bytes-header_length c =
 pub head_given-head-requires : goal.head_given-head-requires
 head_given-head-requires c = record { long = rw (header ((goal.at.head_given-head-requires c).After-header_length)) at c.if-bytes-header_length.false; is = c.number2-version.ensures }
 
-pub cut_refusal-found-requires : goal.cut_refusal-found-requires
-cut_refusal-found-requires c = search rules
+pub returns-in-Ok : goal.returns-in-Ok
+returns-in-Ok c =
+    let past = counts-then _ (le-ltb _ _ c.if-bytes-lt-SHORTEST_HEADER.false) (versioned ((goal.at.returns-in-Ok c).Else-version_out)) (le-ltb _ _ (rw (header ((goal.at.returns-in-Ok c).After-header_length)) at c.if-bytes-header_length.false)) in
+    record { refusal = c.in-Ok.ensures ∙ sym past; says = λ none. c.head_given-head.ensures.says }
 
-pub returns : goal.returns
-returns c =
-    let past = counts-then _ (le-ltb _ _ c.if-bytes-lt-SHORTEST_HEADER.false) (versioned ((goal.at.returns c).Else-version_out)) (le-ltb _ _ (rw (header ((goal.at.returns c).After-header_length)) at c.if-bytes-header_length.false)) in
-    record { refusal = c.cut_refusal-found.ensures ∙ sym past; says = λ none. c.head_given-head.ensures.says }
+pub returns-in-Err : goal.returns-in-Err
+returns-in-Err c =
+    let past = counts-then _ (le-ltb _ _ c.if-bytes-lt-SHORTEST_HEADER.false) (versioned ((goal.at.returns-in-Err c).Else-version_out)) (le-ltb _ _ (rw (header ((goal.at.returns-in-Err c).After-header_length)) at c.if-bytes-header_length.false)) in
+    record { refusal = c.number.ensures ∙ c.in-Err.ensures ∙ sym past; says = λ none. c.head_given-head.ensures.says }
