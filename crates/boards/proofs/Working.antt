@@ -117,23 +117,6 @@ pub record Mixing (u p half : ℕ) (low₀ high₀ low high : List ℕ) (j : ℕ
   pub done : (up : Bool) (k : ℕ) → k < j → set_at up low high k ≡ rounded up u (mixed u p (set_at up low₀ high₀ k) (set_at up low₀ high₀ (half + k)))
   pub left : (up : Bool) (k : ℕ) → j ≤ k → set_at up low high k ≡ set_at up low₀ high₀ k
 
-pub mixing-none : {u p half : ℕ} {low high : List ℕ} → Spaced low high → Mixing u p half low high low high 0
-mixing-none s = record { spaced = s; upto = omega arith; done = λ up k l. absurd (omega arith); left = λ up k l. refl }
-
-pub mixing-more : {u p half j : ℕ} {low₀ high₀ low high : List ℕ} {e : Ends} → Mixing u p half low₀ high₀ low high j → j < half → half + half ≤ sets
-    → Both (λ up. rounded up u (mixed u p (set_at up low high j) (set_at up low high (half + j)))) e
-    → Mixing u p half low₀ high₀ (set low j e.low) (set high j e.high) (j + 1)
-mixing-more {u} {p} {half} {j} {low₀} {high₀} {low} {high} {e} m l few b = record {
-  spaced = spaced-set m.spaced j e;
-  upto = omega arith;
-  done = λ up. below_more _ j (λ k h. set_other m.spaced j e k (λ q. omega arith) up ∙ m.done up k h) (here up);
-  left = λ up k h. set_other m.spaced j e k (λ q. omega arith) up ∙ m.left up k (omega arith);
-}
-  where
-    here : (up : Bool)
-        → set_at up (set low j e.low) (set high j e.high) j ≡ rounded up u (mixed u p (set_at up low₀ high₀ j) (set_at up low₀ high₀ (half + j)))
-    here up = set_here m.spaced j e (omega arith) up ∙ both_at b up ∙ rw (m.left up j (omega arith), m.left up (half + j) (omega arith))
-
 -- a set that is still to be mixed
 pub mixing-within : {u p half j k : ℕ} {low₀ high₀ low high : List ℕ} → ((up : Bool) (j : ℕ) → j < half + half → set_at up low₀ high₀ j ≤ u)
     → Mixing u p half low₀ high₀ low high j → j ≤ k → k < half + half → Within u (record { low = get_or low k 0; high = get_or high k 0 })

@@ -25,10 +25,7 @@ fn board_down(out: usize, board: u8) -> bool
 fn board_of(boards: &[u8], i: usize) -> u8
     ensures { result ≡ get_or boards.now i 0 }
 {
-    if i < boards.len() {
-        return boards[i];
-    }
-    0
+    boards.get(i).copied().unwrap_or(0)
 }
 
 // The set that has one board.
@@ -51,10 +48,8 @@ pub fn felt(boards: &[u8]) -> usize
     ensures { Felt boards.now result }
 {
     let mut set: usize = 0;
-    let mut i: usize = 0;
-    while i < boards.len() {
-        set = set | only(boards[i]);
-        i += 1;
+    for board in boards {
+        set |= only(*board);
     }
     set
 }
@@ -74,11 +69,9 @@ pub fn behind(survival: &[u32], boards: &[u8], out: usize) -> [u32; FANS]
         take (length all) result ≡ behind boards.now out all }
 {
     let mut numbers = [0u32; FANS];
-    let mut i: usize = 0;
-    while i < survival.len() {
+    for (i, p) in survival.iter().enumerate() {
         let lost = board_down(out, board_of(boards, i));
-        numbers[i] = left(survival[i], lost);
-        i += 1;
+        numbers[i] = left(*p, lost);
     }
     numbers
 }

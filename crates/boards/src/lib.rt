@@ -26,13 +26,7 @@ fn sets_of(b: usize) -> usize
     requires { b ≤ most_boards }
     ensures { result ≡ 2 ^ b }
 {
-    match b {
-        0 => 1,
-        1 => 2,
-        2 => 4,
-        3 => 8,
-        _ => 16,
-    }
+    1 << b
 }
 
 // The figures where a set of boards has failed.
@@ -83,8 +77,7 @@ fn mix_board(
     ensures { let p = get_or switchboards.now b 0 in
         Halved (whole decimal) p half low.old high.old low.new high.new }
 {
-    let mut j: usize = 0;
-    while j < half {
+    for j in 0..half {
         let works = Ends {
             low: low[j],
             high: high[j],
@@ -96,7 +89,6 @@ fn mix_board(
         let ends = mix(decimal, switchboards, b, works, fails);
         low[j] = ends.low;
         high[j] = ends.high;
-        j += 1;
     }
 }
 
@@ -111,9 +103,7 @@ fn combine(
     ensures { let own = switchboards.now in
         Both (λ up. combined up (whole decimal) own (set_at up low.old high.old)) result }
 {
-    let mut b = switchboards.len();
-    while 0 < b {
-        b -= 1;
+    for b in (0..switchboards.len()).rev() {
         mix_board(decimal, switchboards, b, sets_of(b), low, high);
     }
     Ends {
@@ -147,8 +137,7 @@ fn rate_sets(
     let sets = sets_of(switchboards.len());
     let mut low = [0u64; SETS];
     let mut high = [0u64; SETS];
-    let mut out: usize = 0;
-    while out < sets {
+    for out in 0..sets {
         let own = out & felt;
         let mut ends = Ends {
             low: low[own],
@@ -159,7 +148,6 @@ fn rate_sets(
         }
         low[out] = ends.low;
         high[out] = ends.high;
-        out += 1;
     }
     combine(decimal, switchboards, &mut low, &mut high)
 }
@@ -184,7 +172,7 @@ pub fn rate(
     ensures kept { Kept table.old table.new }
 {
     // no list is copied where there are no boards
-    if switchboards.len() == 0 {
+    if switchboards.is_empty() {
         return engine::rate(decimal, rule, survival, weights, more, table);
     }
     rate_sets(

@@ -7,28 +7,13 @@ use Rattle.boards.proofs.combine.Goals as goal
 pub loop-b-init : goal.loop-b-init
 loop-b-init c = folding-none c.requires
 
-pub overflow_sub-b : goal.overflow_sub-b
-overflow_sub-b c = omega arith
-
-pub sets_of-requires : goal.sets_of-requires
-sets_of-requires c = omega (arith, c.requires.few)
-
 pub mix_board-requires : goal.mix_board-requires
 mix_board-requires c =
     folding-halvable (whole-some c.args.decimal) c.requires c.loop-b.invariant (omega arith) c.sets_of.ensures
 
-pub loop-b-smaller : goal.loop-b-smaller
-loop-b-smaller c = omega arith
-
 pub loop-b-preserved : goal.loop-b-preserved
 loop-b-preserved c =
     folding-more (whole-some c.args.decimal) c.requires c.loop-b.invariant (omega arith) c.sets_of.ensures c.mix_board.ensures
-
-pub bounds-low-0 : goal.bounds-low-0
-bounds-low-0 c = omega arith
-
-pub bounds-high-0 : goal.bounds-high-0
-bounds-high-0 c = omega arith
 
 pub returns : goal.returns
 returns c = folding-all (omega arith) c.loop-b.invariant

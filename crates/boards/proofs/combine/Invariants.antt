@@ -5,6 +5,3 @@ use Rattle.boards.proofs.combine.Given as goal
 
 abbrev pub invariant-loop-b : goal.invariant-loop-b
 invariant-loop-b l = Folding (whole l.decimal) l.switchboards l.initial.low l.initial.high l.low l.high l.b
-
-abbrev pub decreases-loop-b : goal.decreases-loop-b
-decreases-loop-b l = l.b

@@ -74,12 +74,6 @@ offset_bounds-high-out c = omega (arith, few ((goal.at.offset_bounds-high-out c)
 pub bounds-high-out : goal.bounds-high-out
 bounds-high-out c = omega (arith, few ((goal.at.bounds-high-out c).At-loop-out))
 
-pub overflow_add-out : goal.overflow_add-out
-overflow_add-out c = omega (arith, few ((goal.at.overflow_add-out c).At-loop-out))
-
-pub loop-out-smaller : goal.loop-out-smaller
-loop-out-smaller c = omega arith
-
 pub loop-out-preserved : goal.loop-out-preserved
 loop-out-preserved c =
     sets_more (whole-some c.args.decimal) c.requires.able c.loop-out.invariant (omega (arith, few ((goal.at.loop-out-preserved c).At-loop-out))) (done ((goal.at.loop-out-preserved c).Joined-own-out)).0 (done ((goal.at.loop-out-preserved c).Joined-own-out)).1

@@ -9,53 +9,23 @@ use lib.Seq.{take-suc-set}
 use Rattle.rules.specs.Below.{list_below}
 use Rattle.rules.specs.State.{number_of}
 use Rattle.rules.specs.Boards.{board_down, behind}
-use borrow.Author.Rules.{rules}
 use Rattle.boards.proofs.fans.behind.Goals as goal
 
 pub loop-i-init : goal.loop-i-init
 unfolding list_below
-loop-i-init c = (omega arith, refl, refl)
-
-pub board_of-requires : goal.board_of-requires
-board_of-requires c = search rules
-
-pub board_down-lost-requires : goal.board_down-lost-requires
-board_down-lost-requires c =
-    rw c.board_of.ensures (c.requires.placed.each c.loop-i.i)
-
-pub offset_bounds-survival-i : goal.offset_bounds-survival-i
-offset_bounds-survival-i c = omega arith
-
-pub bounds-survival-i : goal.bounds-survival-i
-bounds-survival-i c = omega arith
-
-pub left-requires : goal.left-requires
-left-requires c = search rules
-
-pub offset_bounds-numbers-i : goal.offset_bounds-numbers-i
-offset_bounds-numbers-i c = omega arith
-
-pub bounds-numbers-i : goal.bounds-numbers-i
-bounds-numbers-i c = omega arith
-
-pub overflow_add-i : goal.overflow_add-i
-overflow_add-i c = omega arith
-
-pub loop-i-smaller : goal.loop-i-smaller
-loop-i-smaller c = omega arith
+loop-i-init c = (refl, refl)
 
 pub loop-i-preserved : goal.loop-i-preserved
 unfolding list_below number_of
 loop-i-preserved c =
     let lost = c.board_down-lost.ensures ∙ ap (board_down c.args.out) c.board_of.ensures in
     let number = c.left.ensures ∙ ap (λ b. cond b 0 (get_or c.args.survival.now c.loop-i.i 0)) lost in (
-      omega arith,
-      length-set c.loop-i.numbers c.loop-i.i _ ∙ c.loop-i.invariant.1,
-      rw add-one (take-suc-set c.loop-i.numbers c.loop-i.i _ (omega arith) ∙ ap₂ (λ ns v. ns ++ (v ∷ [])) c.loop-i.invariant.2 number),
+      length-set c.loop-i.numbers c.loop-i.i _ ∙ c.loop-i.invariant.0,
+      rw add-one (take-suc-set c.loop-i.numbers c.loop-i.i _ (omega arith) ∙ ap₂ (λ ns v. ns ++ (v ∷ [])) c.loop-i.invariant.1 number),
     )
 
 pub returns : goal.returns
 unfolding behind
 returns c =
     let e : c.loop-i.i ≡ length c.args.survival.now = omega arith in
-    record { front = rw e at c.loop-i.invariant.2 }
+    record { front = rw e at c.loop-i.invariant.1 }
