@@ -96,10 +96,8 @@ fn put_ends(
     ensures { Within result out.new }
 {
     let mut end = at;
-    let mut i: usize = 0;
-    while i < FANS {
-        end = put_end(i as u64, shift, ends[i], largest, line, out, end);
-        i += 1;
+    for (i, worth) in ends.iter().enumerate() {
+        end = put_end(i as u64, shift, *worth, largest, line, out, end);
     }
     end
 }
@@ -176,10 +174,8 @@ fn put_labels(fans: u64, y: u64, out: &mut [u8], at: usize) -> usize
     ensures { Within result out.new }
 {
     let mut end = at;
-    let mut fan: u64 = 1;
-    while fan <= fans {
+    for fan in 1..=fans {
         end = put_label(fans, fan, y, out, end);
-        fan += 1;
     }
     end
 }
@@ -215,14 +211,7 @@ fn put_frame(fans: u64, line: u64, height: u64, out: &mut [u8], at: usize) -> us
 
 // Is any of so many ends so far below 0?
 fn any_below(ends: [i64; FANS], far: u64) -> bool {
-    let mut i: usize = 0;
-    while i < FANS {
-        if is_below(ends[i], far) {
-            return true;
-        }
-        i += 1;
-    }
-    false
+    ends.iter().any(|end| is_below(*end, far))
 }
 
 // Is an end so far below 0?

@@ -73,20 +73,12 @@ pub fn shape_of(fans: u64, system: System) -> Shape
     }
 }
 
-// The larger of two numbers.
-fn larger(x: u64, y: u64) -> u64 {
-    if x < y { y } else { x }
-}
-
 // The largest of so many ends, without their signs.
 fn largest_in(ends: [i64; limit::FANS]) -> u64 {
-    let mut largest: u64 = 0;
-    let mut i: usize = 0;
-    while i < limit::FANS {
-        largest = larger(largest, lines::absolute(ends[i]));
-        i += 1;
-    }
-    largest
+    ends.iter()
+        .map(|end| lines::absolute(*end))
+        .max()
+        .unwrap_or(0)
 }
 
 // The largest of all ends: what the tallest bar stands for.
@@ -95,9 +87,5 @@ pub fn largest_of(worths: Worths) -> u64
 {
     let lower = worths.lower;
     let upper = worths.upper;
-    bounded(
-        0,
-        larger(largest_in(lower), largest_in(upper)),
-        version::BINARY,
-    )
+    bounded(0, largest_in(lower).max(largest_in(upper)), version::BINARY)
 }

@@ -24,10 +24,8 @@ pub fn changed(old: &[u8], new: &[u8], k: usize) -> usize
     ensures { result ≡ held (differs old.now new.now) k }
 {
     let mut count: usize = 0;
-    let mut i: usize = 0;
-    while i < k {
+    for i in 0..k {
         count += change(old[i], new[i]);
-        i += 1;
     }
     count
 }
@@ -54,9 +52,7 @@ pub fn put_changes(old: &[u8], new: &[u8], k: usize, list: &mut [u64])
         list.old }
 {
     let mut at: usize = 0;
-    let mut i: usize = 0;
-    while i < k {
+    for i in 0..k {
         at = put_change(i, old[i], new[i], list, at);
-        i += 1;
     }
 }

@@ -5,28 +5,15 @@ use mathlib.Core.List.{List, [], ◌∷◌, ◌++◌, append_assoc, append-nil}
 use Prim.Native.Nat.{ℕ, suc, ◌+◌, ◌-◌, ◌≤◌, ◌<◌}
 use native.Mathlib.Omega.{arith}
 use lib.Dec.{eqb, ltb}
-use lib.ListN.{length, get_or, take, drop, length-drop}
-use lib.Seq.{drop-cons, drop-length, drop-drop}
-use borrow.Author.Tests.{eq-eqb, ne_eqb, lt-ltb, le-ltb, ltb-true, ltb-false}
+use lib.ListN.{length, take, drop, length-drop}
+use lib.Seq.{drop-drop}
+use borrow.Author.Tests.{lt-ltb, le-ltb, ltb-true, ltb-false}
 use Rattle.rules.specs.Below.{within}
 use Rattle.states.specs.States.{fan_failed}
 use Rattle.naming.specs.declared.Named.{Named}
 use Rattle.naming.specs.Named.{comma, up_to, first_in, last_in, many_failed, range_failed, fits, fails, part_named, parts_on, parts_of, named_next, named_all}
 
 -- a mark sought byte by byte
-module _ (mark : ℕ) (word : List ℕ) (i : ℕ) (l : i < length word) where
-  pub here : get_or word i 0 ≡ mark → up_to mark (drop i word) ≡ 0
-  unfolding up_to
-  here e = rw (drop-cons word i 0 l, eq-eqb _ _ e)
-
-  pub not-here : (get_or word i 0 ≡ mark → ⊥) → up_to mark (drop i word) ≡ suc (up_to mark (drop (suc i) word))
-  unfolding up_to
-  not-here n = rw (drop-cons word i 0 l, ne_eqb _ _ n)
-
-pub nowhere : (mark : ℕ) (word : List ℕ) → up_to mark (drop (length word) word) ≡ 0
-unfolding up_to
-nowhere mark word = rw (drop-length word)
-
 -- the parts that are left from a place on; none behind the end
 abbrev pub left : (word : List ℕ) (at : ℕ) → List (List ℕ)
 left word at = cond (ltb (length word) at) [] (parts_of (drop at word))

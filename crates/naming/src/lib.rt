@@ -24,10 +24,8 @@ fn fail_range(state: u64, from: u64, to: u64) -> u64
     ensures { result ≡ range_failed state from to }
 {
     let mut after = state;
-    let mut fan = from;
-    while fan <= to {
+    for fan in from..=to {
         after = states::fan_failed(after, fan);
-        fan += 1;
     }
     after
 }

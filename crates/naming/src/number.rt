@@ -13,14 +13,12 @@ pub fn number_of(word: &[u8]) -> u64
         return 0;
     }
     let mut number: u64 = 0;
-    let mut i: usize = 0;
-    while i < word.len() {
-        let digit = word[i] as u64;
+    for byte in word {
+        let digit = u64::from(*byte);
         if refusals::outside(48, digit, 57) {
             return 0;
         }
         number = number * 10 + (digit - 48);
-        i += 1;
     }
     number
 }
@@ -29,12 +27,7 @@ pub fn number_of(word: &[u8]) -> u64
 pub fn up_to(word: &[u8], mark: u8) -> usize
     ensures { (result ≡ up_to mark word.now) × (result ≤ length word.now) }
 {
-    let mut i: usize = 0;
-    while i < word.len() {
-        if word[i] == mark {
-            return i;
-        }
-        i += 1;
-    }
-    i
+    word.iter()
+        .position(|byte| *byte == mark)
+        .unwrap_or(word.len())
 }

@@ -1,36 +1,44 @@
--- `number::up_to` meets its contract: no byte that was passed is the mark. The measure is what is left. Assumes nothing.
-use mathlib.Core.Path.{◌≡◌, ap, ◌∙◌}
+-- `number::up_to` meets its contract: the first byte that is the mark stands behind all that are none. Assumes nothing.
+use mathlib.Core.Path.{◌≡◌, refl, sym, ◌∙◌}
+use mathlib.Core.Bool.{Bool, true, false, cond}
+use mathlib.Core.List.{List, [], ◌∷◌}
+use Prim.Native.Nat.{ℕ, suc, ◌+◌, ◌≤◌}
 use native.Mathlib.Omega.{arith}
 use native.Mathlib.Numerals.{add-one}
-use lib.ListN.{length, drop}
+use borrow.Author.Rules.{rules}
+use borrow.Author.Tests.{tests, eq-eqb, ne_eqb}
+use lib.Dec.{eqb}
+use lib.ListN.{length}
+use Rattle.std.proofs.lemmas.Iterator.{IsFirst-from_position, index_from_first, YieldsList-from_slice}
 use Rattle.naming.specs.Named.{up_to}
-use Rattle.naming.proofs.Parts.{here, not-here, nowhere}
 use Rattle.naming.proofs.number.up_to.Goals as goal
 
-pub loop-i-init : goal.loop-i-init
-loop-i-init c = (omega arith, omega arith)
+up_to-within : (mark : ℕ) (word : List ℕ) → up_to mark word ≤ length word
+unfolding up_to
+up_to-within mark [] = omega arith
+up_to-within mark (b ∷ bs) = go (eqb b mark) (up_to-within mark bs)
+  where
+    go : (t : Bool) → up_to mark bs ≤ length bs → cond t 0 (suc (up_to mark bs)) ≤ suc (length bs)
+    go true h = omega arith
+    go false h = omega arith
 
-pub bounds-word-i : goal.bounds-word-i
-bounds-word-i c = omega (arith, c.loop-i-test.true)
+hit : (mark x : ℕ) (xs : List ℕ) → x ≡ mark → up_to mark (x ∷ xs) ≡ 0
+unfolding up_to
+hit mark x xs e = rw (eq-eqb x mark e)
 
-pub returns-then-word-i : goal.returns-then-word-i
-returns-then-word-i c =
-    let found = here c.args.mark c.args.word.now c.loop-i.i c.loop-i-test.true c.if-word-i.true in
-    (omega (arith, found, c.loop-i.invariant.1), c.loop-i.invariant.0)
+miss : (mark x : ℕ) (xs : List ℕ) → (x ≡ mark → ⊥) → up_to mark (x ∷ xs) ≡ up_to mark xs + 1
+unfolding up_to
+miss mark x xs other = rw (ne_eqb x mark other) (sym (add-one _))
 
-pub overflow_add-i : goal.overflow_add-i
-overflow_add-i c = omega arith
-
-pub loop-i-smaller : goal.loop-i-smaller
-loop-i-smaller c = omega (arith, c.loop-i-test.true)
-
-pub loop-i-preserved : goal.loop-i-preserved
-loop-i-preserved c =
-    let on = not-here c.args.mark c.args.word.now c.loop-i.i c.loop-i-test.true c.if-word-i.false in
-    (omega (arith, c.loop-i-test.true), rw add-one (omega (arith, on, c.loop-i.invariant.1)))
+none : (mark : ℕ) → up_to mark [] ≡ 0
+unfolding up_to
+none mark = refl
 
 pub returns : goal.returns
 returns c =
-    let all : c.loop-i.i ≡ length c.args.word.now = omega (arith, c.loop-i.invariant.0, c.loop-i-test.false) in
-    let none = ap (λ i. up_to c.args.mark (drop i c.args.word.now)) all ∙ nowhere c.args.mark c.args.word.now in
-    (omega (arith, none, c.loop-i.invariant.1), c.loop-i.invariant.0)
+    let mark = c.args.mark in
+    let word = c.args.word.now in
+    let found = IsFirst-from_position _ _ _ (λ b. b ≡ mark) (λ b. b ≡ mark → ⊥) c.position.ensures.ran (YieldsList-from_slice word cc)
+    (λ x q k. search (rules, tests)) (λ x q k. search (rules, tests)) in
+    let is : c.unwrap_or.result ≡ up_to mark word = c.unwrap_or.ensures ∙ sym (index_from_first (up_to mark) _ _ (none mark) (hit mark) (miss mark) word _ found) in
+    (is, omega (arith, is, up_to-within mark word))
