@@ -2,22 +2,12 @@
 use mir.Syntax.{w32}
 use mir.ValLaws.{to_z-of_z}
 use Rattle.printing.proofs.Printed.{ends-refused}
-use borrow.Author.Rules.{rules}
 use Rattle.printing.proofs.finish.Goals as goal
-
-pub refused-requires : goal.refused-requires
-refused-requires c = search rules
-
-pub print-requires : goal.print-requires
-print-requires c = search rules
 
 pub returns-then-refused : goal.returns-then-refused
 returns-then-refused c =
     let same = to_z-of_z w32 c.print.result (record { sfits = c.print.type_inv }) in
     rw same record { ends = ends-refused c.refused.ensures c.if-refused.true c.print.ensures.or_failed; status = c.print.ensures.status }
-
-pub print-requires-2 : goal.print-requires-2
-print-requires-2 c = search rules
 
 pub returns : goal.returns
 returns c =

@@ -3,14 +3,7 @@ use mir.Syntax.{w32}
 use mir.ValLaws.{to_z-of_z}
 use Rattle.printing.proofs.Printed.{ends-refused}
 use mathlib.Core.Path.{refl}
-use borrow.Author.Rules.{rules}
 use Rattle.printing.proofs.finish_two.Goals as goal
-
-pub refused-refused-requires : goal.refused-refused-requires
-refused-refused-requires c = search rules
-
-pub print_two-requires : goal.print_two-requires
-print_two-requires c = search rules
 
 pub returns : goal.returns
 returns c =

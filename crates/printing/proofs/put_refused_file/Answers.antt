@@ -1,18 +1,11 @@
 -- `put_refused_file` meets its contract: the two texts fit. Assumes nothing.
 use native.Mathlib.Omega.{arith}
-use borrow.Author.Rules.{rules}
 use Rattle.text.proofs.Adding.{put-added, added_more}
 use Rattle.printing.proofs.put_refused_file.Goals as goal
-
-pub put-end-requires : goal.put-end-requires
-put-end-requires c = search rules
 
 pub put_refused-requires : goal.put_refused-requires
 put_refused-requires c =
     omega (arith, c.requires, c.put-end.auto, (put-added (omega (arith, c.requires)) c.put-end.ensures).ends)
-
-pub shape_of-out : goal.shape_of-out
-shape_of-out c = search rules
 
 pub returns : goal.returns
 returns c =

@@ -10,27 +10,9 @@ use Rattle.printing.proofs.put_worded.Goals as goal
 pub put_refused-requires : goal.put_refused-requires
 put_refused-requires c = search rules
 
-pub shape_of-out-then-not-words : goal.shape_of-out-then-not-words
-shape_of-out-then-not-words c = search rules
-
 pub returns-then-not-words : goal.returns-then-not-words
 returns-then-not-words c =
     rw c.if-not-words.true c.put_refused.ensures
-
-pub put_named-named-requires : goal.put_named-named-requires
-put_named-named-requires c = search rules
-
-pub put-parted-requires : goal.put-parted-requires
-put-parted-requires c = search rules
-
-pub put_why-end-requires : goal.put_why-end-requires
-put_why-end-requires c = search rules
-
-pub put-requires : goal.put-requires
-put-requires c = search rules
-
-pub shape_of-out : goal.shape_of-out
-shape_of-out c = search rules
 
 pub returns : goal.returns
 returns c =

@@ -2,15 +2,8 @@
 use lib.Dec.{eqb}
 use mathlib.Core.Bool.{not}
 use mathlib.Core.Path.{ap, ◌∙◌}
-use borrow.Author.Rules.{rules}
 use Rattle.printing.proofs.refused.Goals as goal
 use Rattle.printing.proofs.refused.Goals.{After-open-opened}
-
-pub front_of-requires : goal.front_of-requires
-front_of-requires c = search rules
-
-pub open-opened-requires : goal.open-opened-requires
-open-opened-requires c = search rules
 
 pub returns : goal.returns
 returns c =
