@@ -51,4 +51,4 @@ returns-in-Ok c =
 pub returns-in-Err : goal.returns-in-Err
 returns-in-Err c =
     let past = counts-then _ (le-ltb _ _ c.if-bytes-lt-SHORTEST_HEADER.false) (versioned ((goal.at.returns-in-Err c).Else-version_out)) (le-ltb _ _ (rw (header ((goal.at.returns-in-Err c).After-header_length)) at c.if-bytes-header_length.false)) in
-    record { refusal = c.number.ensures ∙ c.in-Err.ensures ∙ sym past; says = λ none. c.head_given-head.ensures.says }
+    record { refusal = c.number-refusal.ensures ∙ c.in-Err.ensures ∙ sym past; says = λ none. c.head_given-head.ensures.says }
