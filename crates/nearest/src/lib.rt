@@ -31,8 +31,8 @@ fn raise(unit: u64, x: u64) -> Raised
     let mut near = x;
     let mut field = FIELD;
     while near < unit {
-        near = near * 2;
-        field = field - 1;
+        near *= 2;
+        field -= 1;
     }
     Raised { near, field }
 }

@@ -1,5 +1,5 @@
 -- `whole` cuts the product, which leaves the whole number just below; one more is the one just above where the cut lost something. Assumes nothing.
-use Rattle.std.proofs.Common.{◌≡◌, ℕ, ◌*◌, ◌/◌, ◌^◌, ◌≤◌, Bool, pos, sym, ap, ◌∙◌, arith, le→leb, rules}
+use Rattle.std.proofs.Common.{◌≡◌, ℕ, ◌*◌, ◌/◌, ◌^◌, ◌≤◌, Bool, pos, sym, ap, ◌∙◌, arith, le→leb}
 use denote.Floats.{passes}
 use lib.Ieee.{binary64, fits, in_float, of_int}
 use Rattle.rules.specs.State.{S}
@@ -24,9 +24,6 @@ below-le c = rw (below c) (cut-le _ (product c.before).within)
 
 counted : (k : ℕ) → k ≤ S → k ≤ 2 ^ 53
 counted k h = omega arith
-
-pub multiplied-product-requires : goal.multiplied-product-requires
-multiplied-product-requires c = search rules
 
 pub truncating_f64_to_u64-below-requires : goal.truncating_f64_to_u64-below-requires
 truncating_f64_to_u64-below-requires c =

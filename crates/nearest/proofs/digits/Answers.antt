@@ -4,13 +4,9 @@ use mathlib.Core.Bool.{Bool}
 use Prim.Native.Nat.{◌*◌, ◌^◌}
 use native.Mathlib.Nat.{mod-lt}
 use native.Mathlib.Omega.{arith}
-use borrow.Author.Rules.{rules}
 use Rattle.rules.specs.Figure.{rounded}
 use Rattle.nearest.proofs.Shifting.{shift, down, up_more, up_same, whole-small}
 use Rattle.nearest.proofs.digits.Goals as goal
-
-pub overflow_mul-high : goal.overflow_mul-high
-overflow_mul-high c = search rules
 
 pub overflow_mul-low : goal.overflow_mul-low
 overflow_mul-low c = omega (arith, mod-lt (c.args.near * shift) c.requires.some, c.requires.most)
