@@ -13,7 +13,6 @@ use Rattle.states.specs.States.{fan_failed}
 use Rattle.naming.specs.declared.Named.{Named}
 use Rattle.naming.specs.Named.{comma, up_to, first_in, last_in, many_failed, range_failed, fits, fails, part_named, parts_on, parts_of, named_next, named_all}
 
--- a mark sought byte by byte
 -- the parts that are left from a place on; none behind the end
 abbrev pub left : (word : List ℕ) (at : ℕ) → List (List ℕ)
 left word at = cond (ltb (length word) at) [] (parts_of (drop at word))

@@ -18,12 +18,10 @@ fn plus_systems(totals: Totals, file: &[u8], head: Head) -> Totals
 {
     let unit = units::whole(units::is_decimal(head.version));
     let mut sum = totals;
-    let mut s: usize = 0;
-    while s < head.systems {
+    for s in 0..head.systems {
         let system = deck::system_in(file, head, s);
         let answer = systems::rate(file, head, s);
-        s += 1;
-        sum = totals::plus_system(sum, s as u64, unit, system.rule.kind, answer);
+        sum = totals::plus_system(sum, s as u64 + 1, unit, system.rule.kind, answer);
     }
     sum
 }
@@ -33,24 +31,18 @@ pub fn plus_file(totals: Totals, file: &[u8]) -> Totals
     requires { Open totals }
     ensures { result ≡ file_plus totals file.now }
 {
-    let kinds = totals.kinds;
     let opened = deck::open(file);
     let refusal = opened.refusal;
     if refusal != 0 {
         return Totals {
-            decks: totals.decks,
             refused: totals.refused + 1,
             number: refusal,
-            other: totals.other,
-            kinds,
+            ..totals
         };
     }
     let more = Totals {
         decks: totals.decks + 1,
-        refused: totals.refused,
-        number: totals.number,
-        other: totals.other,
-        kinds,
+        ..totals
     };
     let head = opened.head;
     plus_systems(more, file, head)

@@ -13,16 +13,9 @@ const NAMED: u64 = 5;
 // The fans that are not to be named: those outside the stretch.
 fn outside(shape: Shape) -> [bool; FANS] {
     let mut passed = [false; FANS];
-    let mut i: usize = 0;
-    while i < FANS {
+    for (i, over) in passed.iter_mut().enumerate() {
         let fan = i as u64 + 1;
-        if fan < shape.from {
-            passed[i] = true;
-        }
-        if shape.upto < fan {
-            passed[i] = true;
-        }
-        i += 1;
+        *over = fan < shape.from || shape.upto < fan;
     }
     passed
 }
@@ -66,10 +59,8 @@ fn next_best(worths: Worths, passed: [bool; FANS]) -> usize
     ensures { result ≤ most_drawn }
 {
     let mut best = FANS;
-    let mut i: usize = 0;
-    while i < FANS {
-        best = better_of(worths, passed[i], i, best);
-        i += 1;
+    for (i, over) in passed.iter().enumerate() {
+        best = better_of(worths, *over, i, best);
     }
     best
 }
@@ -94,15 +85,13 @@ fn put_fans(shape: Shape, worths: Worths, out: &mut [u8], at: usize) -> usize
 {
     let mut passed = outside(shape);
     let mut end = at;
-    let mut named: u64 = 0;
-    while named < NAMED {
+    for _ in 0..NAMED {
         let best = next_best(worths, passed);
         if best == FANS {
             return end;
         }
         end = put_fan(worths, best, out, end);
         passed[best] = true;
-        named += 1;
     }
     end
 }

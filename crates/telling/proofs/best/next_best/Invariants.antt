@@ -1,10 +1,7 @@
--- `best::next_best` meets its contract: the best so far is a place or the end. The measure is what is left to look at. Assumes nothing.
-use Prim.Native.Nat.{◌-◌, ◌≤◌}
+-- `best::next_best` meets its contract: the best so far is a place or the end. Assumes nothing.
+use Prim.Native.Nat.{◌≤◌}
 use Rattle.drawn.specs.Drawn.{most_drawn}
 use Rattle.telling.proofs.best.next_best.Given as goal
 
 abbrev pub invariant-loop-i : goal.invariant-loop-i
-invariant-loop-i l = (l.best ≤ most_drawn) × (l.i ≤ most_drawn)
-
-abbrev pub decreases-loop-i : goal.decreases-loop-i
-decreases-loop-i l = most_drawn - l.i
+invariant-loop-i l = l.best ≤ most_drawn
