@@ -1,20 +1,10 @@
 -- `make_fed` meets its contract: what was fed is a text, and that is made. Assumes nothing.
 use native.Mathlib.Omega.{arith}
-use borrow.Author.Rules.{rules}
 use Rattle.deckmake.proofs.make_fed.Goals as goal
-
-pub finish-listing-requires : goal.finish-listing-requires
-finish-listing-requires c = search rules
 
 pub make-requires : goal.make-requires
 make-requires c =
     record { sane = c.finish-listing.ensures.sane; room = (omega (arith, c.requires.line_room_in_bounds), omega (arith, c.requires.line_room_in_bounds, c.finish-listing.auto)) }
-
-pub shape_of-file : goal.shape_of-file
-shape_of-file c = search rules
-
-pub shape_of-out : goal.shape_of-out
-shape_of-out c = search rules
 
 pub returns : goal.returns
 returns c =

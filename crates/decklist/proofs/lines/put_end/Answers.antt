@@ -3,29 +3,16 @@ use native.Mathlib.Omega.{arith}
 use Rattle.text.proofs.Adding.{put-added, added_more}
 use Rattle.units.specs.Step.{whole}
 use Rattle.percent.proofs.Digits.{range-short}
-use borrow.Author.Rules.{rules}
 use Rattle.decklist.proofs.lines.put_end.Goals as goal
-
-pub put-requires : goal.put-requires
-put-requires c = search rules
-
-pub shape_of-out-then-not-percent : goal.shape_of-out-then-not-percent
-shape_of-out-then-not-percent c = search rules
 
 pub returns-then-not-percent : goal.returns-then-not-percent
 returns-then-not-percent c =
     let unasked = c.if-not-percent.true in
     rw unasked (put-added (omega (arith, c.requires.room)) c.put.ensures)
 
-pub put_range-end-requires : goal.put_range-end-requires
-put_range-end-requires c = search rules
-
 pub put-requires-2 : goal.put-requires-2
 put-requires-2 c =
     omega (arith, c.requires.room, c.put_range-end.auto, c.put_range-end.ensures.ends, range-short (whole c.args.decimal) c.args.low c.args.high)
-
-pub shape_of-out : goal.shape_of-out
-shape_of-out c = search rules
 
 pub returns : goal.returns
 returns c =

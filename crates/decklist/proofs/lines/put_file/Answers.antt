@@ -5,32 +5,16 @@ use Rattle.deck.proofs.Outcome.{opened-headed}
 use Rattle.printing.proofs.Printed.{refused-worded, body-worded}
 use Rattle.decklist.specs.Lines.{list_text}
 use Rattle.decklist.proofs.Lengths.{head-short}
-use borrow.Author.Rules.{rules}
 use Rattle.decklist.proofs.lines.put_file.Goals as goal
 use Rattle.decklist.proofs.lines.put_file.Goals.{After-open-opened}
-
-pub open-opened-requires : goal.open-opened-requires
-open-opened-requires c = search rules
-
-pub put_worded_file-requires : goal.put_worded_file-requires
-put_worded_file-requires c = search rules
-
-pub shape_of-out-then-opened-ne0 : goal.shape_of-out-then-opened-ne0
-shape_of-out-then-opened-ne0 c = search rules
 
 pub returns-then-opened-ne0 : goal.returns-then-opened-ne0
 returns-then-opened-ne0 c =
     refused-worded c.args.words (list_text c.args.percent c.args.words) ((goal.at.returns-then-opened-ne0 c).After-open-opened).open-opened.ensures c.if-opened-ne0.true c.put_worded_file.ensures
 
-pub put_head-end-requires : goal.put_head-end-requires
-put_head-end-requires c = search rules
-
 pub put_systems-requires : goal.put_systems-requires
 put_systems-requires c =
     let head = ((goal.at.put_systems-requires c).After-open-opened).open-opened.result.head in record { headed = opened-headed ((goal.at.put_systems-requires c).After-open-opened).open-opened.ensures c.if-opened-ne0.false; room = omega (arith, c.requires, c.put_head-end.auto, c.put_head-end.ensures.ends, head-short head.fans head.systems) }
-
-pub shape_of-out : goal.shape_of-out
-shape_of-out c = search rules
 
 pub returns : goal.returns
 returns c =

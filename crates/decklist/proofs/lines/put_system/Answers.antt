@@ -5,25 +5,15 @@ use Rattle.text.specs.Decimal.{text}
 use Rattle.text.proofs.Adding.{named-added, named-reach, added_more}
 use Rattle.deck.proofs.Kept.{few-systems}
 use Rattle.systems.proofs.Figures.{answer-within}
-use borrow.Author.Rules.{rules}
 use Rattle.decklist.proofs.lines.put_system.Goals as goal
-
-pub rate-rating-requires : goal.rate-rating-requires
-rate-rating-requires c = search rules
 
 pub overflow_add-s : goal.overflow_add-s
 overflow_add-s c =
     omega (arith, c.requires.placed.place, few-systems c.requires.placed.headed)
 
-pub put_named-end-requires : goal.put_named-end-requires
-put_named-end-requires c = search rules
-
 pub put_rating-requires : goal.put_rating-requires
 put_rating-requires c =
     let one = named-added (omega (arith, c.requires.room)) c.put_named-end.ensures in record { placed = c.requires.placed; within = rw c.rate-rating.ensures (answer-within c.args.file.now c.args.s); room = omega (arith, c.requires.room, c.put_named-end.auto, named-reach (text "system ") (c.args.s + 1) one) }
-
-pub shape_of-out : goal.shape_of-out
-shape_of-out c = search rules
 
 pub returns : goal.returns
 returns c =

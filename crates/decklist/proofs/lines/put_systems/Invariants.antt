@@ -1,5 +1,4 @@
 -- `lines::put_systems` meets its contract: the buffer so far has the lines of the systems passed, and room for the rest. Assumes nothing.
-use Prim.Native.Nat.{◌-◌}
 use Rattle.printing.proofs.Lined.{Lined}
 use Rattle.decklist.specs.Lines.{system_line}
 use Rattle.decklist.proofs.lines.put_systems.Given as goal

@@ -1,6 +1,6 @@
 -- `heard::read_text` meets its contract: what was fed is held, whatever each read brings. Assumes nothing.
 use mathlib.Core.Path.{◌≡◌}
-use Prim.Native.Nat.{◌*◌, ◌-◌, ◌≤◌}
+use Prim.Native.Nat.{◌*◌, ◌≤◌}
 use lib.ListN.{length}
 use Rattle.text_stream.specs.Feeding.{Sane}
 use Rattle.deckmake.proofs.heard.read_text.Given as goal

@@ -1,5 +1,4 @@
 -- `lines::put_fans` meets its contract: the buffer so far has the lines of the fans passed, and room for the rest. Assumes nothing.
-use Prim.Native.Nat.{◌-◌}
 use Rattle.printing.proofs.Lined.{Lined}
 use Rattle.deckworth.specs.Lines.{fan_line}
 use Rattle.deckworth.proofs.lines.put_fans.Given as goal

@@ -3,17 +3,7 @@ use Rattle.deck.proofs.Outcome.{opened-headed}
 use Rattle.printing.proofs.Printed.{refused-worded, print-worded}
 use Rattle.deckworth.specs.Lines.{list_text}
 use Rattle.deckworth.proofs.Halves.{in-first, two-same}
-use borrow.Author.Rules.{rules}
 use Rattle.deckworth.proofs.lines.put_file.Goals as goal
-
-pub open-opened-requires : goal.open-opened-requires
-open-opened-requires c = search rules
-
-pub put_worded_file-line-requires : goal.put_worded_file-line-requires
-put_worded_file-line-requires c = search rules
-
-pub shape_of-out-then-opened-ne0 : goal.shape_of-out-then-opened-ne0
-shape_of-out-then-opened-ne0 c = search rules
 
 pub returns-then-opened-ne0 : goal.returns-then-opened-ne0
 returns-then-opened-ne0 c =
@@ -22,12 +12,6 @@ returns-then-opened-ne0 c =
 pub put_systems-requires : goal.put_systems-requires
 put_systems-requires c =
     record { headed = opened-headed c.open-opened.ensures c.if-opened-ne0.false; room = c.requires }
-
-pub shape_of-out : goal.shape_of-out
-shape_of-out c = search rules
-
-pub shape_of-more : goal.shape_of-more
-shape_of-more c = search rules
 
 pub returns : goal.returns
 returns c =

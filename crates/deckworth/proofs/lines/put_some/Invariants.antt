@@ -1,5 +1,5 @@
 -- `lines::put_some` meets its contract: the buffer so far has the lines of the systems passed, and room for the rest. Assumes nothing.
-use Prim.Native.Nat.{◌+◌, ◌-◌}
+use Prim.Native.Nat.{◌+◌}
 use Rattle.printing.proofs.Lined.{Lined}
 use Rattle.deckworth.specs.Lines.{fans_text}
 use Rattle.deckworth.proofs.lines.put_some.Given as goal

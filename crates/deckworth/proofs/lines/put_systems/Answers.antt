@@ -2,15 +2,11 @@
 use native.Mathlib.Omega.{arith}
 use Rattle.deck.proofs.Kept.{few-systems}
 use Rattle.deckworth.proofs.Halves.{in-first, in_both, from_first, halves}
-use borrow.Author.Rules.{rules}
 use Rattle.deckworth.proofs.lines.put_systems.Goals as goal
 
 pub put_some-all-requires : goal.put_some-all-requires
 put_some-all-requires c =
     record { headed = c.requires.headed; few = (omega arith, omega (arith, c.if-head-le-HALF.true)); room = c.requires.room.0 }
-
-pub shape_of-out-then-head-le-HALF : goal.shape_of-out-then-head-le-HALF
-shape_of-out-then-head-le-HALF c = search rules
 
 pub returns-then-head-le-HALF : goal.returns-then-head-le-HALF
 returns-then-head-le-HALF c =
@@ -21,18 +17,9 @@ pub put_some-first-requires : goal.put_some-first-requires
 put_some-first-requires c =
     record { headed = c.requires.headed; few = (omega (arith, c.if-head-le-HALF.false), omega arith); room = c.requires.room.0 }
 
-pub overflow_sub-head : goal.overflow_sub-head
-overflow_sub-head c = search rules
-
 pub put_some-second-requires : goal.put_some-second-requires
 put_some-second-requires c =
     record { headed = c.requires.headed; few = (omega (arith, c.if-head-le-HALF.false), omega (arith, few-systems c.requires.headed)); room = c.requires.room.1 }
-
-pub shape_of-out : goal.shape_of-out
-shape_of-out c = search rules
-
-pub shape_of-more : goal.shape_of-more
-shape_of-more c = search rules
 
 pub returns : goal.returns
 returns c =

@@ -6,14 +6,7 @@ use mir.ValLaws.{to_z-of_z}
 use native.Mathlib.Omega.{arith}
 use Rattle.text.specs.Decimal.{text}
 use Rattle.text.proofs.Adding.{put-added, added_more, signed-pair-reach}
-use borrow.Author.Rules.{rules}
 use Rattle.deckworth.proofs.lines.put_worth.Goals as goal
-
-pub enum_known-worth : goal.enum_known-worth
-enum_known-worth c = search rules
-
-pub put_signed_pair-end-requires : goal.put_signed_pair-end-requires
-put_signed_pair-end-requires c = search rules
 
 pub put-requires : goal.put-requires
 put-requires c =
@@ -23,15 +16,6 @@ put-requires c =
     let reach = signed-pair-reach (text " lower ") c.in-Ends.lower (text " upper ") c.in-Ends.upper ends in
     omega (arith, c.requires.room, c.put_signed_pair-end.auto, reach)
 
-pub enum_known-worth-in-Refused-1 : goal.enum_known-worth-in-Refused-1
-enum_known-worth-in-Refused-1 c = search rules
-
-pub put_refusal-requires : goal.put_refusal-requires
-put_refusal-requires c = search rules
-
-pub shape_of-out-in-Ends : goal.shape_of-out-in-Ends
-shape_of-out-in-Ends c = search rules
-
 pub returns-in-Ends : goal.returns-in-Ends
 returns-in-Ends c =
     let lower : to_z w64 (of_z w64 c.in-Ends.lower) ≡ c.in-Ends.lower = grind (arith, to_z-of_z) in
@@ -39,9 +23,6 @@ returns-in-Ends c =
     let ends = rw (lower, upper) at c.put_signed_pair-end.ensures in
     let reach = signed-pair-reach (text " lower ") c.in-Ends.lower (text " upper ") c.in-Ends.upper ends in
     rw c.in-Ends.is (added_more ends (put-added (omega (arith, c.requires.room, c.put_signed_pair-end.auto, reach)) c.put.ensures))
-
-pub shape_of-out-in-Refused : goal.shape_of-out-in-Refused
-shape_of-out-in-Refused c = search rules
 
 pub returns-in-Refused : goal.returns-in-Refused
 returns-in-Refused c =

@@ -1,6 +1,6 @@
 -- `reading::read_stream` meets its contract: what was fed leaves a reading that can go on. Assumes nothing.
 use mathlib.Core.Path.{◌≡◌}
-use Prim.Native.Nat.{◌-◌, ◌≤◌}
+use Prim.Native.Nat.{◌≤◌}
 use lib.ListN.{length}
 use Rattle.ending.specs.Ending.{longest}
 use Rattle.shell.specs.Edges.{label_room}
