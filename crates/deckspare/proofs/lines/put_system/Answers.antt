@@ -12,20 +12,20 @@ use Rattle.deckspare.proofs.lines.put_system.Goals as goal
 pub slice_bounds-survival-end : goal.slice_bounds-survival-end
 slice_bounds-survival-end c = omega (arith, few-fans c.requires.placed.headed)
 
-pub slice_bounds-put_asked-end : goal.slice_bounds-put_asked-end
-slice_bounds-put_asked-end c = sym (length-take-le _ _ (omega (arith, few-fans c.requires.placed.headed)))
+pub slice_bounds-lists-end : goal.slice_bounds-lists-end
+slice_bounds-lists-end c = sym (length-take-le _ _ (omega (arith, few-fans c.requires.placed.headed)))
 
 pub slice_bounds-weights-end : goal.slice_bounds-weights-end
 slice_bounds-weights-end c = omega (arith, few-fans c.requires.placed.headed)
 
-pub slice_bounds-put_asked-end-2 : goal.slice_bounds-put_asked-end-2
-slice_bounds-put_asked-end-2 c = sym (length-take-le _ _ (omega (arith, few-fans c.requires.placed.headed)))
+pub slice_bounds-lists-end-2 : goal.slice_bounds-lists-end-2
+slice_bounds-lists-end-2 c = sym (length-take-le _ _ (omega (arith, few-fans c.requires.placed.headed)))
 
 pub slice_bounds-switchboards-end : goal.slice_bounds-switchboards-end
 slice_bounds-switchboards-end c = omega (arith, few-boards c.requires.placed.headed)
 
-pub slice_bounds-put_asked-end-3 : goal.slice_bounds-put_asked-end-3
-slice_bounds-put_asked-end-3 c = sym (length-take-le _ _ (omega (arith, few-boards c.requires.placed.headed)))
+pub slice_bounds-lists-end-4 : goal.slice_bounds-lists-end-4
+slice_bounds-lists-end-4 c = sym (length-take-le _ _ (omega (arith, few-boards c.requires.placed.headed)))
 
 pub put_asked-requires : goal.put_asked-requires
 put_asked-requires c =
