@@ -4,7 +4,7 @@
 
 pub mod map; // map.rt: which of the table's cells hold what
 
-ghost use Rattle.std.specs.Prelude.{◌≡◌, Bool, cond, ◌++◌, ◌-◌, ◌<◌, ◌≤◌, min, length, get_or, drop, replicate};
+ghost use Rattle.std.specs.Prelude.{◌≡◌, Bool, cond, ◌++◌, ◌<◌, ◌≤◌, length, get_or, drop, replicate};
 ghost use Rattle.rules.specs.State.{S};
 ghost use Rattle.rules.specs.Figure.{rounded, mixed};
 ghost use Rattle.units.specs.Step.{whole};
@@ -152,17 +152,4 @@ pub fn zero(table: &mut [u64], count: usize)
     ensures { table.new ≡ replicate count 0 ++ drop count table.old }
 {
     table[..count].fill(0);
-}
-
-pub fn lesser(a: usize, b: usize) -> usize
-    ensures { result ≡ min a b }
-{
-    a.min(b)
-}
-
-// a less b, or 0.
-pub fn rest(a: usize, b: usize) -> usize
-    ensures { result ≡ a - b }
-{
-    a.saturating_sub(b)
 }

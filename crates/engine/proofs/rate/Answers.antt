@@ -1,5 +1,4 @@
 -- `rate` takes the kinds apart; the figure of each room is the rule's. Assumes nothing.
-use borrow.Author.Rules.{rules}
 use mathlib.Core.Path.{refl}
 use Prim.Native.Nat.{◌≤◌}
 use native.Mathlib.Omega.{arith}
@@ -41,46 +40,28 @@ pub rate-requires-in_default : goal.rate-requires-in_default
 rate-requires-in_default c =
     in_rows c.args.decimal c.requires (beside-early c.args.rule c.args.weights.now c.args.more.now (early ((goal.at.rate-requires-in_default c).In_default))) (early ((goal.at.rate-requires-in_default c).In_default))
 
-pub shape_of-table-in-4 : goal.shape_of-table-in-4
-shape_of-table-in-4 c = search rules
-
 pub returns-in-4 : goal.returns-in-4
 unfolding reading_of
 returns-in-4 c = record { figure = room-is _ _ _ _ 4 c.in-4.is (λ up. refl) c.line.ensures.figure; kept = c.line.ensures.kept }
 
-pub shape_of-table-in-5 : goal.shape_of-table-in-5
-shape_of-table-in-5 c = search rules
-
 pub returns-in-5 : goal.returns-in-5
 unfolding reading_of
 returns-in-5 c = record { figure = room-is _ _ _ _ 5 c.in-5.is (λ up. refl) c.ring.ensures.figure; kept = c.ring.ensures.kept }
-
-pub shape_of-table-in-6 : goal.shape_of-table-in-6
-shape_of-table-in-6 c = search rules
 
 pub returns-in-6 : goal.returns-in-6
 unfolding reading_of
 returns-in-6 c =
     record { figure = room-is _ _ _ _ 6 c.in-6.is (λ up. refl) c.line-in-6.ensures.figure; kept = c.line-in-6.ensures.kept }
 
-pub shape_of-table-in-7 : goal.shape_of-table-in-7
-shape_of-table-in-7 c = search rules
-
 pub returns-in-7 : goal.returns-in-7
 unfolding reading_of
 returns-in-7 c =
     record { figure = room-is _ _ _ _ 7 c.in-7.is (λ up. refl) c.ring-in-7.ensures.figure; kept = c.ring-in-7.ensures.kept }
 
-pub shape_of-table-in-8 : goal.shape_of-table-in-8
-shape_of-table-in-8 c = search rules
-
 pub returns-in-8 : goal.returns-in-8
 unfolding reading_of
 returns-in-8 c =
     record { figure = reads-is _ c.args.rule _ (beside-more c.args.rule c.args.weights.now c.args.more.now c.in-8.is) (room-is _ c.args.rule _ _ 8 c.in-8.is (λ up. refl) c.rate.ensures.figure); kept = c.rate.ensures.kept }
-
-pub shape_of-table-in_default : goal.shape_of-table-in_default
-shape_of-table-in_default c = search rules
 
 pub returns-in_default : goal.returns-in_default
 returns-in_default c =

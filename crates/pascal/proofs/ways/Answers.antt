@@ -3,23 +3,13 @@ use mathlib.Core.Path.{sym}
 use mathlib.Core.Bool.{true}
 use Prim.Native.Nat.{◌+◌, ◌*◌, ◌/◌, ◌<◌}
 use native.Mathlib.Omega.{arith}
-use borrow.Author.Rules.{rules}
 use Rattle.rules.proofs.Words.{count-above}
 use Rattle.pascal.proofs.Folded.{row_small, fold-front, folded-ways}
 use Rattle.pascal.proofs.ways.Goals as goal
 use Rattle.pascal.proofs.ways.Goals.{After-fold}
 
-pub overflow_add-result : goal.overflow_add-result
-overflow_add-result c = search rules
-
-pub overflow_add-result-then-j-n : goal.overflow_add-result-then-j-n
-overflow_add-result-then-j-n c = search rules
-
 pub overflow_mul-result : goal.overflow_mul-result
 overflow_mul-result c = omega (arith, row_small c.requires.0)
-
-pub fold-requires : goal.fold-requires
-fold-requires c = search rules
 
 -- where the entry stands
 place-small : (c : After-fold) → (c.args.n + 1) * (c.args.n + 1) / 4 + c.fold.result < 1089

@@ -1,6 +1,4 @@
 -- `write` stores a pair, low then high. Assumes nothing.
-use native.Mathlib.Omega.{arith}
-use lib.ListN.{length-set}
 use Rattle.places.proofs.Cells.{put-set}
 use Rattle.places.proofs.write.Goals as goal
 
