@@ -82,8 +82,7 @@ fn best_pair(
 {
     let size = (question.b - question.a) as usize + 1;
     let mut best = pairs::none();
-    let mut i: usize = 0;
-    while i < size {
+    for i in 0..size {
         progress::show(rt, two.s, best.rated, size as u64);
         best = pairs::rate_row(
             question,
@@ -95,7 +94,6 @@ fn best_pair(
             boards,
             switchboards,
         );
-        i += 1;
     }
     progress::wipe(rt);
     best
