@@ -73,11 +73,9 @@ fn best_pair(rt: &HostRuntime, question: Question, two: Two, lists: &RatedLists)
 {
     let size = (question.b - question.a) as usize + 1;
     let mut best = pairs::none();
-    let mut i: usize = 0;
-    while i < size {
+    for i in 0..size {
         progress::show(rt, two.s, best.rated, size as u64);
         best = pairs::rate_row(question, two.p, i, best, lists);
-        i += 1;
     }
     progress::wipe(rt);
     best

@@ -109,11 +109,8 @@ fn put_kinds(kinds: [Tally; KINDS], out: &mut [u8], at: usize) -> usize
     ensures { Added (kinds_text last_kind kinds) out.old at out.new result }
 {
     let mut end = at;
-    let mut k: usize = 0;
-    while k < KINDS {
-        let tally = kinds[k];
-        k += 1;
-        end = put_kind(k as u64, tally, out, end);
+    for (k, tally) in kinds.iter().enumerate() {
+        end = put_kind(k as u64 + 1, *tally, out, end);
     }
     end
 }

@@ -88,11 +88,7 @@ fn joined(part: [u8; LONGEST], kept: usize, more: &[u8]) -> [u8; LONGEST]
         (take (kept + length more.now) result ≡ take kept part ++ more.now) }
 {
     let mut next = part;
-    let mut i = 0;
-    while i < more.len() {
-        next[kept + i] = more[i];
-        i += 1;
-    }
+    next[kept..kept + more.len()].copy_from_slice(more);
     next
 }
 

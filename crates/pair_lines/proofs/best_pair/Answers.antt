@@ -1,4 +1,4 @@
--- `best_pair` tries one row of pairs after the other. The measure is the number of rows left. Assumes nothing.
+-- `best_pair` tries one row of pairs after the other. Assumes nothing.
 use mathlib.Core.Path.{◌≡◌}
 use mathlib.Core.List.{[]}
 use Prim.Native.Nat.{◌≤◌}
@@ -22,26 +22,20 @@ pub overflow_add-size : goal.overflow_add-size
 overflow_add-size c = omega (arith, stretch-in ((goal.at.overflow_add-size c).Start))
 
 pub loop-i-init : goal.loop-i-init
-loop-i-init c = (omega arith, none_tried c.none-best.ensures)
+loop-i-init c = none_tried c.none-best.ensures
 
 pub show-requires : goal.show-requires
 show-requires c = (omega (arith, c.loop-i-test.true), omega (arith, stretch-in ((goal.at.show-requires c).Start)))
 
 pub rate_row-best-requires : goal.rate_row-best-requires
 rate_row-best-requires c =
-    record { accepted = c.requires; place = omega (arith, c.loop-i-test.true, stretch-in ((goal.at.rate_row-best-requires c).Start)); tried = c.loop-i.invariant.1 }
-
-pub overflow_add-i : goal.overflow_add-i
-overflow_add-i c = omega (arith, c.loop-i-test.true, stretch-in ((goal.at.overflow_add-i c).Start))
-
-pub loop-i-smaller : goal.loop-i-smaller
-loop-i-smaller c = omega (arith, c.loop-i-test.true)
+    record { accepted = c.requires; place = omega (arith, c.loop-i-test.true, stretch-in ((goal.at.rate_row-best-requires c).Start)); tried = c.loop-i.invariant }
 
 pub loop-i-preserved : goal.loop-i-preserved
-loop-i-preserved c = (omega (arith, c.loop-i-test.true), c.rate_row-best.ensures)
+loop-i-preserved c = c.rate_row-best.ensures
 
 pub returns : goal.returns
 returns c =
     let s = (goal.at.returns c).Start in
-    let all : c.loop-i.i ≡ size_of (asked s) = omega (arith, c.loop-i-test.false, c.loop-i.invariant.0, stretch-in s) in
-    rw all at c.loop-i.invariant.1
+    let all : c.loop-i.i ≡ size_of (asked s) = omega (arith, c.loop-i-test.false, c.loop-i.auto.i-end, stretch-in s) in
+    rw all at c.loop-i.invariant
