@@ -1,6 +1,6 @@
 // Kind 2: row j of the working table holds for each sum how many states of the components read so far have j failed
 // that weigh as much.
-ghost use Rattle.std.specs.Prelude.{◌≡◌, ◌+◌, ◌-◌, ◌≤◌, ◌<◌, min, length, get_or, set};
+ghost use Rattle.std.specs.Prelude.{◌≡◌, ◌+◌, ◌-◌, ◌^◌, ◌≤◌, ◌<◌, min, sum, length, get_or, set};
 ghost use Rattle.rules.specs.Below.{sum_below};
 ghost use Rattle.rules.specs.Refusal.{heaviest};
 ghost use Rattle.bins.specs.Cells.{Stored};
@@ -65,12 +65,12 @@ pub fn fill(k: usize, weights: &[u16], table: &mut [u64])
     }
 }
 
-// A cell of the row at `from`.
-fn cell(from: usize, s: usize, table: &[u64]) -> u64
-    requires { from + s < length table.now }
-    ensures { result ≡ get_or table.now (from + s) 0 }
+// Cells added up.
+fn added(cells: &[u64]) -> u64
+    requires { sum cells.now < 2 ^ 64 }
+    ensures { result ≡ sum cells.now }
 {
-    table[from + s]
+    cells.iter().sum()
 }
 
 // The states of a row that weigh less than k.
@@ -78,9 +78,5 @@ pub fn total(k: usize, from: usize, table: &[u64]) -> u64
     requires { Summable k from table.now }
     ensures { result ≡ sum_below k (λ s. get_or table.now (from + s) 0) }
 {
-    let mut sum: u64 = 0;
-    for s in 0..k {
-        sum += cell(from, s, table);
-    }
-    sum
+    added(&table[from..from + k])
 }
