@@ -95,14 +95,12 @@ pub fn above_from(numbers: &[u32], from: usize, upto: usize, limit: u64) -> usiz
     ensures is { result ≡ above_from limit numbers.now from (upto - from) }
     ensures within { result ≤ upto }
 {
-    let mut i = from;
-    while i < upto {
-        if numbers[i] as u64 > limit {
+    for i in from..upto {
+        if u64::from(numbers[i]) > limit {
             return i;
         }
-        i += 1;
     }
-    i
+    upto
 }
 
 // What the fans from one place up to another weigh together.
@@ -111,10 +109,8 @@ pub fn weight_from(weights: &[u16], from: usize, upto: usize) -> u64
     ensures { result ≡ weight_from weights.now from (upto - from) }
 {
     let mut sum: u64 = 0;
-    let mut i = from;
-    while i < upto {
-        sum += weights[i] as u64;
-        i += 1;
+    for weight in &weights[from..upto] {
+        sum += u64::from(*weight);
     }
     sum
 }

@@ -38,12 +38,6 @@ fn counted(left: bool, low: u64) -> u64
     if left { low } else { 0 }
 }
 
-fn larger(a: u64, b: u64) -> u64
-    ensures { result ≡ max a b }
-{
-    if a < b { b } else { a }
-}
-
 fn both(a: bool, b: bool) -> bool
     ensures { result ≡ a && b }
 {
@@ -68,10 +62,8 @@ fn highest(left: [bool; FANS], low: [u64; FANS], size: usize) -> u64
     ensures { result ≡ highest (λ i. get_or low i 0) (left_in left) size }
 {
     let mut top: u64 = 0;
-    let mut i: usize = 0;
-    while i < size {
-        top = larger(top, counted(left[i], low[i]));
-        i += 1;
+    for i in 0..size {
+        top = top.max(counted(left[i], low[i]));
     }
     top
 }
@@ -89,14 +81,12 @@ fn group_of(left: [bool; FANS], places: Places, before: Ends, size: usize) -> Gr
     let mut rest = left;
     let mut alike = [false; FANS];
     let mut count: u64 = 0;
-    let mut i: usize = 0;
-    while i < size {
+    for i in 0..size {
         let reaches = top <= high[i] + before.high;
         let was = left[i];
         alike[i] = both(was, reaches);
         rest[i] = only(was, reaches);
         count += one_if(both(was, reaches));
-        i += 1;
     }
     Group {
         left: rest,
@@ -165,8 +155,7 @@ fn put_group(
     let high = places.high;
     let alike = group.alike;
     let mut end = at;
-    let mut i: usize = 0;
-    while i < shown.size {
+    for i in 0..shown.size {
         let after = Ends {
             low: low[i],
             high: high[i],
@@ -181,7 +170,6 @@ fn put_group(
             out,
             end,
         );
-        i += 1;
     }
     end
 }
@@ -227,14 +215,12 @@ pub fn put_best(
     let mut left = [true; FANS];
     let mut gone: u64 = 0;
     let mut end = at;
-    let mut r: usize = 0;
-    while r < shown.size {
+    for _round in 0..shown.size {
         let group = group_of(left, places, before, shown.size);
         end = put_round(gone < best, shown, gone + 1, group, places, out, end);
         let rest = group.left;
         left = rest;
         gone += group.count;
-        r += 1;
     }
     end
 }

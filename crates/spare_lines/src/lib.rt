@@ -59,14 +59,12 @@ fn put_gains(
     let low = places.low;
     let high = places.high;
     let mut end = at;
-    let mut i: usize = 0;
-    while i < size {
+    for i in 0..size {
         let after = Ends {
             low: low[i],
             high: high[i],
         };
         end = put_gain(s, a + i as u64, after, before, out, end);
-        i += 1;
     }
     end
 }

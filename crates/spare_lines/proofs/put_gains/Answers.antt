@@ -1,4 +1,4 @@
--- `put_gains` meets its contract: the buffer so far has the lines of the places passed, and room for the rest. The measure is the number of places left. Assumes nothing.
+-- `put_gains` meets its contract: the buffer so far has the lines of the places passed, and room for the rest. Assumes nothing.
 use Prim.Native.Nat.{◌+◌}
 use native.Mathlib.Omega.{arith}
 use Rattle.rules.specs.Refusal.{most}
@@ -33,12 +33,6 @@ put_gain-end-requires c =
       within = (after.0, after.1, now.0, now.1);
       room = room-left c.loop-i.invariant gain_room most (λ j. gain-short c.args.s (c.args.a + j) _ c.args.before) c.loop-i-test.true c.requires.few.few.0 (omega (arith, c.requires.room));
     }
-
-pub overflow_add-i : goal.overflow_add-i
-overflow_add-i c = omega (arith, c.loop-i-test.true, c.requires.few.few)
-
-pub loop-i-smaller : goal.loop-i-smaller
-loop-i-smaller c = omega (arith, c.loop-i-test.true)
 
 pub loop-i-preserved : goal.loop-i-preserved
 loop-i-preserved c = one_more c.loop-i.invariant c.loop-i-test.true (omega (arith, c.put_gain-end.auto)) c.put_gain-end.ensures

@@ -1,10 +1,6 @@
--- `why::above_from` meets its contract: what is found from the place at hand on is what is found from the first. The measure is what is left. Assumes nothing.
-use Prim.Native.Nat.{◌-◌}
+-- `why::above_from` meets its contract: what is found from the place at hand on is what is found from the first. Assumes nothing.
 use Rattle.advice.proofs.Scanning.{Searched}
 use Rattle.advice.proofs.why.above_from.Given as goal
 
 abbrev pub invariant-loop-i : goal.invariant-loop-i
 invariant-loop-i l = Searched l.limit l.numbers l.from l.upto l.i
-
-abbrev pub decreases-loop-i : goal.decreases-loop-i
-decreases-loop-i l = l.upto - l.i

@@ -1,4 +1,4 @@
--- `best::group_of` meets its contract: the places passed are sorted. The measure is the number of places left. Assumes nothing.
+-- `best::group_of` meets its contract: the places passed are sorted. Assumes nothing.
 use mathlib.Core.Path.{◌≡◌, sym, ap, ◌∙◌}
 use mathlib.Core.Bool.{Bool, true, false, cond}
 use Prim.Native.Nat.{◌+◌, ◌^◌, ◌≤◌, ◌<◌}
@@ -23,7 +23,7 @@ overflow_add-top c =
     omega (arith, c.highest.ensures, top, c.requires.within.now)
 
 pub loop-i-init : goal.loop-i-init
-loop-i-init c = (omega arith, none_passed _ _ _ _ c.requires.long)
+loop-i-init c = none_passed _ _ _ _ c.requires.long
 
 pub bounds-high-i : goal.bounds-high-i
 bounds-high-i c = omega (arith, c.loop-i-test.true, c.requires.few)
@@ -44,23 +44,15 @@ bounds-rest-i c = omega (arith, c.loop-i-test.true, c.requires.few)
 
 pub overflow_add-count : goal.overflow_add-count
 overflow_add-count c =
-    omega (arith, c.loop-i-test.true, c.requires.few, few-counted c.loop-i.invariant.1, c.one_if-count.ensures, one-most c.both-in-loop-i.result)
-
-pub overflow_add-i : goal.overflow_add-i
-overflow_add-i c = omega (arith, c.loop-i-test.true, c.requires.few)
-
-pub loop-i-smaller : goal.loop-i-smaller
-loop-i-smaller c = omega (arith, c.loop-i-test.true)
+    omega (arith, c.loop-i-test.true, c.requires.few, few-counted c.loop-i.invariant, c.one_if-count.ensures, one-most c.both-in-loop-i.result)
 
 pub loop-i-preserved : goal.loop-i-preserved
 loop-i-preserved c =
-    let same = c.both-in-loop-i.ensures ∙ sym c.both.ensures in (
-      omega (arith, c.loop-i-test.true),
-      one-passed _ _ _ _ c.loop-i.invariant.1 (omega (arith, c.loop-i-test.true, c.requires.few)) c.both.ensures c.only.ensures
-          (c.one_if-count.ensures ∙ ap (λ b. cond b 1 0) same),
-    )
+    let same = c.both-in-loop-i.ensures ∙ sym c.both.ensures in
+    one-passed _ _ _ _ c.loop-i.invariant (omega (arith, c.loop-i-test.true, c.requires.few)) c.both.ensures c.only.ensures
+    (c.one_if-count.ensures ∙ ap (λ b. cond b 1 0) same)
 
 pub returns : goal.returns
 returns c =
-    let all : c.loop-i.i ≡ c.args.size = omega (arith, c.loop-i-test.false, c.loop-i.invariant.0) in
-    all-passed c.args.places c.args.before (ap (λ t. t + c.args.before.low) c.highest.ensures) (rw all at c.loop-i.invariant.1)
+    let all : c.loop-i.i ≡ c.args.size = omega arith in
+    all-passed c.args.places c.args.before (ap (λ t. t + c.args.before.low) c.highest.ensures) (rw all at c.loop-i.invariant)

@@ -1,4 +1,4 @@
--- `best::put_group` meets its contract: the buffer so far has the lines of the group's places passed, and room for the rest. The measure is the number of places left.
+-- `best::put_group` meets its contract: the buffer so far has the lines of the group's places passed, and room for the rest.
 -- Assumes nothing.
 use native.Mathlib.Omega.{arith}
 use Rattle.printing.proofs.Lined.{no_lines, one_more, all_lines}
@@ -32,12 +32,6 @@ put_place_if-end-requires c =
       within = c.requires.within.after c.loop-i.i;
       room = λ named. member-fits c.args.shown c.args.rank c.args.group.count c.args.group.alike c.args.places.low c.args.places.high c.loop-i.invariant c.loop-i-test.true named c.requires.room;
     }
-
-pub overflow_add-i : goal.overflow_add-i
-overflow_add-i c = omega (arith, c.loop-i-test.true, c.requires.few.few)
-
-pub loop-i-smaller : goal.loop-i-smaller
-loop-i-smaller c = omega (arith, c.loop-i-test.true)
 
 pub loop-i-preserved : goal.loop-i-preserved
 loop-i-preserved c = one_more c.loop-i.invariant c.loop-i-test.true (omega (arith, c.put_place_if-end.auto)) c.put_place_if-end.ensures
