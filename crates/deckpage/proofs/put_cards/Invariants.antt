@@ -1,7 +1,6 @@
 -- `put_cards` meets its contract: each system ends within the room, and each place is one of the file's. Assumes nothing.
 use lib.ListN.{length}
-use Prim.Native.Nat.{◌-◌, ◌≤◌}
-use mathlib.Core.Path.{◌≡◌}
+use Prim.Native.Nat.{◌≤◌}
 use Rattle.deckpage.proofs.put_cards.Given as goal
 
 abbrev pub invariant-loop-s : goal.invariant-loop-s

@@ -4,23 +4,10 @@ use native.Mathlib.Omega.{arith}
 use lib.Seq.{length-take-le}
 use Rattle.text.proofs.Adding.{added_more}
 use Rattle.deckmend.proofs.Whole.{mended-few, refused-whole, mended-whole}
-use borrow.Author.Rules.{rules}
 use Rattle.deckmend.proofs.mending.mend_front.Goals as goal
 
 pub slice_bounds-mend-end : goal.slice_bounds-mend-end
 slice_bounds-mend-end c = sym (length-take-le _ _ c.requires.within.0)
-
-pub slice_bounds-mend-end-2 : goal.slice_bounds-mend-end-2
-slice_bounds-mend-end-2 c = search rules
-
-pub mend-mending-requires : goal.mend-mending-requires
-mend-mending-requires c = search rules
-
-pub enum_known-mending : goal.enum_known-mending
-enum_known-mending c = search rules
-
-pub slice_bounds-put_changes-end : goal.slice_bounds-put_changes-end
-slice_bounds-put_changes-end c = search rules
 
 pub put_changes-last-requires : goal.put_changes-last-requires
 put_changes-last-requires c =
@@ -37,28 +24,10 @@ put_end-end-requires c =
     let few = mended-few c.args.input.now c.args.filled c.args.rest c.mend-mending.ensures c.requires.within.0 (omega (arith, c.buffer-1.given)) c.requires.rooms.0 (omega arith) c.in-Mended.is in
     omega (arith, few.0, c.requires.rooms.1, c.put_changes-last.auto, c.put_changes-last.ensures.reach)
 
-pub enum_known-mending-in-Refused-1 : goal.enum_known-mending-in-Refused-1
-enum_known-mending-in-Refused-1 c = search rules
-
-pub put_refused_file-end-requires : goal.put_refused_file-end-requires
-put_refused_file-end-requires c = search rules
-
-pub shape_of-file-in-Mended : goal.shape_of-file-in-Mended
-shape_of-file-in-Mended c = search rules
-
-pub shape_of-out-in-Mended : goal.shape_of-out-in-Mended
-shape_of-out-in-Mended c = search rules
-
 pub returns-in-Mended : goal.returns-in-Mended
 returns-in-Mended c =
     mended-whole c.args.input.now c.args.filled c.args.rest c.mend-mending.ensures c.requires.within.0 (omega (arith, c.buffer-1.given)) c.requires.rooms.0 (omega arith) c.in-Mended.is
     (added_more c.put_changes-last.ensures.added c.put_end-end.ensures)
-
-pub shape_of-file-in-Refused : goal.shape_of-file-in-Refused
-shape_of-file-in-Refused c = search rules
-
-pub shape_of-out-in-Refused : goal.shape_of-out-in-Refused
-shape_of-out-in-Refused c = search rules
 
 pub returns-in-Refused : goal.returns-in-Refused
 returns-in-Refused c =

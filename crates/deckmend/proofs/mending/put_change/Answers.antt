@@ -2,18 +2,11 @@
 use native.Mathlib.Omega.{arith}
 use Rattle.text.specs.Decimal.{text}
 use Rattle.text.proofs.Adding.{added_more, pair-reach}
-use borrow.Author.Rules.{rules}
 use Rattle.deckmend.proofs.mending.put_change.Goals as goal
-
-pub put_pair-end-requires : goal.put_pair-end-requires
-put_pair-end-requires c = search rules
 
 pub put_end-requires : goal.put_end-requires
 put_end-requires c =
     omega (arith, c.requires, c.put_pair-end.auto, pair-reach (text "byte ") c.args.place (text " was ") c.args.old c.put_pair-end.ensures)
-
-pub shape_of-out : goal.shape_of-out
-shape_of-out c = search rules
 
 pub returns : goal.returns
 returns c =

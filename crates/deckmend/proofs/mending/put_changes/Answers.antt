@@ -1,8 +1,7 @@
 -- `mending::put_changes` meets its contract: the buffer so far has the lines of the changes passed, and room for the rest. Assumes nothing.
-use mathlib.Core.Path.{◌≡◌, refl}
+use mathlib.Core.Path.{◌≡◌}
 use native.Mathlib.Omega.{arith}
 use native.Mathlib.Numerals.{add-one}
-use borrow.Author.Rules.{rules}
 use Rattle.text.proofs.Adding.{none-added, added_more}
 use Rattle.deckmend.specs.Lines.{changes_text}
 use Rattle.deckmend.proofs.Lengths.{changes-short}
@@ -15,9 +14,6 @@ loop-i-init c = none-added c.args.out.now 0
 pub overflow_mul-at : goal.overflow_mul-at
 overflow_mul-at c = omega (arith, c.requires.listed)
 
-pub offset_bounds-list-at : goal.offset_bounds-list-at
-offset_bounds-list-at c = search rules
-
 pub bounds-list-at : goal.bounds-list-at
 bounds-list-at c =
     omega (arith, c.requires.listed)
@@ -26,9 +22,6 @@ pub overflow_add-at : goal.overflow_add-at
 overflow_add-at c =
     omega (arith, c.requires.listed)
 
-pub offset_bounds-list-at-in-loop-i : goal.offset_bounds-list-at-in-loop-i
-offset_bounds-list-at-in-loop-i c = search rules
-
 pub bounds-list-at-in-loop-i : goal.bounds-list-at-in-loop-i
 bounds-list-at-in-loop-i c =
     omega (arith, c.requires.listed)
@@ -36,9 +29,6 @@ bounds-list-at-in-loop-i c =
 pub overflow_add-at-in-loop-i : goal.overflow_add-at-in-loop-i
 overflow_add-at-in-loop-i c =
     omega (arith, c.requires.listed)
-
-pub offset_bounds-list-at-in-loop-i-2 : goal.offset_bounds-list-at-in-loop-i-2
-offset_bounds-list-at-in-loop-i-2 c = search rules
 
 pub bounds-list-at-in-loop-i-2 : goal.bounds-list-at-in-loop-i-2
 bounds-list-at-in-loop-i-2 c =

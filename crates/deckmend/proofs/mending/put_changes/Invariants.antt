@@ -1,7 +1,4 @@
 -- `mending::put_changes` meets its contract: the buffer so far has the lines of the changes passed, and room for the rest. Assumes nothing.
-use mathlib.Core.Path.{◌≡◌}
-use Prim.Native.Nat.{◌-◌, ◌≤◌}
-use lib.ListN.{length}
 use Rattle.text.specs.Added.{Added}
 use Rattle.deckmend.specs.Lines.{changes_text}
 use Rattle.deckmend.proofs.mending.put_changes.Given as goal

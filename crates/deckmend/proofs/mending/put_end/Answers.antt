@@ -1,17 +1,7 @@
 -- `mending::put_end` meets its contract: the number and the line's end fit. Assumes nothing.
 use native.Mathlib.Omega.{arith}
 use Rattle.text.proofs.Adding.{put-added, named-added, named-reach, added_more}
-use borrow.Author.Rules.{rules}
 use Rattle.deckmend.proofs.mending.put_end.Goals as goal
-
-pub put_named-end-requires : goal.put_named-end-requires
-put_named-end-requires c = search rules
-
-pub put-requires : goal.put-requires
-put-requires c = search rules
-
-pub shape_of-out : goal.shape_of-out
-shape_of-out c = search rules
 
 pub returns : goal.returns
 returns c =

@@ -4,31 +4,15 @@ use Rattle.grammar.specs.Numbers.{parts}
 use Rattle.deck.proofs.Outcome.{opened-headed}
 use Rattle.printing.proofs.Printed.{refused-printed, body-printed}
 use Rattle.deckspare.specs.Lines.{list_text}
-use borrow.Author.Rules.{rules}
 use Rattle.deckspare.proofs.lines.put_file.Goals as goal
-
-pub open-opened-requires : goal.open-opened-requires
-open-opened-requires c = search rules
-
-pub put_refused_file-requires : goal.put_refused_file-requires
-put_refused_file-requires c = search rules
-
-pub shape_of-out-then-opened-ne0 : goal.shape_of-out-then-opened-ne0
-shape_of-out-then-opened-ne0 c = search rules
 
 pub returns-then-opened-ne0 : goal.returns-then-opened-ne0
 returns-then-opened-ne0 c =
     refused-printed (list_text c.args.word.now c.args.wanted) c.open-opened.ensures c.if-opened-ne0.true c.put_refused_file.ensures
 
-pub parts-p-requires : goal.parts-p-requires
-parts-p-requires c = search rules
-
 pub put_systems-requires : goal.put_systems-requires
 put_systems-requires c =
     record { headed = opened-headed c.open-opened.ensures c.if-opened-ne0.false; room = c.requires }
-
-pub shape_of-out : goal.shape_of-out
-shape_of-out c = search rules
 
 pub returns : goal.returns
 returns c =

@@ -1,6 +1,5 @@
 -- `lines::put_systems` meets its contract: the buffer so far has the lines of the systems passed, and room for the rest. Assumes nothing.
 -- left. Assumes nothing.
-use Prim.Native.Nat.{◌-◌}
 use native.Mathlib.Omega.{arith}
 use Rattle.rules.specs.File.{most_systems, deck_in, system_in, asked_by}
 use Rattle.deck.proofs.Kept.{few-systems}

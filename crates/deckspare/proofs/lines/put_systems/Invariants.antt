@@ -1,6 +1,5 @@
 -- `lines::put_systems` meets its contract: the buffer so far has the lines of the systems passed, and room for the rest. Assumes nothing.
 -- left. Assumes nothing.
-use Prim.Native.Nat.{◌-◌}
 use Rattle.printing.proofs.Lined.{Lined}
 use Rattle.deckspare.specs.Lines.{job_of, system_lines}
 use Rattle.deckspare.proofs.lines.put_systems.Given as goal

@@ -3,24 +3,11 @@ use mathlib.Core.Path.{sym, ap, ◌∙◌}
 use borrow.Author.Tests.{not-true, not-false}
 use Rattle.rules.specs.Below.{within}
 use Rattle.deckstate.specs.Words.{sound}
-use borrow.Author.Rules.{rules}
 use Rattle.deckstate.proofs.hearing.board_heard.Goals as goal
-
-pub outside-requires : goal.outside-requires
-outside-requires c = search rules
-
-pub faulty-requires : goal.faulty-requires
-faulty-requires c = search rules
 
 pub returns-then-outside : goal.returns-then-outside
 returns-then-outside c =
     rw (not-true (within 1 c.args.number c.args.g) (sym c.outside.ensures ∙ c.if-outside.true)) c.faulty.ensures
-
-pub board_failed-requires : goal.board_failed-requires
-board_failed-requires c = search rules
-
-pub sound-requires : goal.sound-requires
-sound-requires c = search rules
 
 pub returns : goal.returns
 returns c =

@@ -1,9 +1,5 @@
 -- `hearing::end_words` meets its contract, by its one test. Assumes nothing.
-use borrow.Author.Rules.{rules}
 use Rattle.deckstate.proofs.hearing.end_words.Goals as goal
-
-pub faulty-requires : goal.faulty-requires
-faulty-requires c = search rules
 
 pub returns-then-said : goal.returns-then-said
 returns-then-said c = rw c.if-said.true c.faulty.ensures

@@ -1,21 +1,11 @@
 -- `hearing::hear` meets its contract: an option, or a word of the state. Assumes nothing.
 use native.Mathlib.Omega.{arith}
 use Rattle.deckstate.proofs.Words.{option-heard, operand-heard}
-use borrow.Author.Rules.{rules}
 use Rattle.deckstate.proofs.hearing.hear.Goals as goal
-
-pub hear-next-requires : goal.hear-next-requires
-hear-next-requires c = search rules
 
 pub returns-then-next-before : goal.returns-then-next-before
 returns-then-next-before c =
     record { value = option-heard c.args.n c.args.g c.args.boards.now c.args.place c.args.word.now c.args.hearing c.hear-next.result c.hear-next.ensures.is c.if-next-before.true; sound_2 = (c.hear-next.ensures.sound, omega arith) }
-
-pub overflow_add-heard : goal.overflow_add-heard
-overflow_add-heard c = search rules
-
-pub hear_word-more-requires : goal.hear_word-more-requires
-hear_word-more-requires c = search rules
 
 pub returns : goal.returns
 returns c =

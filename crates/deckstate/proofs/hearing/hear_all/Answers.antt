@@ -2,14 +2,7 @@
 use Rattle.deck.proofs.Outcome.{opened-accepted, opened-headed}
 use Rattle.deck.proofs.Kept.{few-fans}
 use Rattle.deckstate.proofs.Words.{boards-few}
-use borrow.Author.Rules.{rules}
 use Rattle.deckstate.proofs.hearing.hear_all.Goals as goal
-
-pub silence-hearing-requires : goal.silence-hearing-requires
-silence-hearing-requires c = search rules
-
-pub returns-then-opened-ne0 : goal.returns-then-opened-ne0
-returns-then-opened-ne0 c = search rules
 
 pub boards_in-boards-requires : goal.boards_in-boards-requires
 boards_in-boards-requires c = opened-headed c.requires c.if-opened-ne0.false
@@ -19,6 +12,3 @@ hear_words-requires c = (
   few-fans (opened-headed c.requires c.if-opened-ne0.false),
   rw c.boards_in-boards.ensures (boards-few _ (opened-accepted c.requires c.if-opened-ne0.false)),
 )
-
-pub returns : goal.returns
-returns c = search rules

@@ -1,6 +1,6 @@
 -- `hearing::hear_words` meets its contract: each word is heard at its place. Assumes nothing.
 use mathlib.Core.Path.{◌≡◌}
-use Prim.Native.Nat.{◌-◌, ◌≤◌, ◌<◌}
+use Prim.Native.Nat.{◌<◌}
 use lib.ListN.{length}
 use Rattle.options.specs.Words.{Sound}
 use Rattle.deckstate.specs.Words.{longest_word}

@@ -3,18 +3,11 @@ use mathlib.Core.Path.{ap, ◌∙◌}
 use Rattle.deck.proofs.Outcome.{opened-headed}
 use Rattle.deckstate.specs.Words.{ended}
 use Rattle.deckstate.proofs.Words.{said-heard, said-refused}
-use borrow.Author.Rules.{rules}
 use Rattle.deckstate.proofs.hearing.settled.Goals as goal
-
-pub sound-requires : goal.sound-requires
-sound-requires c = search rules
 
 pub returns-then-opened-ne0 : goal.returns-then-opened-ne0
 returns-then-opened-ne0 c =
     said-refused _ (λ none. c.if-opened-ne0.true (c.requires.refusal ∙ none)) c.sound.ensures
-
-pub end_words-requires : goal.end_words-requires
-end_words-requires c = search rules
 
 pub returns : goal.returns
 returns c =

@@ -2,14 +2,7 @@
 use mathlib.Core.Path.{sym, subst}
 use Rattle.options.specs.Words.{Sound}
 use Rattle.options.proofs.Heard.{nothing-sound}
-use borrow.Author.Rules.{rules}
 use Rattle.deckstate.proofs.hearing.silence.Goals as goal
-
-pub nothing-asked-requires : goal.nothing-asked-requires
-nothing-asked-requires c = search rules
-
-pub sound-said-requires : goal.sound-said-requires
-sound-said-requires c = search rules
 
 pub returns : goal.returns
 returns c =

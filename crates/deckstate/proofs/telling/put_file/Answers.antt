@@ -3,14 +3,7 @@ use native.Mathlib.Omega.{arith}
 use Rattle.deck.proofs.Outcome.{opened-headed}
 use Rattle.printing.proofs.Printed.{refused-printed, body-printed}
 use Rattle.deckstate.specs.Lines.{states_text}
-use borrow.Author.Rules.{rules}
 use Rattle.deckstate.proofs.telling.put_file.Goals as goal
-
-pub put_refused_file-requires : goal.put_refused_file-requires
-put_refused_file-requires c = search rules
-
-pub shape_of-out-then-opened-ne0 : goal.shape_of-out-then-opened-ne0
-shape_of-out-then-opened-ne0 c = search rules
 
 pub returns-then-opened-ne0 : goal.returns-then-opened-ne0
 returns-then-opened-ne0 c =
@@ -19,9 +12,6 @@ returns-then-opened-ne0 c =
 pub put_systems-requires : goal.put_systems-requires
 put_systems-requires c =
     record { headed = opened-headed c.requires.opens c.if-opened-ne0.false; room = omega (arith, c.requires.room) }
-
-pub shape_of-out : goal.shape_of-out
-shape_of-out c = search rules
 
 pub returns : goal.returns
 returns c =

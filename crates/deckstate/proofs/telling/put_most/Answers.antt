@@ -1,17 +1,7 @@
 -- `telling::put_most` meets its contract: the number and what stands behind it fit. Assumes nothing.
 use native.Mathlib.Omega.{arith}
 use Rattle.text.proofs.Adding.{put-added, added_more, named-added, named-reach}
-use borrow.Author.Rules.{rules}
 use Rattle.deckstate.proofs.telling.put_most.Goals as goal
-
-pub put_named-end-requires : goal.put_named-end-requires
-put_named-end-requires c = search rules
-
-pub put-requires : goal.put-requires
-put-requires c = search rules
-
-pub shape_of-out : goal.shape_of-out
-shape_of-out c = search rules
 
 pub returns : goal.returns
 returns c =

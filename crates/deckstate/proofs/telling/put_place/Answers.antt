@@ -3,29 +3,16 @@ use native.Mathlib.Omega.{arith}
 use borrow.Author.Tests.{eq-eqb, ne_eqb}
 use Rattle.text.specs.Decimal.{text}
 use Rattle.text.proofs.Adding.{put-added, named-added, named-reach, added_more}
-use borrow.Author.Rules.{rules}
 use Rattle.deckstate.proofs.telling.put_place.Goals as goal
-
-pub put-requires : goal.put-requires
-put-requires c = search rules
-
-pub shape_of-out-then-place-eq0 : goal.shape_of-out-then-place-eq0
-shape_of-out-then-place-eq0 c = search rules
 
 pub returns-then-place-eq0 : goal.returns-then-place-eq0
 returns-then-place-eq0 c =
     rw (eq-eqb _ _ c.if-place-eq0.true) (put-added (omega (arith, c.requires)) c.put.ensures)
 
-pub put_named-end-requires : goal.put_named-end-requires
-put_named-end-requires c = search rules
-
 pub put-requires-2 : goal.put-requires-2
 put-requires-2 c =
     let one = named-added (omega (arith, c.requires)) c.put_named-end.ensures in
     omega (arith, c.requires, c.put_named-end.auto, named-reach (text " fails from ") c.args.place one)
-
-pub shape_of-out : goal.shape_of-out
-shape_of-out c = search rules
 
 pub returns : goal.returns
 returns c =

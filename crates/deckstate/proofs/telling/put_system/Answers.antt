@@ -3,25 +3,12 @@ use Prim.Native.Nat.{◌+◌}
 use native.Mathlib.Omega.{arith}
 use Rattle.text.specs.Decimal.{text}
 use Rattle.text.proofs.Adding.{named-added, named-reach, added_more}
-use borrow.Author.Rules.{rules}
 use Rattle.deckstate.proofs.telling.put_system.Goals as goal
-
-pub state_system-verdict-requires : goal.state_system-verdict-requires
-state_system-verdict-requires c = search rules
-
-pub overflow_add-s : goal.overflow_add-s
-overflow_add-s c = search rules
-
-pub put_named-end-requires : goal.put_named-end-requires
-put_named-end-requires c = search rules
 
 pub put_verdict-requires : goal.put_verdict-requires
 put_verdict-requires c =
     let one = named-added (omega (arith, c.requires.room)) c.put_named-end.ensures in
     omega (arith, c.requires.room, c.put_named-end.auto, named-reach (text "system ") (c.args.s + 1) one)
-
-pub shape_of-out : goal.shape_of-out
-shape_of-out c = search rules
 
 pub returns : goal.returns
 returns c =

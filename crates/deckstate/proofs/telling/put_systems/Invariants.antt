@@ -1,5 +1,4 @@
 -- `telling::put_systems` meets its contract: the buffer so far has the lines of the systems passed, and room for the rest. Assumes nothing.
-use Prim.Native.Nat.{◌-◌}
 use Rattle.printing.proofs.Lined.{Lined}
 use Rattle.deckstate.specs.Lines.{system_line}
 use Rattle.deckstate.proofs.telling.put_systems.Given as goal

@@ -3,47 +3,22 @@ use mathlib.Core.Path.{◌≡◌}
 use native.Mathlib.Omega.{arith}
 use borrow.Author.Tests.{eq-eqb, ne_eqb}
 use Rattle.text.proofs.Adding.{put-added}
-use borrow.Author.Rules.{rules}
 use Rattle.deckstate.proofs.telling.put_wanted.Goals as goal
-
-pub put_most-requires : goal.put_most-requires
-put_most-requires c = search rules
-
-pub put-requires : goal.put-requires
-put-requires c = search rules
-
-pub put_most-requires-in-4 : goal.put_most-requires-in-4
-put_most-requires-in-4 c = search rules
-
-pub put_most-requires-in_default : goal.put_most-requires-in_default
-put_most-requires-in_default c = search rules
-
-pub shape_of-out-in-2 : goal.shape_of-out-in-2
-shape_of-out-in-2 c = search rules
 
 pub returns-in-2 : goal.returns-in-2
 returns-in-2 c =
     rw (eq-eqb _ 2 c.in-2.is) c.put_most.ensures
-
-pub shape_of-out-in-3 : goal.shape_of-out-in-3
-shape_of-out-in-3 c = search rules
 
 pub returns-in-3 : goal.returns-in-3
 returns-in-3 c =
     let unlike : c.args.wanted ≡ 2 → ⊥ = λ e. omega (arith, e, c.in-3.is) in
     rw (ne_eqb _ 2 unlike, eq-eqb _ 3 c.in-3.is) (put-added (omega (arith, c.requires)) c.put.ensures)
 
-pub shape_of-out-in-4 : goal.shape_of-out-in-4
-shape_of-out-in-4 c = search rules
-
 pub returns-in-4 : goal.returns-in-4
 returns-in-4 c =
     let two : c.args.wanted ≡ 2 → ⊥ = λ e. omega (arith, e, c.in-4.is) in
     let three : c.args.wanted ≡ 3 → ⊥ = λ e. omega (arith, e, c.in-4.is) in
     rw (ne_eqb _ 2 two, ne_eqb _ 3 three, eq-eqb _ 4 c.in-4.is) c.put_most-in-4.ensures
-
-pub shape_of-out-in_default : goal.shape_of-out-in_default
-shape_of-out-in_default c = search rules
 
 pub returns-in_default : goal.returns-in_default
 returns-in_default c =

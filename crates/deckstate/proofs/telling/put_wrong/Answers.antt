@@ -4,20 +4,7 @@ use lib.ListN.{take}
 use Rattle.text.specs.Decimal.{text}
 use Rattle.text.proofs.Adding.{added-counts, added_more, named-added, named-reach}
 use Rattle.saying.proofs.Texts.{three-ends, shown-short}
-use borrow.Author.Rules.{rules}
 use Rattle.deckstate.proofs.telling.put_wrong.Goals as goal
-
-pub slice_bounds-put_shown-end : goal.slice_bounds-put_shown-end
-slice_bounds-put_shown-end c = search rules
-
-pub put_shown-length-requires : goal.put_shown-length-requires
-put_shown-length-requires c = search rules
-
-pub put_named-start-requires : goal.put_named-start-requires
-put_named-start-requires c = search rules
-
-pub slice_bounds-put_three-end-2 : goal.slice_bounds-put_three-end-2
-slice_bounds-put_three-end-2 c = search rules
 
 pub slice_bounds-front-end : goal.slice_bounds-front-end
 slice_bounds-front-end c =
@@ -37,9 +24,6 @@ put_wanted-requires c =
     let counts = (added-counts c.put_shown-length.ensures).1 in
     let ends = three-ends (text ", \"") (take c.put_shown-length.result _) (text "\": ") c.put_three-quoted.ensures in
     omega (arith, c.requires, c.put_named-start.auto, c.put_three-quoted.auto, reach, ends, counts, c.put_shown-length.ensures.ends, shown-short c.args.word.now)
-
-pub shape_of-out : goal.shape_of-out
-shape_of-out c = search rules
 
 pub returns : goal.returns
 returns c =
