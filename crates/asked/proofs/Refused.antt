@@ -14,7 +14,7 @@ use Rattle.rules.specs.declared.Question.{Question}
 use Rattle.rules.specs.Below.{total}
 use Rattle.rules.specs.State.{beside_of}
 use Rattle.rules.specs.Stretch.{stretch}
-use Rattle.rules.specs.Asked.{Asked, question_in, asked_of, unit_in, length_of, size_of, part_of, weights_of, read_of, boards_of, switchboards_of, board_count}
+use Rattle.rules.specs.Asked.{Asked, question_in, asked_of, unit_in, length_of, part_of, boards_of, switchboards_of, board_count}
 use Rattle.rules.specs.Refusal.{after, first_of, bad_version, bad_kind, bad_size, bad_stretch, bad_boards, misplaced, above_unit, weights_out, bad_weights, ranged, in_range, short_table, figures_refusal}
 use Rattle.rules.proofs.Tests.{by-test}
 use Rattle.rules.proofs.Accepted.{none_first, first-same, first-after, first_more, first_rest, in-stretch, weights-accepted}

@@ -1,8 +1,8 @@
 -- The checks of a file as the program makes them, by the head that its header gives: what a test that the program made says of the file's own. Assumes nothing.
-use mathlib.Core.Path.{◌≡◌, refl, sym, ap, ap₂, ◌∙◌}
-use mathlib.Core.Bool.{Bool, true, false, cond, not, ◌&&◌, ◌||◌}
+use mathlib.Core.Path.{◌≡◌, refl, sym, ap, ◌∙◌}
+use mathlib.Core.Bool.{Bool, true, false, not, ◌&&◌, ◌||◌}
 use mathlib.Core.List.{List, [], ◌∷◌}
-use Prim.Native.Nat.{ℕ, ◌+◌, ◌*◌, ◌-◌, ◌≤◌}
+use Prim.Native.Nat.{ℕ, ◌-◌, ◌≤◌}
 use native.Mathlib.Omega.{arith}
 use lib.Dec.{eqb}
 use lib.ListN.{length, take, drop}
@@ -16,7 +16,7 @@ use Rattle.rules.specs.File.{boards_elsewhere, bad_layout, bad_systems, bad_boar
 use Rattle.rules.proofs.Lists.{below_length}
 use Rattle.rules.proofs.Tests.{both}
 use Rattle.rules.proofs.Accepted.{first-after}
-use Rattle.deck.specs.Head.{head_of, lists_elsewhere, boards_by, counts_refusal}
+use Rattle.deck.specs.Head.{lists_elsewhere, boards_by, counts_refusal}
 use Rattle.deck.specs.Outcome.{body_refusal}
 use Rattle.layout.proofs.Versions.{fans-bound}
 

@@ -1,8 +1,8 @@
 -- The arrays that a file's lists are read into: the first n or g entries of each are the list. And the laws of a head that its readers need: a file that is not
 -- refused is long enough for each list. Assumes nothing.
-use mathlib.Core.Path.{◌≡◌, sym, ap, ap₂, ◌∙◌}
+use mathlib.Core.Path.{◌≡◌, sym, ap₂, ◌∙◌}
 use mathlib.Core.List.{List}
-use Prim.Native.Nat.{ℕ, ◌+◌, ◌*◌, ◌^◌, ◌≤◌, ◌<◌}
+use Prim.Native.Nat.{ℕ, ◌≤◌}
 use native.Mathlib.Omega.{arith}
 use lib.ListN.{length, take}
 use Rattle.rules.specs.Refusal.{most_boards}
@@ -11,9 +11,8 @@ use Rattle.rules.specs.File.{fans_in, board_count_in, deck_in}
 use Rattle.arrays.specs.Padded.{padded}
 use Rattle.arrays.proofs.Lists.{padded-take}
 use Rattle.deck.specs.declared.Head.{Head}
-use Rattle.deck.specs.Head.{Small}
-use Rattle.deck.specs.Outcome.{Headed, Placed}
-use Rattle.deck.proofs.Sound.{Sound, sound, sound-few}
+use Rattle.deck.specs.Outcome.{Headed}
+use Rattle.deck.proofs.Sound.{sound, sound-few}
 
 module _ {bytes : List ℕ} {head : Head} (h : Headed bytes head) where
   -- no more fans, systems and boards than a file has

@@ -1,14 +1,14 @@
 -- Kind 8: pairs in range, one taken off; and what a rule that was accepted says of its pairs. Assumes nothing.
 use mathlib.Core.Path.{◌≡◌}
-use mathlib.Core.Bool.{Bool, true, false, not, ◌||◌}
+use mathlib.Core.Bool.{true, not}
 use mathlib.Core.List.{List, [], ◌∷◌}
-use Prim.Native.Nat.{ℕ, ◌^◌, ◌≤◌, ◌<◌, ◌%◌}
+use Prim.Native.Nat.{ℕ, ◌≤◌, ◌%◌}
 use lib.Dec.{eqb, ltb}
 use lib.ListN.{length}
 use borrow.Author.Tests.{not-true, ltb-false}
 use Rattle.rules.specs.declared.Pair.{Pair}
 use Rattle.rules.specs.Pairs.{pairs_of, all_of, good_pair, in_range8, bad_more, most_more}
-use Rattle.rules.specs.Refusal.{most, range_pairs}
+use Rattle.rules.specs.Refusal.{range_pairs}
 use Rattle.rules.proofs.Tests.{both, neither}
 use Rattle.rules.proofs.Pairs.{Good, good-pair}
 use Rattle.verdict.specs.Pairs.{From}

@@ -1,6 +1,5 @@
 -- `lists_refusal` tries the boards' lists, then the numbers: past each that answers no, the refusal is that of what is
 -- left. Assumes nothing.
-use borrow.Author.Rules.{rules}
 use mathlib.Core.Path.{◌≡◌, sym, ap, ◌∙◌}
 use mathlib.Core.List.{List, [], ◌∷◌}
 use Prim.Native.Nat.{ℕ}

@@ -2,17 +2,10 @@
 use mathlib.Core.Path.{sym, ap, ◌∙◌}
 use mathlib.Core.Bool.{◌||◌}
 use Rattle.rules.specs.Refusal.{some_above}
-use borrow.Author.Rules.{rules}
 use Rattle.asked.proofs.numbers_out.Goals as goal
-
-pub above_unit-requires : goal.above_unit-requires
-above_unit-requires c = search rules
 
 pub returns-then-above_unit : goal.returns-then-above_unit
 returns-then-above_unit c = sym (ap (λ b. b || some_above c.args.all c.args.own.now) (sym c.above_unit.ensures ∙ c.if-above_unit.true))
-
-pub above_unit-requires-2 : goal.above_unit-requires-2
-above_unit-requires-2 c = search rules
 
 pub returns : goal.returns
 returns c =

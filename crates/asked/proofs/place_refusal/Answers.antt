@@ -1,20 +1,13 @@
 -- `place_refusal` tries the conditions of `placeRefusal` in their order. Assumes nothing.
-use borrow.Author.Rules.{rules}
 use mathlib.Core.Path.{sym, ◌∙◌}
 use Rattle.rules.specs.Refusal.{first_of}
 use Rattle.rules.proofs.Accepted.{first-of, first-after}
 use Rattle.asked.specs.Parts.{place_refusal}
 use Rattle.asked.proofs.place_refusal.Goals as goal
 
-pub kind_out-requires : goal.kind_out-requires
-kind_out-requires c = search rules
-
 pub returns-then-kind_out : goal.returns-then-kind_out
 unfolding place_refusal
 returns-then-kind_out c = sym (first-of 1 _ _ (sym c.kind_out.ensures ∙ c.if-kind_out.true))
-
-pub size_out-requires : goal.size_out-requires
-size_out-requires c = search rules
 
 pub returns-then-size_out : goal.returns-then-size_out
 unfolding place_refusal
@@ -22,9 +15,6 @@ returns-then-size_out c =
     let one = sym c.kind_out.ensures ∙ c.if-kind_out.false in
     let two = sym c.size_out.ensures ∙ c.if-size_out.true in
     sym (first-after 1 _ _ one ∙ first-of 2 _ _ two)
-
-pub stretch_out-requires : goal.stretch_out-requires
-stretch_out-requires c = search rules
 
 pub returns-then-stretch_out : goal.returns-then-stretch_out
 unfolding place_refusal

@@ -1,5 +1,4 @@
 -- `rated_weights` takes the tests of `ratedOf`; the part that it hands on is the stretch. Assumes nothing.
-use borrow.Author.Rules.{rules}
 use native.Mathlib.Omega.{arith}
 use borrow.Author.Tests.{eq-eqb, ne_eqb}
 use Rattle.rules.proofs.Accepted.{in-stretch}
@@ -7,15 +6,9 @@ use Rattle.asked.specs.Parts.{rated_of}
 use Rattle.asked.proofs.Refused.{part-is}
 use Rattle.asked.proofs.rated_weights.Goals as goal
 
-pub slice_bounds-result-count : goal.slice_bounds-result-count
-slice_bounds-result-count c = search rules
-
 pub returns-then-rule-ne-WEIGHT : goal.returns-then-rule-ne-WEIGHT
 unfolding rated_of
 returns-then-rule-ne-WEIGHT c = simp (ne_eqb _ _ c.if-rule-ne-WEIGHT.true)
-
-pub slice_bounds-result-count-then-weights-n : goal.slice_bounds-result-count-then-weights-n
-slice_bounds-result-count-then-weights-n c = search rules
 
 pub returns-then-weights-n : goal.returns-then-weights-n
 unfolding rated_of

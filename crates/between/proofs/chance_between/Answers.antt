@@ -13,27 +13,15 @@ use Rattle.between.proofs.Outcome.{loading-in-unit, enclosed}
 use Rattle.between.proofs.chance_between.Goals as goal
 use Rattle.between.proofs.chance_between.Goals.{After-open-opened}
 
-pub open-opened-requires : goal.open-opened-requires
-open-opened-requires c = search rules
-
 pub returns-then-opened-ne0 : goal.returns-then-opened-ne0
 unfolding loading_of
 returns-then-opened-ne0 c =
     let own = ((goal.at.returns-then-opened-ne0 c).After-open-opened).open-opened.ensures.refusal in
     record { answer = rw (unless-some _ _ _ (λ none. c.if-opened-ne0.true (own ∙ none))) own }
 
-pub is_decimal-requires : goal.is_decimal-requires
-is_decimal-requires c = search rules
-
-pub whole-unit-requires : goal.whole-unit-requires
-whole-unit-requires c = search rules
-
 -- the unit is the file's
 own-unit : {file : List ℕ} {opened : Opened} (u : ℕ) → Opens file opened → opened.refusal ≡ 0 → u ≡ unit_of opened.head.version → u ≡ unit_of (version_in file)
 own-unit u opens none e = e ∙ ap unit_of (opened-headed opens none).says.version
-
-pub rate_opened-requires : goal.rate_opened-requires
-rate_opened-requires c = search rules
 
 pub told-requires : goal.told-requires
 told-requires c =

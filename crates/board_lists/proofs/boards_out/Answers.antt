@@ -1,14 +1,7 @@
 -- `boards_out` meets its contract: a version without boards is not refused for their number. Assumes nothing.
 use mathlib.Core.Path.{sym, ◌∙◌}
-use borrow.Author.Rules.{rules}
 use Rattle.board_lists.proofs.Laws.{boards-some, boards-none}
 use Rattle.board_lists.proofs.boards_out.Goals as goal
-
-pub has_boards-requires : goal.has_boards-requires
-has_boards-requires c = search rules
-
-pub outside-requires : goal.outside-requires
-outside-requires c = search rules
 
 pub returns-then-has_boards : goal.returns-then-has_boards
 returns-then-has_boards c =

@@ -1,21 +1,10 @@
 -- `boards_read` meets its contract. Assumes nothing.
 use mathlib.Core.Path.{sym, ◌∙◌}
-use Prim.Native.Nat.{◌-◌}
 use Rattle.board_lists.proofs.Laws.{read_some, read_none}
-use borrow.Author.Rules.{rules}
 use Rattle.board_lists.proofs.boards_read.Goals as goal
-
-pub has_boards-requires : goal.has_boards-requires
-has_boards-requires c = search rules
-
-pub slice_bounds-result-count : goal.slice_bounds-result-count
-slice_bounds-result-count c = search rules
 
 pub returns-then-has_boards : goal.returns-then-has_boards
 returns-then-has_boards c = sym (read_some c.args.version _ (sym c.has_boards.ensures ∙ c.if-has_boards.true))
-
-pub slice_bounds-result-count-2 : goal.slice_bounds-result-count-2
-slice_bounds-result-count-2 c = search rules
 
 pub returns : goal.returns
 returns c = sym (read_none c.args.version _ (sym c.has_boards.ensures ∙ c.if-has_boards.false))

@@ -3,12 +3,8 @@ use mathlib.Core.Path.{sym, ◌∙◌}
 use Prim.Native.Nat.{◌-◌}
 use native.Mathlib.Omega.{arith}
 use lib.ListN.{take, drop}
-use borrow.Author.Rules.{rules}
 use Rattle.board_lists.proofs.Laws.{misplaced-length, misplaced-above, misplaced-none}
 use Rattle.board_lists.proofs.misplaced.Goals as goal
-
-pub has_boards-requires : goal.has_boards-requires
-has_boards-requires c = search rules
 
 pub returns-then-boards-n : goal.returns-then-boards-n
 returns-then-boards-n c =
@@ -17,9 +13,6 @@ returns-then-boards-n c =
 
 pub slice_bounds-some_above-count : goal.slice_bounds-some_above-count
 slice_bounds-some_above-count c = omega (arith, c.requires)
-
-pub some_above-requires : goal.some_above-requires
-some_above-requires c = search rules
 
 pub returns-then-has_boards : goal.returns-then-has_boards
 returns-then-has_boards c =

@@ -6,26 +6,16 @@ use lib.ListN.{take, drop}
 use Rattle.rules.proofs.Accepted.{first-of, first-after}
 use Rattle.board_lists.specs.Refused.{boards_refusal}
 use Rattle.board_lists.proofs.Laws.{refused_none, none_left}
-use borrow.Author.Rules.{rules}
 use Rattle.board_lists.proofs.refusal.Goals as goal
-
-pub has_boards-requires : goal.has_boards-requires
-has_boards-requires c = search rules
 
 pub returns-then-not-has_boards : goal.returns-then-not-has_boards
 returns-then-not-has_boards c =
     sym (refused_none c.args.version c.args.g c.args.n c.args.boards.now (take (c.args.upto - c.args.from) (drop c.args.from c.args.boards.now))
     (sym c.has_boards.ensures ∙ c.if-not-has_boards.true))
 
-pub boards_out-requires : goal.boards_out-requires
-boards_out-requires c = search rules
-
 pub returns-then-boards_out : goal.returns-then-boards_out
 unfolding boards_refusal
 returns-then-boards_out c = sym (first-of 20 _ _ (sym c.boards_out.ensures ∙ c.if-boards_out.true))
-
-pub misplaced-requires : goal.misplaced-requires
-misplaced-requires c = search rules
 
 pub returns-then-misplaced : goal.returns-then-misplaced
 unfolding boards_refusal

@@ -5,17 +5,7 @@ use lib.Dec.{eqb}
 use lib.ListN.{length}
 use Rattle.rules.specs.File.{file_length}
 use Rattle.deck.proofs.Checks.{layout_is}
-use borrow.Author.Rules.{rules}
 use Rattle.deck.proofs.bad_layout.Goals as goal
-
-pub lists_elsewhere-requires : goal.lists_elsewhere-requires
-lists_elsewhere-requires c = search rules
-
-pub boards_elsewhere-requires : goal.boards_elsewhere-requires
-boards_elsewhere-requires c = search rules
-
-pub length_given-requires : goal.length_given-requires
-length_given-requires c = search rules
 
 pub returns : goal.returns
 returns c =

@@ -3,14 +3,7 @@ use mathlib.Core.Path.{ap, ap₂, ◌∙◌}
 use mathlib.Core.Bool.{not, ◌||◌}
 use lib.Dec.{eqb}
 use Rattle.rules.specs.Refusal.{bad_version}
-use borrow.Author.Rules.{rules}
 use Rattle.deck.proofs.bad_start.Goals as goal
-
-pub version_out-requires : goal.version_out-requires
-version_out-requires c = search rules
-
-pub number2-requires : goal.number2-requires
-number2-requires c = search rules
 
 pub returns : goal.returns
 returns c =

@@ -2,14 +2,7 @@
 use mathlib.Core.Path.{sym, ap, ◌∙◌}
 use native.Mathlib.Omega.{arith}
 use lib.ListN.{get_or, get_or-eq_default}
-use borrow.Author.Rules.{rules}
 use Rattle.deck.proofs.board_at.Goals as goal
-
-pub boards_in-boards-requires : goal.boards_in-boards-requires
-boards_in-boards-requires c = search rules
-
-pub bounds-boards-i : goal.bounds-boards-i
-bounds-boards-i c = search rules
 
 pub overflow_cast-result : goal.overflow_cast-result
 overflow_cast-result c =

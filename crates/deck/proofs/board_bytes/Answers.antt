@@ -5,20 +5,7 @@ use native.Mathlib.Omega.{arith}
 use lib.ListN.{take, drop}
 use Rattle.rules.specs.File.{boards_offset, board_fans}
 use Rattle.layout.proofs.Numbers.{bytes-are}
-use borrow.Author.Rules.{rules}
 use Rattle.deck.proofs.board_bytes.Goals as goal
-
-pub boards_offset-from-requires : goal.boards_offset-from-requires
-boards_offset-from-requires c = search rules
-
-pub board_fans-requires : goal.board_fans-requires
-board_fans-requires c = search rules
-
-pub overflow_add-upto : goal.overflow_add-upto
-overflow_add-upto c = search rules
-
-pub slice_bounds-result-count : goal.slice_bounds-result-count
-slice_bounds-result-count c = search rules
 
 pub returns : goal.returns
 returns c =

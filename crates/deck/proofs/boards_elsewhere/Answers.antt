@@ -7,14 +7,7 @@ use Rattle.rules.specs.Boards.{has_boards}
 use Rattle.rules.specs.File.{number_at, boards_field, boards_offset, version_in}
 use Rattle.layout.proofs.Versions.{header-some}
 use Rattle.deck.proofs.Checks.{elsewhere-some, elsewhere-none}
-use borrow.Author.Rules.{rules}
 use Rattle.deck.proofs.boards_elsewhere.Goals as goal
-
-pub has_boards-requires : goal.has_boards-requires
-has_boards-requires c = search rules
-
-pub boards_offset-from-requires : goal.boards_offset-from-requires
-boards_offset-from-requires c = search rules
 
 pub elsewhere-requires : goal.elsewhere-requires
 elsewhere-requires c =

@@ -5,11 +5,7 @@ use Rattle.rules.specs.Boards.{has_boards}
 use Rattle.rules.specs.File.{number_at, board_count_field, version_in}
 use Rattle.layout.proofs.Numbers.{spelled-fits}
 use Rattle.layout.proofs.Versions.{header-some, with-boards, without-boards}
-use borrow.Author.Rules.{rules}
 use Rattle.deck.proofs.boards_given.Goals as goal
-
-pub has_boards-requires : goal.has_boards-requires
-has_boards-requires c = search rules
 
 pub number4-requires : goal.number4-requires
 number4-requires c =

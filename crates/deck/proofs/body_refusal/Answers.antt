@@ -9,7 +9,6 @@ use Rattle.deck.specs.Head.{head_of, counts_refusal}
 use Rattle.deck.specs.Outcome.{body_refusal}
 use Rattle.deck.proofs.Checks.{none_left}
 use Rattle.deck.proofs.Outcome.{head-is}
-use borrow.Author.Rules.{rules}
 use Rattle.deck.proofs.body_refusal.Goals as goal
 use Rattle.deck.proofs.body_refusal.Goals.{After-counts_refusal}
 

@@ -4,7 +4,6 @@ use mathlib.Core.List.{[]}
 use Rattle.rules.proofs.Accepted.{first-of, first-after}
 use Rattle.deck.specs.Head.{counts_refusal}
 use Rattle.deck.proofs.Checks.{none_left}
-use borrow.Author.Rules.{rules}
 use Rattle.deck.proofs.counts_refusal.Goals as goal
 
 pub returns-then-outside : goal.returns-then-outside

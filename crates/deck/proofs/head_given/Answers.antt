@@ -5,7 +5,6 @@ use lib.ListN.{get_or}
 use Rattle.rules.specs.File.{version_in}
 use Rattle.layout.proofs.Numbers.{spelled-fits}
 use Rattle.layout.proofs.Versions.{header-bounds}
-use borrow.Author.Rules.{rules}
 use Rattle.deck.proofs.head_given.Goals as goal
 
 pub number2-fans-requires : goal.number2-fans-requires
@@ -13,9 +12,6 @@ number2-fans-requires c = omega (arith, header-bounds (version_in c.args.bytes.n
 
 pub number2-systems-requires : goal.number2-systems-requires
 number2-systems-requires c = omega (arith, header-bounds (version_in c.args.bytes.now))
-
-pub boards_given-boards-requires : goal.boards_given-boards-requires
-boards_given-boards-requires c = search rules
 
 pub returns : goal.returns
 returns c =

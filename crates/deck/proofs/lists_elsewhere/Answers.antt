@@ -5,17 +5,7 @@ use native.Mathlib.Omega.{arith}
 use lib.Dec.{eqb}
 use Rattle.rules.specs.File.{number_at, survival_field, weights_field, systems_field, header_length, weights_offset, systems_offset, version_in}
 use Rattle.layout.proofs.Versions.{header-bounds}
-use borrow.Author.Rules.{rules}
 use Rattle.deck.proofs.lists_elsewhere.Goals as goal
-
-pub header_length-survival-requires : goal.header_length-survival-requires
-header_length-survival-requires c = search rules
-
-pub weights_offset-weights-requires : goal.weights_offset-weights-requires
-weights_offset-weights-requires c = search rules
-
-pub systems_offset-systems-requires : goal.systems_offset-systems-requires
-systems_offset-systems-requires c = search rules
 
 pub elsewhere-requires : goal.elsewhere-requires
 elsewhere-requires c =

@@ -5,15 +5,11 @@ use lib.ListN.{take, drop}
 use Rattle.rules.specs.Refusal.{misplaced}
 use Rattle.deck.specs.Head.{boards_by}
 use Rattle.deck.proofs.Checks.{laid-whole, misplaced-is}
-use borrow.Author.Rules.{rules}
 use Rattle.deck.proofs.misplaced.Goals as goal
 
 pub board_bytes-boards-requires : goal.board_bytes-boards-requires
 board_bytes-boards-requires c =
     (c.requires.given.small.fans, rw (c.requires.given.says.version, c.requires.given.says.fans) (laid-whole c.args.bytes.now c.requires.laid))
-
-pub misplaced-requires : goal.misplaced-requires
-misplaced-requires c = search rules
 
 pub returns : goal.returns
 returns c =

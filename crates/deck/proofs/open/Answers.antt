@@ -2,7 +2,6 @@
 use mathlib.Core.Path.{◌≡◌, sym, ap, ◌∙◌}
 use mathlib.Core.Bool.{false}
 use native.Mathlib.Omega.{arith}
-use lib.ListN.{length}
 use borrow.Author.Tests.{lt-ltb, le-ltb}
 use Rattle.rules.specs.File.{header_length, version_in, bad_start, file_refusal}
 use Rattle.rules.proofs.Numbers.{number-some}
@@ -10,7 +9,6 @@ use Rattle.rules.proofs.Accepted.{first-of, first-after}
 use Rattle.deck.specs.Outcome.{body_refusal}
 use Rattle.deck.proofs.Checks.{body-after}
 use Rattle.deck.proofs.Outcome.{opens-refused, opens-head}
-use borrow.Author.Rules.{rules}
 use Rattle.deck.proofs.open.Goals as goal
 use Rattle.deck.proofs.open.Goals.{After-header_length, Else-bad_start, Else-file-header_length}
 

@@ -1,5 +1,4 @@
 -- `deck::other_refusal` tries the two conditions of `otherRefusal` in their order. Assumes nothing.
-use borrow.Author.Rules.{rules}
 use mathlib.Core.Path.{sym, ap, ◌∙◌}
 use mathlib.Core.Bool.{not}
 use mathlib.Core.List.{[]}
@@ -13,9 +12,6 @@ use Rattle.deck.proofs.other_refusal.Goals as goal
 pub returns-then-bytes-lt-SHORTEST_HEADER : goal.returns-then-bytes-lt-SHORTEST_HEADER
 unfolding other_refusal
 returns-then-bytes-lt-SHORTEST_HEADER c = sym (first-of 10 _ _ (lt-ltb _ _ c.if-bytes-lt-SHORTEST_HEADER.true))
-
-pub number2-requires : goal.number2-requires
-number2-requires c = search rules
 
 pub returns-then-number2-ne-FIRST : goal.returns-then-number2-ne-FIRST
 unfolding other_refusal

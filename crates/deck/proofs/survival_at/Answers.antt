@@ -5,11 +5,7 @@ use native.Mathlib.Omega.{arith}
 use Rattle.rules.specs.File.{survival_bytes, header_length, number_at, fans_in, deck_in}
 use Rattle.rules.proofs.Lists.{below_get}
 use Rattle.deck.proofs.Kept.{few-fans, whole}
-use borrow.Author.Rules.{rules}
 use Rattle.deck.proofs.survival_at.Goals as goal
-
-pub header_length-from-requires : goal.header_length-from-requires
-header_length-from-requires c = search rules
 
 pub overflow_mul-i : goal.overflow_mul-i
 overflow_mul-i c = omega (arith, c.requires.place, few-fans c.requires.headed)

@@ -4,11 +4,7 @@ use native.Mathlib.Omega.{arith}
 use Rattle.rules.specs.File.{header_length, most_fans, survival_bytes, numbers_from, deck_in}
 use Rattle.arrays.specs.Padded.{padded}
 use Rattle.deck.proofs.Kept.{few-fans, whole}
-use borrow.Author.Rules.{rules}
 use Rattle.deck.proofs.survival_in.Goals as goal
-
-pub header_length-from-requires : goal.header_length-from-requires
-header_length-from-requires c = search rules
 
 pub survival_in-requires : goal.survival_in-requires
 survival_in-requires c = record { few = few-fans c.requires; whole = omega (arith, whole c.requires) }

@@ -5,17 +5,10 @@ use native.Mathlib.Omega.{arith}
 use Rattle.rules.specs.File.{weight_bytes, weights_offset, number_at, fans_in, deck_in}
 use Rattle.rules.proofs.Lists.{below_get}
 use Rattle.deck.proofs.Kept.{few-fans, whole}
-use borrow.Author.Rules.{rules}
 use Rattle.deck.proofs.weight_at.Goals as goal
 
 pub weights_offset-from-requires : goal.weights_offset-from-requires
 weights_offset-from-requires c = omega (arith, few-fans c.requires.headed)
-
-pub overflow_mul-i : goal.overflow_mul-i
-overflow_mul-i c = search rules
-
-pub overflow_add-from : goal.overflow_add-from
-overflow_add-from c = search rules
 
 pub number2-requires : goal.number2-requires
 number2-requires c = omega (arith, c.requires.place, whole c.requires.headed)

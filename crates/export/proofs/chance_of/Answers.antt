@@ -9,16 +9,10 @@ use Rattle.doubles.specs.Floats.{Over}
 use Rattle.export.specs.Outcome.{Tells}
 use Rattle.export.proofs.chance_of.Goals as goal
 
-pub other_refusal-other-requires : goal.other_refusal-other-requires
-other_refusal-other-requires c = search rules
-
 pub returns-then-other-ne0 : goal.returns-then-other-ne0
 unfolding export_of
 returns-then-other-ne0 c =
     record { answer = rw (unless-some _ _ _ (λ none. c.if-other-ne0.true (c.other_refusal-other.ensures ∙ none))) c.other_refusal-other.ensures }
-
-pub rate_file-requires : goal.rate_file-requires
-rate_file-requires c = search rules
 
 pub told-requires : goal.told-requires
 told-requires c = rw c.rate_file.ensures (loading-within _ _)

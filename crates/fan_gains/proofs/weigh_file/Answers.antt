@@ -8,12 +8,6 @@ use Rattle.systems.proofs.Answers.{opened-answer, numbered}
 use borrow.Author.Rules.{rules}
 use Rattle.fan_gains.proofs.weigh_file.Goals as goal
 
-pub open-opened-requires : goal.open-opened-requires
-open-opened-requires c = search rules
-
-pub refusal-refused-requires : goal.refusal-refused-requires
-refusal-refused-requires c = search rules
-
 pub returns-then-refused-ne0 : goal.returns-then-refused-ne0
 unfolding gain_loading_of
 returns-then-refused-ne0 c =

@@ -12,21 +12,6 @@ use Rattle.deck.proofs.Kept.{few-fans, few-boards, lent-survival, lent-weights, 
 use borrow.Author.Rules.{rules}
 use Rattle.fan_worths.proofs.weigh.Goals as goal
 
-pub survival_in-survival-requires : goal.survival_in-survival-requires
-survival_in-survival-requires c = search rules
-
-pub weights_in-weights-requires : goal.weights_in-weights-requires
-weights_in-weights-requires c = search rules
-
-pub boards_in-boards-requires : goal.boards_in-boards-requires
-boards_in-boards-requires c = search rules
-
-pub board_survival_in-switchboards-requires : goal.board_survival_in-switchboards-requires
-board_survival_in-switchboards-requires c = search rules
-
-pub system_in-system-requires : goal.system_in-system-requires
-system_in-system-requires c = search rules
-
 pub slice_bounds-survival-end : goal.slice_bounds-survival-end
 slice_bounds-survival-end c =
     omega (arith, few-fans c.requires.headed)
@@ -47,9 +32,6 @@ slice_bounds-switchboards-end c =
 
 pub slice_bounds-lists-end-4 : goal.slice_bounds-lists-end-4
 slice_bounds-lists-end-4 c = sym (length-take-le _ _ (omega (arith, few-boards c.requires.headed)))
-
-pub weigh_lists-requires : goal.weigh_lists-requires
-weigh_lists-requires c = search rules
 
 pub returns : goal.returns
 unfolding system_worth deck_in

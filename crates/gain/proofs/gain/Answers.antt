@@ -4,18 +4,9 @@ use Rattle.swaps.proofs.Compared.{compared-cleared}
 use Rattle.gain.proofs.Outcome.{fits}
 use Rattle.gain.proofs.gain.Goals as goal
 
-pub weigh-gain-requires : goal.weigh-gain-requires
-weigh-gain-requires c = search rules
-
-pub is_ends-requires : goal.is_ends-requires
-is_ends-requires c = search rules
-
 pub clear-requires : goal.clear-requires
 clear-requires c =
     fits c.weigh-gain.ensures c.is_ends.ensures
-
-pub shape_of-table : goal.shape_of-table
-shape_of-table c = search rules
 
 pub returns : goal.returns
 returns c =

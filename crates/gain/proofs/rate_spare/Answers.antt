@@ -14,9 +14,6 @@ work-before-requires c =
 pub difference-requires : goal.difference-requires
 difference-requires c = record { after = after-within _ c.args.spare _ c.requires c.rate-after.ensures c.work-before.ensures; before = before-within _ c.args.spare _ c.requires c.rate-after.ensures c.work-before.ensures }
 
-pub shape_of-table : goal.shape_of-table
-shape_of-table c = search rules
-
 pub returns : goal.returns
 returns c =
     found _ c.args.spare _ c.requires c.rate-after.ensures c.work-before.ensures c.difference.ensures

@@ -12,18 +12,6 @@ abbrev asked : Start → Asked
 asked c =
     asked_by c.args.question c.args.lists.now
 
-pub refusal-own-requires : goal.refusal-own-requires
-refusal-own-requires c = search rules
-
-pub is_decimal-requires : goal.is_decimal-requires
-is_decimal-requires c = search rules
-
-pub whole-all-requires : goal.whole-all-requires
-whole-all-requires c = search rules
-
-pub with_spare-requires : goal.with_spare-requires
-with_spare-requires c = search rules
-
 pub returns : goal.returns
 returns c =
     let q = asked ((goal.at.returns c).Start) in

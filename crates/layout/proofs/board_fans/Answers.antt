@@ -2,11 +2,7 @@
 use mathlib.Core.Path.{sym, ◌∙◌}
 use native.Mathlib.Omega.{arith}
 use Rattle.layout.proofs.Versions.{with-boards, without-boards}
-use borrow.Author.Rules.{rules}
 use Rattle.layout.proofs.board_fans.Goals as goal
-
-pub has_boards-requires : goal.has_boards-requires
-has_boards-requires c = search rules
 
 pub returns-then-has_boards : goal.returns-then-has_boards
 returns-then-has_boards c =

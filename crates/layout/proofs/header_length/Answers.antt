@@ -2,11 +2,7 @@
 use mathlib.Core.Path.{sym, ◌∙◌}
 use native.Mathlib.Omega.{arith}
 use Rattle.layout.proofs.Versions.{header-some, header-none}
-use borrow.Author.Rules.{rules}
 use Rattle.layout.proofs.header_length.Goals as goal
-
-pub has_boards-requires : goal.has_boards-requires
-has_boards-requires c = search rules
 
 pub returns-then-has_boards : goal.returns-then-has_boards
 returns-then-has_boards c = (sym (header-some c.args.version (sym c.has_boards.ensures ∙ c.if-has_boards.true)), omega arith)

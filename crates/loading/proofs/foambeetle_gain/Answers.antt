@@ -4,12 +4,6 @@ use borrow.Author.Rules.{rules}
 use Rattle.loading.specs.Outcome.{number_of, ends_after}
 use Rattle.loading.proofs.foambeetle_gain.Goals as goal
 
-pub weigh_file-requires : goal.weigh_file-requires
-weigh_file-requires c = search rules
-
-pub tell-requires : goal.tell-requires
-tell-requires c = search rules
-
 pub returns : goal.returns
 returns c =
     record { number = c.tell.ensures.number ∙ ap number_of c.weigh_file.ensures; ends = c.tell.ensures.ends ∙ ap (λ w. ends_after w c.args.ends.now) c.weigh_file.ensures }

@@ -5,9 +5,6 @@ use Rattle.rules.specs.File.{packed}
 use Rattle.loading.proofs.Packed.{loading-packable}
 use Rattle.loading.proofs.foambeetle_rate.Goals as goal
 
-pub rate_file-requires : goal.rate_file-requires
-rate_file-requires c = search rules
-
 pub pack-requires : goal.pack-requires
 pack-requires c = rw c.rate_file.ensures (loading-packable _ _)
 

@@ -7,20 +7,11 @@ use Rattle.deck.proofs.Outcome.{opened-headed}
 use Rattle.loading.specs.Outcome.{parts_of}
 use Rattle.loading.proofs.foambeetle_unit.Goals as goal
 
-pub open-opened-requires : goal.open-opened-requires
-open-opened-requires c = search rules
-
 pub returns-then-opened-ne0 : goal.returns-then-opened-ne0
 unfolding parts_of
 returns-then-opened-ne0 c =
     let e = c.open-opened.ensures.refusal in
     record { number = sym (unless-some _ _ _ (λ none. c.if-opened-ne0.true (e ∙ none))) }
-
-pub is_decimal-decimal-requires : goal.is_decimal-decimal-requires
-is_decimal-decimal-requires c = search rules
-
-pub whole-requires : goal.whole-requires
-whole-requires c = search rules
 
 pub returns : goal.returns
 unfolding parts_of

@@ -17,12 +17,6 @@ use Rattle.mend.proofs.changed_in.Goals as goal
 pub header_for-header-requires : goal.header_for-header-requires
 header_for-header-requires c = sized c.requires
 
-pub header_given-upto-requires : goal.header_given-upto-requires
-header_given-upto-requires c = search rules
-
-pub slice_bounds-changed-end : goal.slice_bounds-changed-end
-slice_bounds-changed-end c = search rules
-
 pub changed-requires : goal.changed-requires
 changed-requires c =
     let upto = c.header_given-upto.ensures.0 ∙ ap header_length c.requires.says.version in

@@ -4,11 +4,5 @@ use Rattle.layout.proofs.Versions.{header-bounds}
 use borrow.Author.Rules.{rules}
 use Rattle.mend.proofs.header_for.Goals as goal
 
-pub slice_bounds-put_head-end : goal.slice_bounds-put_head-end
-slice_bounds-put_head-end c = search rules
-
 pub put_head-requires : goal.put_head-requires
 put_head-requires c = record { sized = c.requires; fits = omega (arith, header-bounds c.args.head.version) }
-
-pub returns : goal.returns
-returns c = search rules

@@ -4,9 +4,6 @@ use Rattle.layout.proofs.Versions.{header-bounds}
 use borrow.Author.Rules.{rules}
 use Rattle.mend.proofs.header_given.Goals as goal
 
-pub header_length-requires : goal.header_length-requires
-header_length-requires c = search rules
-
 pub returns : goal.returns
 returns c =
     (c.header_length.ensures.0, omega (arith, c.header_length.ensures.0, header-bounds c.args.head.version))

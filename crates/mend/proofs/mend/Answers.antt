@@ -4,21 +4,9 @@ use Rattle.mend.proofs.Outcome.{refused-file}
 use borrow.Author.Rules.{rules}
 use Rattle.mend.proofs.mend.Goals as goal
 
-pub look-looked-requires : goal.look-looked-requires
-look-looked-requires c = search rules
-
 pub returns-then-looked-ne0 : goal.returns-then-looked-ne0
 returns-then-looked-ne0 c = refused-file c.look-looked.ensures.refusal c.if-looked-ne0.true
 
 pub mend_by-requires : goal.mend_by-requires
 mend_by-requires c =
     looks_on c.look-looked.ensures c.if-looked-ne0.false
-
-pub shape_of-room : goal.shape_of-room
-shape_of-room c = search rules
-
-pub shape_of-list : goal.shape_of-list
-shape_of-list c = search rules
-
-pub returns : goal.returns
-returns c = search rules

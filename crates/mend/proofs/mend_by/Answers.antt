@@ -17,12 +17,6 @@ pub returns-then-room-size : goal.returns-then-room-size
 returns-then-room-size c =
     refused-room c.requires.none (rw (c.length_given-size.ensures ∙ length-own c.requires) at c.if-room-size.true)
 
-pub changed_in-changed-requires : goal.changed_in-changed-requires
-changed_in-changed-requires c = search rules
-
-pub overflow_mul-changed : goal.overflow_mul-changed
-overflow_mul-changed c = search rules
-
 pub returns-then-list-changed : goal.returns-then-list-changed
 returns-then-list-changed c =
     refused-list c.requires.none (omega (arith, c.changed_in-changed.ensures.0, c.if-list-changed.true))
@@ -32,18 +26,9 @@ put_mended-requires c =
     let size = c.length_given-size.ensures ∙ length-own c.requires in
     record { looked = c.requires; fits = omega (arith, mended-length _ c.requires.none, size, c.if-room-size.false) }
 
-pub put_list-requires : goal.put_list-requires
-put_list-requires c = search rules
-
 pub overflow_sub-cut : goal.overflow_sub-cut
 overflow_sub-cut c =
     omega (arith, (mendable _ c.requires.none).whole, c.length_given-size.ensures ∙ length-own c.requires)
-
-pub shape_of-room : goal.shape_of-room
-shape_of-room c = search rules
-
-pub shape_of-list : goal.shape_of-list
-shape_of-list c = search rules
 
 pub returns : goal.returns
 returns c =

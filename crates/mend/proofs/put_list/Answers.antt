@@ -16,12 +16,6 @@ use Rattle.mend.proofs.put_list.Goals as goal
 pub header_for-header-requires : goal.header_for-header-requires
 header_for-header-requires c = sized c.requires.looked
 
-pub header_given-upto-requires : goal.header_given-upto-requires
-header_given-upto-requires c = search rules
-
-pub slice_bounds-put_changes-end : goal.slice_bounds-put_changes-end
-slice_bounds-put_changes-end c = search rules
-
 pub put_changes-requires : goal.put_changes-requires
 put_changes-requires c =
     let upto = c.header_given-upto.ensures.0 ∙ ap header_length c.requires.looked.says.version in
@@ -33,9 +27,6 @@ put_changes-requires c =
       );
       fits = rw count c.requires.fits;
     }
-
-pub shape_of-list : goal.shape_of-list
-shape_of-list c = search rules
 
 pub returns : goal.returns
 returns c =

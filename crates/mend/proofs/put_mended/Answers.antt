@@ -17,15 +17,9 @@ put_head-requires c =
     let header = ap header_length c.requires.looked.says.version in
     record { sized = sized c.requires.looked; fits = omega (arith, header, mended-length _ c.requires.looked.none, c.requires.fits) }
 
-pub header_given-from-requires : goal.header_given-from-requires
-header_given-from-requires c = search rules
-
 pub length_given-upto-requires : goal.length_given-upto-requires
 length_given-upto-requires c =
     small c.requires.looked
-
-pub slice_bounds-put_all1-count : goal.slice_bounds-put_all1-count
-slice_bounds-put_all1-count c = search rules
 
 pub slice_bounds-put_all1-end : goal.slice_bounds-put_all1-end
 slice_bounds-put_all1-end c =
@@ -46,9 +40,6 @@ put_all1-requires c =
       length-take (c.length_given-upto.result - c.header_given-from.result) (drop c.header_given-from.result c.args.bytes.now),
       length-drop c.header_given-from.result c.args.bytes.now,
     )
-
-pub shape_of-room : goal.shape_of-room
-shape_of-room c = search rules
 
 pub returns : goal.returns
 returns c =

@@ -5,12 +5,6 @@ use Rattle.doubles.specs.Floats.{Over}
 use Rattle.office.proofs.Doubles.{handed}
 use Rattle.office.proofs.foambeetle_chance.Goals as goal
 
-pub chance_of-requires : goal.chance_of-requires
-chance_of-requires c = search rules
-
-pub tell-requires : goal.tell-requires
-tell-requires c = search rules
-
 pub returns : goal.returns
 returns c =
     record { answer = rw (c.tell.ensures.number, c.tell.ensures.ends) (handed Over Over (export_of c.args.file.now c.args.system) _ c.args.ends.now c.chance_of.ensures.answer) }

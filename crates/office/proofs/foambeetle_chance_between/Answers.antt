@@ -5,12 +5,6 @@ use Rattle.between.specs.Outcome.{Below, Above}
 use Rattle.office.proofs.Doubles.{handed}
 use Rattle.office.proofs.foambeetle_chance_between.Goals as goal
 
-pub chance_between-requires : goal.chance_between-requires
-chance_between-requires c = search rules
-
-pub tell-requires : goal.tell-requires
-tell-requires c = search rules
-
 pub returns : goal.returns
 returns c =
     record { answer = rw (c.tell.ensures.number, c.tell.ensures.ends) (handed (Below c.args.file.now) (Above c.args.file.now) (loading_of c.args.file.now c.args.system) _ c.args.ends.now c.chance_between.ensures.answer) }

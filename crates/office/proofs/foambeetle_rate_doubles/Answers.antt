@@ -5,9 +5,6 @@ use Rattle.rules.specs.File.{packed}
 use Rattle.packing.proofs.Packed.{planned-packable}
 use Rattle.office.proofs.foambeetle_rate_doubles.Goals as goal
 
-pub answer-requires : goal.answer-requires
-answer-requires c = search rules
-
 pub pack-requires : goal.pack-requires
 pack-requires c = rw c.answer.ensures (planned-packable _ _)
 

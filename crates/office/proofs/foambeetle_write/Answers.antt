@@ -6,14 +6,8 @@ use Rattle.office.specs.Outcome.{packed_writing}
 use Rattle.office.proofs.Packed.{packable}
 use Rattle.office.proofs.foambeetle_write.Goals as goal
 
-pub write_deck-requires : goal.write_deck-requires
-write_deck-requires c = search rules
-
 pub pack-requires : goal.pack-requires
 pack-requires c = rw (writing-is c.write_deck.ensures) (packable _ _)
-
-pub shape_of-room : goal.shape_of-room
-shape_of-room c = search rules
 
 pub returns : goal.returns
 returns c =

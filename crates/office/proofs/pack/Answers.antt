@@ -6,8 +6,5 @@ use Rattle.office.proofs.pack.Goals as goal
 pub refused-requires : goal.refused-requires
 refused-requires c = omega (arith, rw c.in-Refused.is at c.requires)
 
-pub returns-in-Written : goal.returns-in-Written
-returns-in-Written c = search rules
-
 pub returns-in-Refused : goal.returns-in-Refused
 returns-in-Refused c = rw c.in-Refused.is c.refused.ensures

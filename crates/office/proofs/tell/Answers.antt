@@ -5,6 +5,3 @@ use Rattle.office.proofs.tell.Goals as goal
 
 pub returns-in-Range : goal.returns-in-Range
 returns-in-Range c = rw c.in-Range.is record { number = refl; ends = refl }
-
-pub returns-in-Refused : goal.returns-in-Refused
-returns-in-Refused c = search rules

@@ -7,9 +7,6 @@ use Rattle.pairs.proofs.with_pair.Goals as goal
 pub overflow_add-rated : goal.overflow_add-rated
 overflow_add-rated c = omega (arith, c.requires)
 
-pub stays-requires : goal.stays-requires
-stays-requires c = search rules
-
 pub returns-then-stays : goal.returns-then-stays
 returns-then-stays c = rw (sym c.stays.ensures ∙ c.if-stays.true)
 

@@ -1,15 +1,8 @@
 -- `percent::percent_of` meets its contract, which is its code. Assumes nothing.
 use native.Mathlib.Omega.{arith}
-use borrow.Author.Rules.{rules}
 use Rattle.rules.specs.Figure.{rounded}
 use Rattle.units.proofs.Laws.{whole-some, whole-most}
 use Rattle.percent.proofs.percent_of.Goals as goal
-
-pub whole-unit-requires : goal.whole-unit-requires
-whole-unit-requires c = search rules
-
-pub overflow_mul-figure : goal.overflow_mul-figure
-overflow_mul-figure c = search rules
 
 pub overflow_sub-unit : goal.overflow_sub-unit
 overflow_sub-unit c = omega (arith, c.whole-unit.ensures, whole-some c.args.decimal)
@@ -23,9 +16,6 @@ over-requires c = rw c.whole-unit.ensures (omega (arith, whole-some c.args.decim
 pub returns-then-up : goal.returns-then-up
 unfolding rounded
 returns-then-up c = rw (c.if-up.true, c.over.ensures, c.whole-unit.ensures)
-
-pub overflow_mul-figure-2 : goal.overflow_mul-figure-2
-overflow_mul-figure-2 c = search rules
 
 pub over-requires-2 : goal.over-requires-2
 over-requires-2 c = rw c.whole-unit.ensures (omega (arith, whole-some c.args.decimal))

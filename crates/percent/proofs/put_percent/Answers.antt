@@ -6,29 +6,7 @@ use lib.ListN.{length}
 use Rattle.text.proofs.Adding.{put-added, named-added, named-reach, added_more}
 use Rattle.percent.specs.Percent.{point_digits, million}
 use Rattle.percent.proofs.Digits.{last-length}
-use borrow.Author.Rules.{rules}
 use Rattle.percent.proofs.put_percent.Goals as goal
-
-pub put_named-whole-requires : goal.put_named-whole-requires
-put_named-whole-requires c = search rules
-
-pub slice_bounds-put-end-2 : goal.slice_bounds-put-end-2
-slice_bounds-put-end-2 c = search rules
-
-pub put-point-requires : goal.put-point-requires
-put-point-requires c = search rules
-
-pub last_digits-digits-requires : goal.last_digits-digits-requires
-last_digits-digits-requires c = search rules
-
-pub put-end-requires : goal.put-end-requires
-put-end-requires c = search rules
-
-pub put-requires : goal.put-requires
-put-requires c = search rules
-
-pub shape_of-out : goal.shape_of-out
-shape_of-out c = search rules
 
 pub returns : goal.returns
 returns c =

@@ -3,24 +3,11 @@ use native.Mathlib.Omega.{arith}
 use Rattle.text.specs.Decimal.{text}
 use Rattle.text.proofs.Adding.{added_more}
 use Rattle.percent.proofs.Digits.{percent-reach}
-use borrow.Author.Rules.{rules}
 use Rattle.percent.proofs.put_range.Goals as goal
-
-pub percent_of-requires : goal.percent_of-requires
-percent_of-requires c = search rules
-
-pub put_percent-middle-requires : goal.put_percent-middle-requires
-put_percent-middle-requires c = search rules
-
-pub percent_of-requires-2 : goal.percent_of-requires-2
-percent_of-requires-2 c = search rules
 
 pub put_percent-requires : goal.put_percent-requires
 put_percent-requires c =
     omega (arith, c.requires.room, c.put_percent-middle.auto, percent-reach (text " ") _ c.put_percent-middle.ensures)
-
-pub shape_of-out : goal.shape_of-out
-shape_of-out c = search rules
 
 pub returns : goal.returns
 returns c =

@@ -6,8 +6,5 @@ use Rattle.planning.proofs.off_grid.Goals as goal
 pub returns-then-rule-ne-BETWEEN : goal.returns-then-rule-ne-BETWEEN
 returns-then-rule-ne-BETWEEN c = simp (ne_eqb _ _ c.if-rule-ne-BETWEEN.true)
 
-pub some_off-requires : goal.some_off-requires
-some_off-requires c = search rules
-
 pub returns : goal.returns
 returns c = rw (eq-eqb _ _ c.if-rule-ne-BETWEEN.false) c.some_off.ensures

@@ -73,9 +73,6 @@ pub work-requires : goal.work-requires
 work-requires c =
     planned-accepted _ _ c.requires c.args.up _ ((handed ((goal.at.work-requires c).After-numbers_of-numbers)).0 ∙ sym (length-is ((goal.at.work-requires c).Start))) (handed ((goal.at.work-requires c).After-numbers_of-numbers)).1
 
-pub shape_of-table : goal.shape_of-table
-shape_of-table c = search rules
-
 pub returns : goal.returns
 returns c =
     worked_same (question_of 1 c.args.rule c.args.a c.args.b) _ _ c.args.weights.now c.args.more.now [] []

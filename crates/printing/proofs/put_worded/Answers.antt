@@ -7,9 +7,6 @@ use borrow.Author.Rules.{rules}
 use Rattle.printing.proofs.put_worded.Goals as goal
 
 -- Assumes nothing.
-pub put_refused-requires : goal.put_refused-requires
-put_refused-requires c = search rules
-
 pub returns-then-not-words : goal.returns-then-not-words
 returns-then-not-words c =
     rw c.if-not-words.true c.put_refused.ensures

@@ -6,17 +6,8 @@ use Rattle.figures.proofs.Outcome.{figures-are}
 use Rattle.packing.proofs.Packed.{figures-packable}
 use Rattle.ratings.proofs.foambeetle_figures.Goals as goal
 
-pub rule_of-rule-requires : goal.rule_of-rule-requires
-rule_of-rule-requires c = search rules
-
-pub figures-requires : goal.figures-requires
-figures-requires c = search rules
-
 pub pack-requires : goal.pack-requires
 pack-requires c = rw (figures-are c.figures.ensures) (figures-packable _ _)
-
-pub shape_of-table : goal.shape_of-table
-shape_of-table c = search rules
 
 pub returns : goal.returns
 returns c =

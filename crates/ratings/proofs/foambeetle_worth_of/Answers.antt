@@ -5,18 +5,6 @@ use Rattle.worth.proofs.Outcome.{worth-is}
 use Rattle.loading.specs.Outcome.{number_of, ends_after}
 use Rattle.ratings.proofs.foambeetle_worth_of.Goals as goal
 
-pub rule_of-rule-requires : goal.rule_of-rule-requires
-rule_of-rule-requires c = search rules
-
-pub worth-worth-requires : goal.worth-worth-requires
-worth-worth-requires c = search rules
-
-pub tell-requires : goal.tell-requires
-tell-requires c = search rules
-
-pub shape_of-table : goal.shape_of-table
-shape_of-table c = search rules
-
 pub returns : goal.returns
 returns c =
     let e = rw c.rule_of-rule.ensures at c.worth-worth.ensures in

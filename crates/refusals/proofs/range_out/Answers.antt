@@ -1,31 +1,12 @@
 -- `refusals::range_out` meets its contract: each arm is the row of its kinds, and a kind of no arm has no row. Assumes nothing.
 use mathlib.Core.Path.{sym, ap, ◌∙◌}
 use mathlib.Core.Bool.{not}
-use mathlib.Core.Logic.{inl, inr, ⊎_elim}
+use mathlib.Core.Logic.{inl, inr}
 use native.Mathlib.Omega.{arith}
-use borrow.Author.Rules.{rules}
 use Rattle.rules.specs.Refusal.{ranged}
 use Rattle.refusals.proofs.Laws.{range-one, range_none}
 use Rattle.refusals.proofs.range_out.Goals as goal
 use Rattle.refusals.proofs.range_out.Goals.{in-1-1, in_default+else-asked-lt1+then-asked-lt6}
-
-pub one_out-requires : goal.one_out-requires
-one_out-requires c = search rules
-
-pub outside-requires : goal.outside-requires
-outside-requires c = search rules
-
-pub two_out-requires : goal.two_out-requires
-two_out-requires c = search rules
-
-pub two_out-requires-in-7 : goal.two_out-requires-in-7
-two_out-requires-in-7 c = search rules
-
-pub pairs_out-requires : goal.pairs_out-requires
-pairs_out-requires c = search rules
-
-pub one_out-requires-in-1 : goal.one_out-requires-in-1
-one_out-requires-in-1 c = search rules
 
 pub returns-in-2 : goal.returns-in-2
 unfolding ranged

@@ -5,7 +5,6 @@ use mathlib.Core.Bool.{Bool, true, false, cond}
 use mathlib.Core.List.{List}
 use Prim.Native.Nat.{ℕ, ◌≤◌, ◌<◌}
 use native.Mathlib.Omega.{arith}
-use borrow.Author.Rules.{rules}
 use borrow.Author.Tests.{eq-eqb, ne_eqb, le-ltb, lt-ltb, not-true, not-false}
 use Rattle.rules.specs.declared.Rule.{Rule}
 use Rattle.rules.specs.Refusal.{heaviest, weights_out, ranged, first_of}
@@ -33,9 +32,6 @@ module _ (rule : Rule) (whole listed n t : ℕ) (more : List ℕ) where
     weighed true f e l = rw (eq-eqb rule.kind 2 two, eq-eqb listed whole e, le-ltb heaviest t l, f)
     weighed false f e l = rw (eq-eqb rule.kind 2 two, eq-eqb listed whole e, le-ltb heaviest t l, f)
 
-pub range_out-requires : goal.range_out-requires
-range_out-requires c = search rules
-
 pub returns-then-range_out : goal.returns-then-range_out
 returns-then-range_out c = sym (other _ _ _ _ _ _ false (not-true _ (sym c.range_out.ensures ∙ c.if-range_out.true)) c.if-rule-ne-WEIGHT.true)
 
@@ -45,14 +41,8 @@ returns-then-rule-ne-WEIGHT c = sym (other _ _ _ _ _ _ true (not-false _ (sym c.
 pub returns-then-listed-whole : goal.returns-then-listed-whole
 returns-then-listed-whole c = sym (not_listed _ _ _ _ _ _ c.if-rule-ne-WEIGHT.false c.if-listed-whole.true)
 
-pub total_of-total-requires : goal.total_of-total-requires
-total_of-total-requires c = search rules
-
 pub returns-then-total-gt-WEIGHT : goal.returns-then-total-gt-WEIGHT
 returns-then-total-gt-WEIGHT c = sym (heavy _ _ _ _ _ _ c.if-rule-ne-WEIGHT.false c.if-listed-whole.false (omega arith))
-
-pub range_out-requires-2 : goal.range_out-requires-2
-range_out-requires-2 c = search rules
 
 pub returns-then-range_out-2 : goal.returns-then-range_out-2
 returns-then-range_out-2 c =

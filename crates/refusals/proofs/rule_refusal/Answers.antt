@@ -1,7 +1,6 @@
 -- `refusals::rule_refusal` meets its contract: the tests in the code's order are those of the list of refusals. Assumes nothing.
 use mathlib.Core.Path.{sym, ◌∙◌}
 use native.Mathlib.Nat.{le_refl}
-use borrow.Author.Rules.{rules}
 use borrow.Author.Tests.{not-false}
 use Rattle.rules.specs.Below.{within}
 use Rattle.rules.specs.Refusal.{most}
@@ -9,14 +8,8 @@ use Rattle.rules.proofs.EachKind.{within-true}
 use Rattle.refusals.proofs.Laws.{rated-after}
 use Rattle.refusals.proofs.rule_refusal.Goals as goal
 
-pub kind_out-requires : goal.kind_out-requires
-kind_out-requires c = search rules
-
 pub returns-then-kind_out : goal.returns-then-kind_out
 returns-then-kind_out c = rw (rated-after, ← c.kind_out.ensures, c.if-kind_out.true)
-
-pub size_out-requires : goal.size_out-requires
-size_out-requires c = search rules
 
 pub returns-then-size_out : goal.returns-then-size_out
 returns-then-size_out c =

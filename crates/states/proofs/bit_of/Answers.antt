@@ -4,9 +4,6 @@ use lib.Pow.{shl_exact}
 use borrow.Author.Rules.{rules}
 use Rattle.states.proofs.bit_of.Goals as goal
 
-pub overflow_shl-result : goal.overflow_shl-result
-overflow_shl-result c = search rules
-
 pub returns-then-failed : goal.returns-then-failed
 returns-then-failed c = rw c.if-failed.true (shl_exact {a = 1} 1 c.args.i 64 (omega arith) (omega (arith, c.requires)))
 

@@ -8,11 +8,5 @@ pub returns-then-place-eq0 : goal.returns-then-place-eq0
 unfolding deck_place
 returns-then-place-eq0 c = rw c.if-place-eq0.true
 
-pub overflow_sub-result : goal.overflow_sub-result
-overflow_sub-result c = search rules
-
-pub overflow_add-result : goal.overflow_add-result
-overflow_add-result c = search rules
-
 pub returns : goal.returns
 returns c = some-place c.args.a c.args.place c.if-place-eq0.false

@@ -6,8 +6,5 @@ use Rattle.states.proofs.failed_with.Goals as goal
 pub returns-then-own-board : goal.returns-then-own-board
 returns-then-own-board c = rw (eq-eqb _ _ c.if-own-board.true)
 
-pub overflow_shr-result : goal.overflow_shr-result
-overflow_shr-result c = search rules
-
 pub returns : goal.returns
 returns c = rw (ne_eqb _ _ c.if-own-board.false)

@@ -8,12 +8,6 @@ use Rattle.states.specs.States.{fan_failed}
 use borrow.Author.Rules.{rules}
 use Rattle.states.proofs.fan_failed.Goals as goal
 
-pub overflow_sub-result : goal.overflow_sub-result
-overflow_sub-result c = search rules
-
-pub overflow_shl-result : goal.overflow_shl-result
-overflow_shl-result c = search rules
-
 pub returns : goal.returns
 unfolding fan_failed
 returns c =

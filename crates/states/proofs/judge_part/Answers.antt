@@ -56,9 +56,6 @@ slice_bounds-verdict_on-start c = omega (arith, (sound ((goal.at.slice_bounds-ve
 pub slice_bounds-verdict_on-end : goal.slice_bounds-verdict_on-end
 slice_bounds-verdict_on-end c = omega (arith, (sound ((goal.at.slice_bounds-verdict_on-end c).In_default)).fits)
 
-pub verdict_on-verdict-requires : goal.verdict_on-verdict-requires
-verdict_on-verdict-requires c = search rules
-
 pub on_deck-requires : goal.on_deck-requires
 on_deck-requires c =
     let fit = (sound ((goal.at.on_deck-requires c).In_default)).fits in

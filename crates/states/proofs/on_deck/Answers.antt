@@ -4,18 +4,9 @@ use Rattle.rules.specs.declared.Verdict.TheVariants.{Fails}
 use borrow.Author.Rules.{rules}
 use Rattle.states.proofs.on_deck.Goals as goal
 
-pub enum_known-verdict : goal.enum_known-verdict
-enum_known-verdict c = search rules
-
 pub deck_place-requires : goal.deck_place-requires
 deck_place-requires c =
     (c.requires.start.0, c.requires.start.1, rw c.in-Fails.is at c.requires.few)
-
-pub enum_known-verdict-in-Refused-1 : goal.enum_known-verdict-in-Refused-1
-enum_known-verdict-in-Refused-1 c = search rules
-
-pub returns-in-Works : goal.returns-in-Works
-returns-in-Works c = search rules
 
 pub returns-in-Fails : goal.returns-in-Fails
 returns-in-Fails c = rw c.in-Fails.is (ap Fails c.deck_place.ensures)

@@ -7,24 +7,6 @@ use Rattle.verdict.proofs.Windows.{ones-shifted}
 use borrow.Author.Rules.{rules}
 use Rattle.states.proofs.state_in.Goals as goal
 
-pub overflow_add-size : goal.overflow_add-size
-overflow_add-size c = search rules
-
-pub overflow_sub-size : goal.overflow_sub-size
-overflow_sub-size c = search rules
-
-pub overflow_sub-mask : goal.overflow_sub-mask
-overflow_sub-mask c = search rules
-
-pub overflow_shr-mask : goal.overflow_shr-mask
-overflow_shr-mask c = search rules
-
-pub overflow_sub-result : goal.overflow_sub-result
-overflow_sub-result c = search rules
-
-pub overflow_shr-result : goal.overflow_shr-result
-overflow_shr-result c = search rules
-
 pub returns : goal.returns
 returns c =
     let size = c.args.b + 1 - c.args.a in

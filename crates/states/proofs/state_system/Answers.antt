@@ -12,20 +12,11 @@ use Rattle.states.specs.States.{part_verdict}
 use borrow.Author.Rules.{rules}
 use Rattle.states.proofs.state_system.Goals as goal
 
-pub weights_in-weights-requires : goal.weights_in-weights-requires
-weights_in-weights-requires c = search rules
-
-pub system_in-system-requires : goal.system_in-system-requires
-system_in-system-requires c = search rules
-
 pub slice_bounds-weights-end : goal.slice_bounds-weights-end
 slice_bounds-weights-end c = omega (arith, few-fans c.requires.headed)
 
 pub slice_bounds-judge_part-end : goal.slice_bounds-judge_part-end
 slice_bounds-judge_part-end c = sym (length-take-le _ _ (omega (arith, few-fans c.requires.headed)))
-
-pub judge_part-requires : goal.judge_part-requires
-judge_part-requires c = search rules
 
 -- a file has a weight for each of its fans
 as_many : (bytes : List ℕ) → length (deck_in bytes).weights ≡ length (deck_in bytes).survival

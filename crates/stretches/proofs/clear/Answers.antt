@@ -5,9 +5,6 @@ use Rattle.stretches.proofs.clear.Goals as goal
 pub zero-requires : goal.zero-requires
 zero-requires c = c.requires c.if-answered.true
 
-pub shape_of-table : goal.shape_of-table
-shape_of-table c = search rules
-
 pub returns-then-answered : goal.returns-then-answered
 returns-then-answered c =
     rw c.if-answered.true c.zero.ensures

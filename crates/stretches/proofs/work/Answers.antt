@@ -46,12 +46,6 @@ rated_weights-rated-requires c = inside _ _ c.requires
 pub boards_read-placed-requires : goal.boards_read-placed-requires
 boards_read-placed-requires c = let h = fits _ _ c.requires in (omega arith, λ has. listed _ _ c.requires has)
 
-pub numbers_read-own-requires : goal.numbers_read-own-requires
-numbers_read-own-requires c = search rules
-
-pub is_decimal-decimal-requires : goal.is_decimal-decimal-requires
-is_decimal-decimal-requires c = search rules
-
 pub offset_bounds-lists-start : goal.offset_bounds-lists-start
 offset_bounds-lists-start c = omega (arith, fits _ _ c.requires)
 
@@ -68,9 +62,6 @@ pub rate-requires : goal.rate-requires
 rate-requires c =
     let both = handed-able _ _ c.requires (handed ((goal.at.rate-requires c).After-is_decimal-decimal)) in
     record { able = both.0; boarded = both.1 }
-
-pub shape_of-table : goal.shape_of-table
-shape_of-table c = search rules
 
 pub returns : goal.returns
 returns c =

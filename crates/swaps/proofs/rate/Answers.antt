@@ -65,9 +65,6 @@ pub work-requires : goal.work-requires
 work-requires c =
     written-accepted _ c.args.swap _ c.requires _ c.copied-numbers.ensures
 
-pub shape_of-table : goal.shape_of-table
-shape_of-table c = search rules
-
 pub returns : goal.returns
 returns c =
     written-worked _ c.args.swap _ c.requires _ c.copied-numbers.ensures c.work.ensures

@@ -8,9 +8,6 @@ use Rattle.systems.proofs.Answers.{opened-answer, numbered}
 use borrow.Author.Rules.{rules}
 use Rattle.systems.proofs.rate_opened.Goals as goal
 
-pub refusal-refused-requires : goal.refusal-refused-requires
-refusal-refused-requires c = search rules
-
 pub returns-then-refused-ne0 : goal.returns-then-refused-ne0
 unfolding loading_of
 returns-then-refused-ne0 c =

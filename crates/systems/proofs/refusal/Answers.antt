@@ -10,9 +10,6 @@ pub returns-then-own-ne0 : goal.returns-then-own-ne0
 unfolding open_refusal
 returns-then-own-ne0 c = sym (after-some _ _ c.if-own-ne0.true)
 
-pub outside-requires : goal.outside-requires
-outside-requires c = search rules
-
 pub returns-then-outside : goal.returns-then-outside
 unfolding open_refusal
 returns-then-outside c =

@@ -4,9 +4,6 @@ use Rattle.rules.specs.Below.{list_below, total}
 use Rattle.totals.specs.Season.{chosen, some_of, singles_from, totals_of}
 use Rattle.totals.proofs.none.Goals as goal
 
-pub none-tally-requires : goal.none-tally-requires
-none-tally-requires c = search rules
-
 pub returns : goal.returns
 unfolding totals_of singles_from chosen some_of total list_below
 returns c = rw c.none-tally.ensures

@@ -9,12 +9,6 @@ use Rattle.totals.specs.Plus.{system_plus}
 use borrow.Author.Rules.{rules}
 use Rattle.totals.proofs.plus_system.Goals as goal
 
-pub outside-requires : goal.outside-requires
-outside-requires c = search rules
-
-pub overflow_add-result : goal.overflow_add-result
-overflow_add-result c = search rules
-
 pub returns-then-outside : goal.returns-then-outside
 unfolding system_plus
 returns-then-outside c = rw (not-true (within 1 c.args.kind last_kind) (sym c.outside.ensures ∙ c.if-outside.true))

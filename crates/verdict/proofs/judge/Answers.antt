@@ -7,7 +7,6 @@ use Prim.Native.Nat.{ℕ, min, ◌+◌, ◌≤◌, ◌<◌, ◌^◌}
 use native.Mathlib.Nat.{le_antisymm}
 use native.Mathlib.Omega.{arith}
 use lib.Dec.{leb}
-use borrow.Author.Rules.{rules}
 use Rattle.rules.specs.declared.Rule.{Rule}
 use Rattle.rules.specs.declared.Verdict.{Verdict}
 use Rattle.rules.specs.declared.Verdict.TheVariants.{Fails}
@@ -63,24 +62,9 @@ eight c =
     let four = past (past (past c.requires.0.kind_low c.in_default.in_default-own.rest.0.0.0.0.0.0.1) c.in_default.in_default-own.rest.0.0.0.0.0.1) c.in_default.in_default-own.rest.0.0.0.0.1 in
     le_antisymm c.requires.0.kind_high (past (past (past (past four c.in_default.in_default-own.rest.0.0.0.1) c.in_default.in_default-own.rest.0.0.1) c.in_default.in_default-own.rest.0.1) c.in_default.in_default-own.rest.1)
 
-pub ones_of-failed-requires : goal.ones_of-failed-requires
-ones_of-failed-requires c = search rules
-
-pub judge_sum-requires : goal.judge_sum-requires
-judge_sum-requires c = search rules
-
 pub weighed-requires : goal.weighed-requires
 weighed-requires c =
     (rw (two-beside c.args.rule c.args.weights.now c.args.more.now c.in-2.is) at (c.requires.0.weights_length c.in-2.is), c.requires.0.size_high)
-
-pub judge_sum-requires-in-2 : goal.judge_sum-requires-in-2
-judge_sum-requires-in-2 c = search rules
-
-pub outside-requires : goal.outside-requires
-outside-requires c = search rules
-
-pub judge_sum-requires-in-3 : goal.judge_sum-requires-in-3
-judge_sum-requires-in-3 c = search rules
 
 pub judge_windows-requires : goal.judge_windows-requires
 judge_windows-requires c =
@@ -89,9 +73,6 @@ judge_windows-requires c =
 pub judge_windows-requires-in-5 : goal.judge_windows-requires-in-5
 judge_windows-requires-in-5 c =
     one-window c.requires (range5 c.requires.0 c.in-5.is)
-
-pub fitting-requires : goal.fitting-requires
-fitting-requires c = search rules
 
 pub judge_windows-requires-in-6 : goal.judge_windows-requires-in-6
 judge_windows-requires-in-6 c =

@@ -2,7 +2,6 @@
 use mathlib.Core.Bool.{Bool, true, false}
 use Prim.Native.Nat.{ℕ, ◌≤◌}
 use native.Mathlib.Omega.{arith}
-use borrow.Author.Rules.{rules}
 use Rattle.rules.specs.State.{starts}
 use Rattle.rules.specs.Verdict.{some_window, first_window}
 use Rattle.verdict.proofs.Placed.{placed, nowhere}
@@ -12,15 +11,9 @@ starts-le : (ring : Bool) (n width : ℕ) → 1 ≤ width → starts ring n widt
 starts-le true n width l = omega arith
 starts-le false n width l = omega arith
 
-pub starts_of-starts-requires : goal.starts_of-starts-requires
-starts_of-starts-requires c = search rules
-
 pub first_window-a-requires : goal.first_window-a-requires
 first_window-a-requires c =
     (c.requires.0, c.requires.1, c.requires.2, c.requires.3, rw c.starts_of-starts.ensures (starts-le c.args.ring c.args.n c.args.width c.requires.0))
-
-pub overflow_add-result : goal.overflow_add-result
-overflow_add-result c = search rules
 
 pub returns-then-a-starts : goal.returns-then-a-starts
 unfolding some_window first_window

@@ -2,17 +2,7 @@
 use mathlib.Core.Path.{ap}
 use Prim.Native.Nat.{◌-◌}
 use native.Mathlib.Numerals.{add-one}
-use borrow.Author.Rules.{rules}
 use Rattle.verdict.proofs.starts_of.Goals as goal
-
-pub returns-then-ring : goal.returns-then-ring
-returns-then-ring c = search rules
-
-pub overflow_add-result : goal.overflow_add-result
-overflow_add-result c = search rules
-
-pub overflow_sub-result : goal.overflow_sub-result
-overflow_sub-result c = search rules
 
 pub returns : goal.returns
 returns c =

@@ -20,12 +20,6 @@ unit c = c.whole.ensures ∙ c.is_decimal.ensures
 not-above : (c : After-whole) → c.whole.result ≤ unit_in (asked c)
 not-above c = omega (arith, unit c)
 
-pub is_decimal-requires : goal.is_decimal-requires
-is_decimal-requires c = search rules
-
-pub whole-requires : goal.whole-requires
-whole-requires c = search rules
-
 pub rate-works-requires : goal.rate-works-requires
 rate-works-requires c =
     swappable _ c.args.fan _ c.requires c.whole.result (not-above ((goal.at.rate-works-requires c).After-whole)) _ (record { long = refl; rest = refl })
@@ -36,9 +30,6 @@ rate-fails-requires c =
 
 pub difference-requires : goal.difference-requires
 difference-requires c = record { after = within _ c.args.fan _ c.requires c.whole.result (not-above ((goal.at.difference-requires c).After-whole)) c.rate-works.ensures; before = within _ c.args.fan _ c.requires 0 zero-le c.rate-fails.ensures }
-
-pub shape_of-table : goal.shape_of-table
-shape_of-table c = search rules
 
 pub returns : goal.returns
 returns c =

@@ -6,8 +6,5 @@ use Rattle.writer.proofs.bad_fives.Goals as goal
 pub returns-then-count-ne0 : goal.returns-then-count-ne0
 returns-then-count-ne0 c = rw (ne_eqb _ _ c.if-count-ne0.true)
 
-pub outside-requires : goal.outside-requires
-outside-requires c = search rules
-
 pub returns : goal.returns
 returns c = rw (eq-eqb _ _ c.if-count-ne0.false) c.outside.ensures

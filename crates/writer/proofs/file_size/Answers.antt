@@ -7,9 +7,6 @@ use Rattle.rules.specs.File.{per_system, file_length}
 use borrow.Author.Rules.{rules}
 use Rattle.writer.proofs.file_size.Goals as goal
 
-pub numbers_read-own-requires : goal.numbers_read-own-requires
-numbers_read-own-requires c = search rules
-
 pub file_length-requires : goal.file_length-requires
 file_length-requires c = let own = ap length c.numbers_read-own.ensures in (omega (arith, c.requires.few), omega (arith, c.requires.boards), omega (arith, c.requires.fewer))
 

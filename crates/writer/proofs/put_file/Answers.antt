@@ -26,18 +26,12 @@ boards_read-placed-requires c =
     let w = s.0 in
     (omega arith, λ has. omega (arith, listed c.args.version _ c.args.boards.now c.args.switchboards.now w.counted w.placed has))
 
-pub numbers_read-own-requires : goal.numbers_read-own-requires
-numbers_read-own-requires c = search rules
-
 pub put_header-requires : goal.put_header-requires
 put_header-requires c =
     let s = sound _ _ c.requires in
     let w = s.0 in
     let few = few-typed c.args.version (length c.args.survival.now) c.args.boards.now c.args.switchboards.now w.counted w.placed in
     record { versioned = w.versioned; few = w.most_fans; boards = rw c.numbers_read-own.ensures few; fewer = w.most-systems; fits = omega (arith, s.1) }
-
-pub header_length-requires : goal.header_length-requires
-header_length-requires c = search rules
 
 pub put_all4-requires : goal.put_all4-requires
 put_all4-requires c =
@@ -96,9 +90,6 @@ put_all2-requires-2 c =
       c.put_all4.auto,
       c.put_header.auto,
     )
-
-pub shape_of-room : goal.shape_of-room
-shape_of-room c = search rules
 
 pub returns : goal.returns
 returns c =

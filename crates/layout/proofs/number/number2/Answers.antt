@@ -1,7 +1,6 @@
 -- `number::number2` meets its contract: two bytes, the higher one 256 times. Assumes nothing.
 use Prim.Native.Nat.{◌<◌}
 use native.Mathlib.Omega.{arith}
-use borrow.Author.Rules.{rules}
 use Rattle.layout.proofs.Numbers.{number-two}
 use Rattle.layout.proofs.number.number2.Goals as goal
 use Rattle.layout.proofs.number.number2.Goals.{After-wide-high}
@@ -10,21 +9,6 @@ use Rattle.layout.proofs.number.number2.Goals.{After-wide-high}
 bytes_fit : (c : After-wide-high) → (c.wide-low.result < 256) × (c.wide-high.result < 256)
 bytes_fit c =
     (rw c.wide-low.ensures (c.shared_slice_known-3-1.given _).fits, rw c.wide-high.ensures (c.shared_slice_known-3-1.given _).fits)
-
-pub bounds-bytes-at : goal.bounds-bytes-at
-bounds-bytes-at c = search rules
-
-pub wide-low-requires : goal.wide-low-requires
-wide-low-requires c = search rules
-
-pub overflow_add-at : goal.overflow_add-at
-overflow_add-at c = search rules
-
-pub bounds-bytes-at-2 : goal.bounds-bytes-at-2
-bounds-bytes-at-2 c = search rules
-
-pub wide-high-requires : goal.wide-high-requires
-wide-high-requires c = search rules
 
 pub overflow_mul-result : goal.overflow_mul-result
 overflow_mul-result c = omega (arith, bytes_fit ((goal.at.overflow_mul-result c).After-wide-high))

@@ -1,7 +1,6 @@
 -- `number::number4` meets its contract: two halves of two bytes, the higher one 65,536 times. Assumes nothing.
 use Prim.Native.Nat.{◌^◌, ◌<◌}
 use native.Mathlib.Omega.{arith}
-use borrow.Author.Rules.{rules}
 use Rattle.layout.proofs.Numbers.{number-four, spelled-fits}
 use Rattle.layout.proofs.number.number4.Goals as goal
 use Rattle.layout.proofs.number.number4.Goals.{After-number2-high}
@@ -10,15 +9,6 @@ use Rattle.layout.proofs.number.number4.Goals.{After-number2-high}
 halves-fit : (c : After-number2-high) → (c.number2-low.result < 2 ^ 16) × (c.number2-high.result < 2 ^ 16)
 halves-fit c =
     (spelled-fits 2 _ _ c.number2-low.ensures (λ i. (c.shared_slice_known-1.given i).fits), spelled-fits 2 _ _ c.number2-high.ensures (λ i. (c.shared_slice_known-1.given i).fits))
-
-pub number2-low-requires : goal.number2-low-requires
-number2-low-requires c = search rules
-
-pub overflow_add-at : goal.overflow_add-at
-overflow_add-at c = search rules
-
-pub number2-high-requires : goal.number2-high-requires
-number2-high-requires c = search rules
 
 pub overflow_mul-result : goal.overflow_mul-result
 overflow_mul-result c = omega (arith, halves-fit ((goal.at.overflow_mul-result c).After-number2-high))

@@ -8,41 +8,20 @@ use Rattle.mend.proofs.Putting.{laid-three, put_some, put-none}
 use borrow.Author.Rules.{rules}
 use Rattle.mend.proofs.changes.put_change.Goals as goal
 
-pub offset_bounds-list-at : goal.offset_bounds-list-at
-offset_bounds-list-at c = search rules
-
 pub bounds-list-at : goal.bounds-list-at
 bounds-list-at c =
     let room = rw (ne_eqb _ _ c.if-old-new.true) at c.requires in
     omega (arith, room)
-
-pub overflow_add-list : goal.overflow_add-list
-overflow_add-list c = search rules
-
-pub offset_bounds-list-at-then-old-new : goal.offset_bounds-list-at-then-old-new
-offset_bounds-list-at-then-old-new c = search rules
 
 pub bounds-list-at-then-old-new : goal.bounds-list-at-then-old-new
 bounds-list-at-then-old-new c =
     let room = rw (ne_eqb _ _ c.if-old-new.true) at c.requires in
     rw (length-set c.args.list.now c.args.at _) (omega (arith, room))
 
-pub overflow_add-list-then-old-new : goal.overflow_add-list-then-old-new
-overflow_add-list-then-old-new c = search rules
-
-pub offset_bounds-list-at-then-old-new-2 : goal.offset_bounds-list-at-then-old-new-2
-offset_bounds-list-at-then-old-new-2 c = search rules
-
 pub bounds-list-at-then-old-new-2 : goal.bounds-list-at-then-old-new-2
 bounds-list-at-then-old-new-2 c =
     let room = rw (ne_eqb _ _ c.if-old-new.true) at c.requires in
     rw (length-set (set c.args.list.now c.args.at _) (c.args.at + 1) _, length-set c.args.list.now c.args.at _) (omega (arith, room))
-
-pub overflow_add-result : goal.overflow_add-result
-overflow_add-result c = search rules
-
-pub shape_of-list-then-old-new : goal.shape_of-list-then-old-new
-shape_of-list-then-old-new c = search rules
 
 pub returns-then-old-new : goal.returns-then-old-new
 returns-then-old-new c =

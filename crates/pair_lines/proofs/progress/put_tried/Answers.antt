@@ -3,14 +3,5 @@ use borrow.Author.Rules.{rules}
 use Rattle.shell.proofs.Counted.{counted}
 use Rattle.pair_lines.proofs.progress.put_tried.Goals as goal
 
-pub put_named-named-requires : goal.put_named-named-requires
-put_named-named-requires c = search rules
-
-pub put_named-tried-requires : goal.put_named-tried-requires
-put_named-tried-requires c = search rules
-
-pub put_named-requires : goal.put_named-requires
-put_named-requires c = search rules
-
 pub returns : goal.returns
 returns c = counted _ _ c.put_named.ensures.number_put.within

@@ -1,14 +1,10 @@
 -- `refusals::pairs::pair_out` meets its contract: the range's three tests, one after the other. Assumes nothing.
 use mathlib.Core.Path.{sym, ◌∙◌}
-use borrow.Author.Rules.{rules}
 use borrow.Author.Tests.{not-true, not-false, lt-leb, le-leb}
 use Rattle.rules.specs.Below.{within}
 use Rattle.rules.specs.Pairs.{longest_window}
 use Rattle.rules.proofs.Tests.{not-leb}
 use Rattle.refusals.proofs.pairs.pair_out.Goals as goal
-
-pub outside-requires : goal.outside-requires
-outside-requires c = search rules
 
 pub returns-then-outside : goal.returns-then-outside
 returns-then-outside c =

@@ -4,7 +4,6 @@ use mathlib.Core.Bool.{Bool, true, false, not}
 use mathlib.Core.List.{List}
 use Prim.Native.Nat.{ℕ, ◌%◌, ◌≤◌, ◌<◌}
 use lib.ListN.{length}
-use borrow.Author.Rules.{rules}
 use borrow.Author.Tests.{eq-eqb, ne_eqb, lt-ltb, le-ltb, not-true, not-false}
 use Rattle.rules.specs.Pairs.{pair_of, pairs_in, all_of, good_pair, in_range8, most_more}
 use Rattle.rules.specs.Refusal.{range_pairs}
@@ -34,15 +33,9 @@ returns-then-more-ne0 c = half _ _ _ _ c.if-more-ne0.true
 pub returns-then-more-gt-MORE : goal.returns-then-more-gt-MORE
 returns-then-more-gt-MORE c = many _ _ _ _ c.if-more-ne0.false c.if-more-gt-MORE.true
 
-pub pair_out-requires : goal.pair_out-requires
-pair_out-requires c = search rules
-
 pub returns-then-pair_out : goal.returns-then-pair_out
 returns-then-pair_out c =
     first-bad _ _ _ _ c.if-more-ne0.false c.if-more-gt-MORE.false (not-true _ (sym c.pair_out.ensures ∙ c.if-pair_out.true))
-
-pub more_out-requires : goal.more_out-requires
-more_out-requires c = search rules
 
 pub returns : goal.returns
 returns c =

@@ -10,9 +10,6 @@ pub put_place-requires : goal.put_place-requires
 put_place-requires c =
     record { within = c.requires.within; room = c.requires.room c.if-not-named.false }
 
-pub shape_of-out : goal.shape_of-out
-shape_of-out c = search rules
-
 pub returns : goal.returns
 returns c =
     rw c.if-not-named.false c.put_place.ensures

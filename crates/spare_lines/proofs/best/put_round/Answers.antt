@@ -10,9 +10,6 @@ pub put_group-requires : goal.put_group-requires
 put_group-requires c =
     record { few = c.requires.few; within = c.requires.within; group = c.requires.group; room = c.requires.room c.if-not-named.false }
 
-pub shape_of-out : goal.shape_of-out
-shape_of-out c = search rules
-
 pub returns : goal.returns
 returns c =
     rw c.if-not-named.false c.put_group.ensures

@@ -2,7 +2,6 @@
 -- nothing.
 use Prim.Native.Nat.{suc, ◌-◌}
 use native.Mathlib.Omega.{arith}
-use lib.Dec.{ltb}
 use borrow.Author.Tests.{lt-ltb, le-ltb}
 use Rattle.rules.specs.State.{window}
 use Rattle.rules.proofs.Windows.{held-le}

@@ -10,23 +10,8 @@ use Rattle.writer.specs.Laid.{laid}
 use Rattle.writer.proofs.Laying.{laid-two}
 use Rattle.writer.proofs.bytes.put2.Goals as goal
 
-pub overflow_cast-low : goal.overflow_cast-low
-overflow_cast-low c = search rules
-
-pub overflow_cast-high : goal.overflow_cast-high
-overflow_cast-high c = search rules
-
-pub bounds-room-at : goal.bounds-room-at
-bounds-room-at c = search rules
-
-pub overflow_add-room : goal.overflow_add-room
-overflow_add-room c = search rules
-
 pub bounds-room-at-2 : goal.bounds-room-at-2
 bounds-room-at-2 c = rw (length-set c.args.room.now c.args.at _) (omega arith)
-
-pub shape_of-room : goal.shape_of-room
-shape_of-room c = search rules
 
 pub returns : goal.returns
 unfolding bytes_of

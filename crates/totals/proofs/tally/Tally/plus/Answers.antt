@@ -5,9 +5,6 @@ use Rattle.totals.specs.Plus.{tally_plus}
 use borrow.Author.Rules.{rules}
 use Rattle.totals.proofs.tally.Tally.plus.Goals as goal
 
-pub enum_known-answer : goal.enum_known-answer
-enum_known-answer c = search rules
-
 pub plus-lowest-requires : goal.plus-lowest-requires
 plus-lowest-requires c =
     let fair = rw c.in-Range.is at c.requires.fair in
@@ -20,15 +17,6 @@ overflow_sub-high c =
 pub plus-widths-requires : goal.plus-widths-requires
 plus-widths-requires c =
     record { room = c.requires.room.widths; within = omega (arith, rw c.in-Range.is at c.requires.fair) }
-
-pub overflow_add-result : goal.overflow_add-result
-overflow_add-result c = search rules
-
-pub enum_known-answer-in-Refused-1 : goal.enum_known-answer-in-Refused-1
-enum_known-answer-in-Refused-1 c = search rules
-
-pub plus-refused-requires : goal.plus-refused-requires
-plus-refused-requires c = search rules
 
 pub returns-in-Range : goal.returns-in-Range
 unfolding tally_plus
