@@ -3,25 +3,10 @@ ghost use Rattle.std.specs.Prelude.{◌≡◌, ◌+◌, ◌*◌, ◌%◌, ◌^�
 ghost use Rattle.casefile.specs.Begins.{Begins};
 ghost use Rattle.casefile.specs.Tables.{rubbish_at, rubbish_in, checksum_of};
 
-// What half of 64 bits holds is below this.
-const HALF: u64 = 4294967296;
-
 // A number of the rubbish times the factor, plus the step, is the next.
 const FACTOR: u64 = 6364136223846793005;
 
 const STEP: u64 = 1442695040888963407;
-
-// The product modulo 2^64, by halves: no product here passes 64 bits.
-fn times(a: u64, b: u64) -> u64
-    ensures { result ≡ a * b % 2 ^ 64 }
-{
-    let a_high = a / HALF;
-    let a_low = a % HALF;
-    let b_high = b / HALF;
-    let b_low = b % HALF;
-    let cross = std::num::wrapping_add_u64(a_high * b_low, a_low * b_high);
-    std::num::wrapping_add_u64(a_low * b_low, cross % HALF * HALF)
-}
 
 // Fills a table with rubbish, and answers the number from which a second table goes on.
 pub fn rubbish(seed: u64, cells: &mut [u64]) -> u64
@@ -30,11 +15,9 @@ pub fn rubbish(seed: u64, cells: &mut [u64]) -> u64
         (length cells.old) }
 {
     let mut x = seed;
-    let mut k: usize = 0;
-    while k < cells.len() {
-        x = std::num::wrapping_add_u64(times(x, FACTOR), STEP);
-        cells[k] = x;
-        k += 1;
+    for cell in cells.iter_mut() {
+        x = x.wrapping_mul(FACTOR).wrapping_add(STEP);
+        *cell = x;
     }
     x
 }
@@ -44,10 +27,8 @@ pub fn checksum(cells: &[u64]) -> u64
     ensures { result ≡ checksum_of cells.now }
 {
     let mut sum: u64 = 0;
-    let mut i: usize = 0;
-    while i < cells.len() {
-        sum = std::num::wrapping_add_u64(sum, times(i as u64 + 1, cells[i]));
-        i += 1;
+    for (i, cell) in cells.iter().enumerate() {
+        sum = sum.wrapping_add((i as u64 + 1).wrapping_mul(*cell));
     }
     sum
 }

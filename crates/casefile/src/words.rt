@@ -29,10 +29,8 @@ pub fn word(bytes: &[u8], at: usize) -> u64
     }
     let start = at * WORD_BYTES;
     let mut value: u64 = 0;
-    let mut left: usize = WORD_BYTES;
-    while 0 < left {
-        left -= 1;
-        value = value * 256 + bytes[start + left] as u64;
+    for i in (0..WORD_BYTES).rev() {
+        value = value * 256 + u64::from(bytes[start + i]);
     }
     value
 }
@@ -43,12 +41,10 @@ pub fn fit(bytes: &[u8], at: usize, count: usize, limit: u64) -> bool
     requires counted { count ≤ length bytes.now }
     ensures { (result ≡ true) ↔ ((k : ℕ) → k < count → word_at bytes.now (at + k) < limit) }
 {
-    let mut k: usize = 0;
-    while k < count {
+    for k in 0..count {
         if limit <= word(bytes, at + k) {
             return false;
         }
-        k += 1;
     }
     true
 }
@@ -59,10 +55,8 @@ pub fn octets(bytes: &[u8], at: usize, into: &mut [u8])
     ensures { Begins (low_words octet_limit bytes.now at) into.old into.new
         (length into.old) }
 {
-    let mut k: usize = 0;
-    while k < into.len() {
-        into[k] = (word(bytes, at + k) % OCTET_LIMIT) as u8;
-        k += 1;
+    for (k, number) in into.iter_mut().enumerate() {
+        *number = (word(bytes, at + k) % OCTET_LIMIT) as u8;
     }
 }
 
@@ -72,10 +66,8 @@ pub fn shorts(bytes: &[u8], at: usize, into: &mut [u16])
     ensures { Begins (low_words short_limit bytes.now at) into.old into.new
         (length into.old) }
 {
-    let mut k: usize = 0;
-    while k < into.len() {
-        into[k] = (word(bytes, at + k) % SHORT_LIMIT) as u16;
-        k += 1;
+    for (k, number) in into.iter_mut().enumerate() {
+        *number = (word(bytes, at + k) % SHORT_LIMIT) as u16;
     }
 }
 
@@ -85,10 +77,8 @@ pub fn longs(bytes: &[u8], at: usize, into: &mut [u32])
     ensures { Begins (low_words long_limit bytes.now at) into.old into.new
         (length into.old) }
 {
-    let mut k: usize = 0;
-    while k < into.len() {
-        into[k] = (word(bytes, at + k) % LONG_LIMIT) as u32;
-        k += 1;
+    for (k, number) in into.iter_mut().enumerate() {
+        *number = (word(bytes, at + k) % LONG_LIMIT) as u32;
     }
 }
 
@@ -98,9 +88,7 @@ pub fn fulls(bytes: &[u8], at: usize, into: &mut [u64])
     ensures { Begins (words_from bytes.now at) into.old into.new
         (length into.old) }
 {
-    let mut k: usize = 0;
-    while k < into.len() {
-        into[k] = word(bytes, at + k);
-        k += 1;
+    for (k, number) in into.iter_mut().enumerate() {
+        *number = word(bytes, at + k);
     }
 }

@@ -47,24 +47,15 @@ pub fn plus_system(totals: Totals, system: u64, unit: u64, kind: u64, answer: Ra
     requires fair { Fair answer }
     ensures { result ≡ system_plus totals system unit kind answer }
 {
-    let mut kinds = totals.kinds;
     if refusals::outside(1, kind, KINDS as u64) {
         return Totals {
-            decks: totals.decks,
-            refused: totals.refused,
-            number: totals.number,
             other: totals.other + 1,
-            kinds,
+            ..totals
         };
     }
+    let mut kinds = totals.kinds;
     let k = (kind - 1) as usize;
     let tally = kinds[k];
     kinds[k] = tally.plus(totals.decks, system, unit, answer);
-    Totals {
-        decks: totals.decks,
-        refused: totals.refused,
-        number: totals.number,
-        other: totals.other,
-        kinds,
-    }
+    Totals { kinds, ..totals }
 }

