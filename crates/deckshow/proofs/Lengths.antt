@@ -1,5 +1,4 @@
 -- How long each line can be, and all of them in a file's room. Assumes nothing.
-use mathlib.Core.List.{List}
 use Prim.Native.Nat.{ℕ, ◌≤◌}
 use lib.ListN.{length, get_or}
 use Rattle.rules.specs.File.{Deck}

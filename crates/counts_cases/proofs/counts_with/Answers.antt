@@ -3,17 +3,8 @@ use borrow.Author.Rules.{rules}
 use Rattle.casefile.proofs.Lent.{lent, fits-again, lent_again}
 use Rattle.counts_cases.proofs.counts_with.Goals as goal
 
-pub weights_room-weights-requires : goal.weights_room-weights-requires
-weights_room-weights-requires c = search rules
-
-pub slice_bounds-weights-end : goal.slice_bounds-weights-end
-slice_bounds-weights-end c = search rules
-
 pub slice_bounds-shorts-end : goal.slice_bounds-shorts-end
 slice_bounds-shorts-end c = lent _ _ (search rules)
-
-pub shorts-requires : goal.shorts-requires
-shorts-requires c = search rules
 
 pub slice_bounds-weights-end-2 : goal.slice_bounds-weights-end-2
 slice_bounds-weights-end-2 c =
@@ -22,15 +13,3 @@ slice_bounds-weights-end-2 c =
 pub slice_bounds-counts-end : goal.slice_bounds-counts-end
 slice_bounds-counts-end c =
     lent_again _ _ (search rules) c.shorts.new.into c.shorts.auto.into
-
-pub counts-requires : goal.counts-requires
-counts-requires c = search rules
-
-pub shape_of-table : goal.shape_of-table
-shape_of-table c = search rules
-
-pub shape_of-room : goal.shape_of-room
-shape_of-room c = search rules
-
-pub returns : goal.returns
-returns c = search rules

@@ -1,26 +1,15 @@
 -- `figures_cases::run` meets its contract: the next case stands within the file, and the lines so far within the buffer. Assumes nothing.
 use mathlib.Core.Path.{refl}
-use Prim.Native.Nat.{◌-◌}
 use native.Mathlib.Omega.{arith}
 use borrow.Author.Tests.{not-false}
-use borrow.Author.Rules.{rules}
 use Rattle.casefile.proofs.Run.{case-passed, run-written}
 use Rattle.figures_cases.proofs.run.Goals as goal
-
-pub whole-requires : goal.whole-requires
-whole-requires c = search rules
 
 pub returns-then-whole-lt1 : goal.returns-then-whole-lt1
 returns-then-whole-lt1 c = (omega arith, refl)
 
-pub word-cases-requires : goal.word-cases-requires
-word-cases-requires c = search rules
-
 pub loop-init : goal.loop-init
 loop-init c = record { place = omega arith; kept = refl; within = omega arith }
-
-pub sizes_at-s-requires : goal.sizes_at-s-requires
-sizes_at-s-requires c = omega arith
 
 pub shape_of-out-then-not-s : goal.shape_of-out-then-not-s
 shape_of-out-then-not-s c = c.loop.invariant.kept

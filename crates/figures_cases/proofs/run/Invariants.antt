@@ -1,5 +1,4 @@
 -- `figures_cases::run` meets its contract: the next case stands within the file, and the lines so far within the buffer. Assumes nothing.
-use Prim.Native.Nat.{◌-◌}
 use Rattle.casefile.specs.Cases.{Running}
 use Rattle.figures_cases.proofs.run.Given as goal
 

@@ -1,6 +1,5 @@
 -- `lines::put_entries` meets its contract: the entries so far stand within the buffer. Assumes nothing.
-use mathlib.Core.Path.{◌≡◌}
-use Prim.Native.Nat.{◌-◌, ◌≤◌}
+use Prim.Native.Nat.{◌≤◌}
 use lib.ListN.{length}
 use Rattle.counts_cases.proofs.lines.put_entries.Given as goal
 

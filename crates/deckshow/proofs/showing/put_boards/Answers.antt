@@ -1,6 +1,5 @@
 -- `showing::put_boards` meets its contract: the buffer so far has the lines of the boards passed, and room for the rest. Assumes nothing.
 use mathlib.Core.Path.{sym}
-use Prim.Native.Nat.{◌-◌}
 use native.Mathlib.Omega.{arith}
 use Rattle.rules.specs.Refusal.{most_boards}
 use Rattle.rules.specs.File.{deck_in}

@@ -1,5 +1,4 @@
 -- `showing::put_boards` meets its contract: the buffer so far has the lines of the boards passed, and room for the rest. Assumes nothing.
-use Prim.Native.Nat.{◌-◌}
 use Rattle.rules.specs.File.{deck_in}
 use Rattle.printing.proofs.Lined.{Lined}
 use Rattle.deckshow.specs.Lines.{board_line}

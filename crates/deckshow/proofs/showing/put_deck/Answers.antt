@@ -4,11 +4,7 @@ use Rattle.rules.specs.File.{deck_in}
 use Rattle.text.proofs.Adding.{added_more}
 use Rattle.deckshow.proofs.Lengths.{version-short}
 use Rattle.deckshow.proofs.Shown.{boards-short, fans-short}
-use borrow.Author.Rules.{rules}
 use Rattle.deckshow.proofs.showing.put_deck.Goals as goal
-
-pub put_version-version-requires : goal.put_version-version-requires
-put_version-version-requires c = search rules
 
 pub put_boards-boards-requires : goal.put_boards-boards-requires
 put_boards-boards-requires c =
@@ -26,9 +22,6 @@ put_systems-requires c =
     let second = boards-short c.requires.headed in
     let third = fans-short c.requires.headed in
     record { headed = c.requires.headed; room = omega (arith, c.requires.room, c.put_version-version.auto, c.put_version-version.ensures.ends, c.put_boards-boards.auto, c.put_boards-boards.ensures.ends, c.put_fans-fans.auto, c.put_fans-fans.ensures.ends) }
-
-pub shape_of-out : goal.shape_of-out
-shape_of-out c = search rules
 
 pub returns : goal.returns
 unfolding deck_in

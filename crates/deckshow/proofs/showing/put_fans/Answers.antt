@@ -1,6 +1,5 @@
 -- `showing::put_fans` meets its contract: the buffer so far has the lines of the fans passed, and room for the rest. Assumes nothing.
 use mathlib.Core.Path.{sym}
-use Prim.Native.Nat.{◌-◌}
 use native.Mathlib.Omega.{arith}
 use Rattle.rules.specs.File.{most_fans}
 use Rattle.rules.specs.File.{deck_in}

@@ -1,5 +1,4 @@
 -- `showing::put_fans` meets its contract: the buffer so far has the lines of the fans passed, and room for the rest. Assumes nothing.
-use Prim.Native.Nat.{◌-◌}
 use Rattle.rules.specs.File.{deck_in}
 use Rattle.printing.proofs.Lined.{Lined}
 use Rattle.deckshow.specs.Lines.{fan_line}

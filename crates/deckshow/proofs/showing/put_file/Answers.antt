@@ -2,17 +2,7 @@
 use Rattle.deck.proofs.Outcome.{opened-headed}
 use Rattle.printing.proofs.Printed.{refused-printed, body-printed}
 use Rattle.deckshow.specs.Lines.{show_text}
-use borrow.Author.Rules.{rules}
 use Rattle.deckshow.proofs.showing.put_file.Goals as goal
-
-pub open-opened-requires : goal.open-opened-requires
-open-opened-requires c = search rules
-
-pub put_refused_file-requires : goal.put_refused_file-requires
-put_refused_file-requires c = search rules
-
-pub shape_of-out-then-opened-ne0 : goal.shape_of-out-then-opened-ne0
-shape_of-out-then-opened-ne0 c = search rules
 
 pub returns-then-opened-ne0 : goal.returns-then-opened-ne0
 returns-then-opened-ne0 c =
@@ -21,9 +11,6 @@ returns-then-opened-ne0 c =
 pub put_deck-requires : goal.put_deck-requires
 put_deck-requires c =
     record { headed = opened-headed c.open-opened.ensures c.if-opened-ne0.false; room = c.requires }
-
-pub shape_of-out : goal.shape_of-out
-shape_of-out c = search rules
 
 pub returns : goal.returns
 returns c =

@@ -1,6 +1,5 @@
 -- `showing::put_systems` meets its contract: the buffer so far has the lines of the systems passed, and room for the rest. Assumes nothing.
 use mathlib.Core.Path.{sym}
-use Prim.Native.Nat.{◌-◌}
 use native.Mathlib.Omega.{arith}
 use Rattle.rules.specs.File.{most_systems}
 use Rattle.rules.specs.File.{deck_in}

@@ -1,5 +1,4 @@
 -- `showing::put_systems` meets its contract: the buffer so far has the lines of the systems passed, and room for the rest. Assumes nothing.
-use Prim.Native.Nat.{◌-◌}
 use Rattle.rules.specs.File.{deck_in}
 use Rattle.printing.proofs.Lined.{Lined}
 use Rattle.deckshow.specs.Lines.{system_line}

@@ -2,22 +2,9 @@
 use native.Mathlib.Omega.{arith}
 use mir.Syntax.{w64}
 use mir.ValLaws.{to_z-of_z}
-use borrow.Author.Rules.{rules}
 use Rattle.text.specs.Decimal.{text}
 use Rattle.text.proofs.Adding.{signed-pair-reach}
 use Rattle.figures_case.proofs.line.put_ends.Goals as goal
-
-pub overflow_sub-out : goal.overflow_sub-out
-overflow_sub-out c = search rules
-
-pub returns-then-out-at-lt-ENDS : goal.returns-then-out-at-lt-ENDS
-returns-then-out-at-lt-ENDS c = search rules
-
-pub put_signed_pair-requires : goal.put_signed_pair-requires
-put_signed_pair-requires c = search rules
-
-pub shape_of-out : goal.shape_of-out
-shape_of-out c = search rules
 
 pub returns : goal.returns
 returns c =

@@ -1,5 +1,4 @@
 -- `lists::fulls` is safe: the front of its room is lent to be filled. Assumes nothing.
-use borrow.Author.Rules.{rules}
 use Rattle.casefile.proofs.Lent.{lent}
 use Rattle.figures_cases.proofs.lists.fulls.Goals as goal
 
@@ -11,6 +10,3 @@ slice_bounds-fulls-end c = lent _ _ ((c.requires.1))
 
 pub fulls-requires : goal.fulls-requires
 fulls-requires c = c.requires.0
-
-pub returns : goal.returns
-returns c = search rules

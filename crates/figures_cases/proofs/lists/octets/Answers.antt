@@ -1,5 +1,4 @@
 -- `lists::octets` is safe: the front of its room is lent to be filled. Assumes nothing.
-use borrow.Author.Rules.{rules}
 use Rattle.casefile.proofs.Lent.{lent}
 use Rattle.figures_cases.proofs.lists.octets.Goals as goal
 
@@ -11,6 +10,3 @@ slice_bounds-octets-end c = lent _ _ ((c.requires.1))
 
 pub octets-requires : goal.octets-requires
 octets-requires c = c.requires.0
-
-pub returns : goal.returns
-returns c = search rules
