@@ -110,7 +110,8 @@ pub fn part_refusal(
 // Refusals 20, 21 and 4 of a stretch that lies in the list: the boards' lists, then every survival number that is read.
 fn lists_refusal(question: Question, lists: &RatedLists) -> Result<(), Refusal>
     requires { bad_stretch question.a question.b (length lists.now.survival.now) ≡ false }
-    ensures { refusal_in result ≡ lists_refusal question lists.now.survival.now lists.now.boards.now lists.now.switchboards.now }
+    ensures { let read = lists.now in
+        refusal_in result ≡ lists_refusal question read.survival.now read.boards.now read.switchboards.now }
 {
     let version = question.version;
     let from = question.a as usize - 1;
