@@ -3,7 +3,7 @@
 
 ghost use Rattle.std.specs.Prelude.{◌≡◌, false, ◌≤◌, length};
 ghost use Rattle.rules.specs.State.{S};
-ghost use Rattle.rules.specs.Asked.{asked_by};
+ghost use Rattle.rules.specs.Asked.{asked_with};
 ghost use Rattle.rules.specs.Refusal.{bad_stretch, some_above, above_unit, figures_refusal, refusal_in};
 ghost use Rattle.asked.specs.Parts.{rated_of, place_refusal, lists_refusal, part_refusal};
 
@@ -129,7 +129,7 @@ fn lists_refusal(question: Question, lists: &RatedLists) -> Result<(), Refusal>
 
 // Refusals 11, then 1 to 7 with 20 and 21 before 4, the first that applies.
 pub fn refusal(question: Question, lists: &RatedLists, table: &[u64]) -> Result<(), Refusal>
-    ensures { let q = asked_by question lists.now in
+    ensures { let q = asked_with question lists.now in
         refusal_in result ≡ figures_refusal q table.now }
 {
     if refusals::version_out(question.version) {

@@ -2,7 +2,7 @@
 #![tactic(auto)]
 
 ghost use Rattle.std.specs.Prelude.{◌≡◌, replicate};
-ghost use Rattle.rules.specs.Asked.{question_of, asked_by};
+ghost use Rattle.rules.specs.Asked.{question_of, asked_with};
 ghost use Rattle.rules.specs.Refusal.{cells};
 ghost use Rattle.rules.specs.Gain.{gain_of};
 ghost use Rattle.rules.specs.File.{gain_in, gain_loading_of};
@@ -15,7 +15,7 @@ use rules::{NO_MORE, Question, RatedLists, Spare, System, Worth};
 // The gain of a spare over a deck's lists, in a working table of its own, which nobody sees after it and nobody clears.
 fn weigh_lists(version: u64, system: System, spare: Spare, lists: &RatedLists) -> Worth
     ensures { let question = question_of version system.rule system.a system.b in
-        let q = asked_by question lists.now in
+        let q = asked_with question lists.now in
         result ≡ gain_of q spare.fan spare.p (replicate cells 0) }
 {
     let rule = system.rule;

@@ -2,7 +2,7 @@
 #![tactic(auto)]
 
 ghost use Rattle.std.specs.Prelude.{◌≡◌};
-ghost use Rattle.rules.specs.Asked.{asked_by};
+ghost use Rattle.rules.specs.Asked.{asked_with};
 ghost use Rattle.rules.specs.Refusal.{rating_refusal, refusal_in};
 ghost use Rattle.rules.specs.Gain.{spare_above, gain_refusal};
 ghost use Rattle.gain.specs.Outcome.{with_spare, Found, Answered, Gained};
@@ -29,7 +29,7 @@ fn with_spare(above: bool, own: Result<(), Refusal>) -> Result<(), Refusal>
 
 // The refusals of the figures with a spare's number among those of 4, the first that applies.
 pub fn refusal(question: Question, p: u64, lists: &RatedLists, table: &[u64]) -> Result<(), Refusal>
-    ensures { let q = asked_by question lists.now in
+    ensures { let q = asked_with question lists.now in
         refusal_in result ≡ rating_refusal (spare_above q p) q table.now }
 {
     let own = asked::refusal(question, lists, table);
@@ -39,9 +39,9 @@ pub fn refusal(question: Question, p: u64, lists: &RatedLists, table: &[u64]) ->
 
 // The gain of a spare that is not refused: the stretch is rated with the spare in the fan's place, then as it is.
 fn rate_spare(question: Question, spare: Spare, lists: &RatedLists, table: &mut [u64]) -> Worth
-    requires { let q = asked_by question lists.now in
+    requires { let q = asked_with question lists.now in
         gain_refusal q spare.fan spare.p table.old ≡ 0 }
-    ensures { let q = asked_by question lists.now in
+    ensures { let q = asked_with question lists.now in
         Found q spare table.old table.new result }
 {
     let swap = Swap {
@@ -57,7 +57,7 @@ fn rate_spare(question: Question, spare: Spare, lists: &RatedLists, table: &mut 
 // The gain of a spare in the place of a fan of the stretch from component a to component b. The table is left as it was
 // worked. The exact difference lies between its ends: `gain-between` of rules/proofs/Gain.
 pub fn weigh(question: Question, spare: Spare, lists: &RatedLists, table: &mut [u64]) -> Worth
-    ensures { let q = asked_by question lists.now in
+    ensures { let q = asked_with question lists.now in
         Answered q spare table.old table.new result }
 {
     let rated = refusal(question, spare.p, lists, table);
@@ -69,7 +69,7 @@ pub fn weigh(question: Question, spare: Spare, lists: &RatedLists, table: &mut [
 
 // The same in a lent table, which is handed back clear.
 pub fn gain(question: Question, spare: Spare, lists: &RatedLists, table: &mut [u64]) -> Worth
-    ensures { let q = asked_by question lists.now in
+    ensures { let q = asked_with question lists.now in
         Gained q spare table.old table.new result }
 {
     let gain = weigh(question, spare, lists, table);

@@ -6,7 +6,7 @@ mod progress; // progress.rt: how far it is
 
 ghost use Rattle.std.specs.Prelude.{[], ◌≡◌, ◌+◌, ◌≤◌, ◌<◌, length};
 ghost use Rattle.rules.specs.State.{S};
-ghost use Rattle.rules.specs.Asked.{asked_by, size_of};
+ghost use Rattle.rules.specs.Asked.{asked_with, size_of};
 ghost use Rattle.units.specs.Step.{whole};
 ghost use Rattle.text.specs.Added.{Added};
 ghost use Rattle.spares.specs.Places.{spare_refusal};
@@ -66,9 +66,9 @@ fn put_fans(s: u64, a: u64, decimal: bool, best: Best, out: &mut [u8], at: usize
 
 // The best of all pairs of a stretch, row by row.
 fn best_pair(rt: &HostRuntime, question: Question, two: Two, lists: &RatedLists) -> Best
-    requires { let q = asked_by question lists.now in
+    requires { let q = asked_with question lists.now in
         spare_refusal q two.p ≡ 0 }
-    ensures { let q = asked_by question lists.now in
+    ensures { let q = asked_with question lists.now in
         TriedBelow q two.p (size_of q) result }
 {
     let size = (question.b - question.a) as usize + 1;
@@ -90,10 +90,10 @@ pub fn put_two(
     out: &mut [u8],
     at: usize,
 ) -> usize
-    requires accepted { let q = asked_by question lists.now in
+    requires accepted { let q = asked_with question lists.now in
         spare_refusal q two.p ≡ 0 }
     requires room { at + two_room ≤ length out.old }
-    ensures { let q = asked_by question lists.now in
+    ensures { let q = asked_with question lists.now in
         Added (two_text two.s two.p q) out.old at out.new result }
 {
     if question.a == question.b {

@@ -3,7 +3,7 @@
 #![tactic(auto)]
 
 ghost use Rattle.std.specs.Prelude.{◌≡◌, ◌+◌, ◌*◌, ◌<◌};
-ghost use Rattle.rules.specs.Asked.{asked_by, size_of};
+ghost use Rattle.rules.specs.Asked.{asked_with, size_of};
 ghost use Rattle.rules.specs.Refusal.{most};
 ghost use Rattle.spares.specs.Places.{spare_refusal};
 ghost use Rattle.pairs.specs.Tried.{stays, with_pair, TriedBelow};
@@ -68,13 +68,13 @@ fn with_pair(best: Best, first: usize, second: usize, ends: Ends) -> Best
 
 // The pairs with this first place, one after the other: the best of them and of those before.
 pub fn rate_row(question: Question, p: u64, first: usize, best: Best, lists: &RatedLists) -> Best
-    requires accepted { let q = asked_by question lists.now in
+    requires accepted { let q = asked_with question lists.now in
         spare_refusal q p ≡ 0 }
-    requires place { let q = asked_by question lists.now in
+    requires place { let q = asked_with question lists.now in
         first < size_of q }
-    requires tried { let q = asked_by question lists.now in
+    requires tried { let q = asked_with question lists.now in
         TriedBelow q p first best }
-    ensures { let q = asked_by question lists.now in
+    ensures { let q = asked_with question lists.now in
         TriedBelow q p (first + 1) result }
 {
     let a = question.a;

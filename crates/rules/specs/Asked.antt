@@ -40,8 +40,8 @@ asked_of question survival weights more boards switchboards = record {
   switchboards = switchboards;
 }
 
-abbrev pub asked_by : Question → RatedLists → Asked
-asked_by question lists = asked_of question lists.survival.now lists.weights.now lists.more.now lists.boards.now lists.switchboards.now
+abbrev pub asked_with : Question → RatedLists → Asked
+asked_with question lists = asked_of question lists.survival.now lists.weights.now lists.more.now lists.boards.now lists.switchboards.now
 
 -- "Conditions two and three read S as the file's own unit"
 abbrev pub unit_in : Asked → ℕ

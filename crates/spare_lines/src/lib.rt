@@ -6,7 +6,7 @@ mod best; // best.rt: the best places
 
 ghost use Rattle.std.specs.Prelude.{[], ◌≡◌, ◌+◌, ◌≤◌, length};
 ghost use Rattle.rules.specs.State.{S};
-ghost use Rattle.rules.specs.Asked.{asked_by};
+ghost use Rattle.rules.specs.Asked.{asked_with};
 ghost use Rattle.text.specs.Added.{Added};
 ghost use Rattle.spare_lines.specs.Lines.{gain_line, gain_lines, gain_room, gains_room, FewPlaces, InUnit};
 ghost use Rattle.spare_lines.specs.System.{system_text, system_room};
@@ -80,7 +80,7 @@ pub fn put_asked(
 ) -> usize
     requires place { job.s ≤ 64 }
     requires room { at + system_room ≤ length out.old }
-    ensures { let q = asked_by question lists.now in
+    ensures { let q = asked_with question lists.now in
         Added (system_text job q) out.old at out.new result }
 {
     let s = job.s as u64 + 1;

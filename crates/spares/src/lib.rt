@@ -2,7 +2,7 @@
 #![tactic(auto)]
 
 ghost use Rattle.std.specs.Prelude.{◌≡◌, replicate};
-ghost use Rattle.rules.specs.Asked.{asked_by, low_of, high_of};
+ghost use Rattle.rules.specs.Asked.{asked_with, low_of, high_of};
 ghost use Rattle.rules.specs.Refusal.{cells, figures_refusal, refusal_in};
 ghost use Rattle.spares.specs.Places.{spare_refusal, Placed, AsItIs};
 
@@ -21,7 +21,7 @@ pub struct Places {
 
 // The refusal of a system, the spare's number among those of 4.
 pub fn refusal(question: Question, p: u64, lists: &RatedLists) -> Result<(), Refusal>
-    ensures { let q = asked_by question lists.now in
+    ensures { let q = asked_with question lists.now in
         refusal_in result ≡ spare_refusal q p }
 {
     let working = [0u64; CELLS];
@@ -30,9 +30,9 @@ pub fn refusal(question: Question, p: u64, lists: &RatedLists) -> Result<(), Ref
 
 // The figures as they are.
 pub fn rate_now(question: Question, lists: &RatedLists) -> Ends
-    requires { let q = asked_by question lists.now in
+    requires { let q = asked_with question lists.now in
         figures_refusal q (replicate cells 0) ≡ 0 }
-    ensures { let q = asked_by question lists.now in
+    ensures { let q = asked_with question lists.now in
         AsItIs q result }
 {
     let mut working = [0u64; CELLS];
@@ -41,9 +41,9 @@ pub fn rate_now(question: Question, lists: &RatedLists) -> Ends
 
 // The figures with the spare in each place, one after the other.
 pub fn rate_places(question: Question, p: u64, lists: &RatedLists) -> Places
-    requires { let q = asked_by question lists.now in
+    requires { let q = asked_with question lists.now in
         spare_refusal q p ≡ 0 }
-    ensures { let q = asked_by question lists.now in
+    ensures { let q = asked_with question lists.now in
         Placed q p result }
 {
     let a = question.a;

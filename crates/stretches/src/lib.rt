@@ -2,7 +2,7 @@
 #![tactic(auto)]
 
 ghost use Rattle.std.specs.Prelude.{◌≡◌, true, ◌≤◌, length};
-ghost use Rattle.rules.specs.Asked.{asked_by};
+ghost use Rattle.rules.specs.Asked.{asked_with};
 ghost use Rattle.rules.specs.Refusal.{cells, figures_refusal};
 ghost use Rattle.stretches.specs.Outcome.{Worked, is_range, cleared_if};
 
@@ -13,9 +13,9 @@ use rules::{Question, RatedLists, Rating};
 // Low and high of a stretch that is not refused, worked on that part of the lent lists where it stands. The table is
 // left as it was worked.
 pub fn work(question: Question, lists: &RatedLists, table: &mut [u64]) -> Ends
-    requires { let q = asked_by question lists.now in
+    requires { let q = asked_with question lists.now in
         figures_refusal q table.old ≡ 0 }
-    ensures { let q = asked_by question lists.now in
+    ensures { let q = asked_with question lists.now in
         Worked q table.old table.new result }
 {
     let version = question.version;

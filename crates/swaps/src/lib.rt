@@ -6,7 +6,7 @@ ghost use Rattle.std.specs.Prelude.{◌≡◌, true, ◌≤◌, length};
 ghost use Rattle.std.proofs.Math.IntN.{sub_ℕ};
 ghost use Rattle.rules.specs.declared.Worth.TheVariants.{Ends as Between};
 ghost use Rattle.rules.specs.State.{S};
-ghost use Rattle.rules.specs.Asked.{asked_by};
+ghost use Rattle.rules.specs.Asked.{asked_with};
 ghost use Rattle.rules.specs.Refusal.{most, refusal_in};
 ghost use Rattle.stretches.specs.Outcome.{Worked};
 ghost use Rattle.swaps.specs.Copied.{Copied};
@@ -52,9 +52,9 @@ fn copied(from: usize, upto: usize, survival: &[u32]) -> [u32; FANS]
 // Low and high of a stretch that is not refused, with a survival number in the place of one fan or of two: a copy of
 // the stretch's numbers is rated. The table is left as it was worked.
 pub fn rate(question: Question, swap: Swap, lists: &RatedLists, table: &mut [u64]) -> Ends
-    requires { let q = asked_by question lists.now in
+    requires { let q = asked_with question lists.now in
         Swappable q swap table.old }
-    ensures { let q = asked_by question lists.now in
+    ensures { let q = asked_with question lists.now in
         Worked (swap_in swap q) table.old table.new result }
 {
     let n = lists.survival.len();

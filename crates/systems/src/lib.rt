@@ -2,7 +2,7 @@
 #![tactic(auto)]
 
 ghost use Rattle.std.specs.Prelude.{◌≡◌, replicate};
-ghost use Rattle.rules.specs.Asked.{question_of, asked_by};
+ghost use Rattle.rules.specs.Asked.{question_of, asked_with};
 ghost use Rattle.rules.specs.Refusal.{cells};
 ghost use Rattle.rules.specs.Answer.{figures_of};
 ghost use Rattle.rules.specs.File.{answer_in, loading_of};
@@ -16,7 +16,7 @@ use rules::{NO_MORE, Question, RatedLists, Rating, System};
 // The rating call over a deck's lists, in a working table of its own, which nobody sees after it and nobody clears.
 fn rate_lists(version: u64, system: System, lists: &RatedLists) -> Rating
     ensures { let question = question_of version system.rule system.a system.b in
-        let q = asked_by question lists.now in
+        let q = asked_with question lists.now in
         result ≡ figures_of q (replicate cells 0) }
 {
     let rule = system.rule;

@@ -5,7 +5,7 @@ use mathlib.Core.Bool.{false}
 use mathlib.Core.List.{List, [], ◌∷◌}
 use Prim.Native.Nat.{ℕ}
 use borrow.Author.Tests.{lt-ltb, le-ltb}
-use Rattle.rules.specs.Asked.{Asked, question_in, asked_by, length_of}
+use Rattle.rules.specs.Asked.{Asked, question_in, asked_with, length_of}
 use Rattle.rules.specs.declared.refusal.Refusal.{Refusal}
 use Rattle.rules.specs.Refusal.{number, bad_version, after, short_table, first_of, figures_refusal}
 use Rattle.rules.proofs.Accepted.{first-of, first-after}
@@ -20,7 +20,7 @@ use Rattle.asked.proofs.refusal.Goals.{After-version_out}
 abbrev asked : After-version_out → Asked
 asked c =
     let x = c.args in
-    asked_by x.question x.lists.now
+    asked_with x.question x.lists.now
 
 module _ (q : Asked) (table : List ℕ) where
   abbrev refused : ℕ

@@ -2,7 +2,7 @@
 use borrow.Author.Rules.{rules}
 use mathlib.Core.Path.{◌≡◌, ap, ap₂, ◌∙◌}
 use lib.Dec.{ltb}
-use Rattle.rules.specs.Asked.{Asked, asked_by, unit_in}
+use Rattle.rules.specs.Asked.{Asked, asked_with, unit_in}
 use Rattle.gain.specs.Outcome.{with_spare}
 use Rattle.gain.proofs.Refused.{with-spare}
 use Rattle.gain.proofs.refusal.Goals as goal
@@ -10,7 +10,7 @@ use Rattle.gain.proofs.refusal.Goals.{Start}
 
 abbrev asked : Start → Asked
 asked c =
-    asked_by c.args.question c.args.lists.now
+    asked_with c.args.question c.args.lists.now
 
 pub returns : goal.returns
 returns c =

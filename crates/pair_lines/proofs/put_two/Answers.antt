@@ -2,7 +2,7 @@
 use mathlib.Core.List.{[]}
 use native.Mathlib.Omega.{arith}
 use borrow.Author.Tests.{eq-eqb, ne_eqb}
-use Rattle.rules.specs.Asked.{Asked, asked_by, size_of}
+use Rattle.rules.specs.Asked.{Asked, asked_with, size_of}
 use Rattle.spares.proofs.Rating.{inside}
 use Rattle.pairs.specs.Pairs.{low_with_both, high_with_both}
 use Rattle.pairs.specs.Tried.{Leads}
@@ -14,14 +14,14 @@ use Rattle.pair_lines.proofs.put_two.Goals.{After-best_pair-best, Start}
 
 -- what is asked
 abbrev asked : Start → Asked
-asked c = asked_by c.args.question c.args.lists.now
+asked c = asked_with c.args.question c.args.lists.now
 
 -- the pair that leads
 leads : (c : After-best_pair-best) →
-    let q = asked_by c.args.question c.args.lists.now in
+    let q = asked_with c.args.question c.args.lists.now in
     Leads (low_with_both q c.args.two.p) (high_with_both q c.args.two.p) (size_of q) (size_of q) 0 c.best_pair-best.result
 leads c =
-    let q = asked_by c.args.question c.args.lists.now in
+    let q = asked_with c.args.question c.args.lists.now in
     let h = inside q c.args.two.p c.requires.accepted in
     all-tried (omega (arith, c.if-question.false)) c.best_pair-best.ensures
 

@@ -4,7 +4,7 @@ use mathlib.Core.List.{[]}
 use Prim.Native.Nat.{◌+◌, ◌≤◌, ◌<◌}
 use native.Mathlib.Nat.{mul-le-mul}
 use native.Mathlib.Omega.{arith}
-use Rattle.rules.specs.Asked.{Asked, asked_by, size_of}
+use Rattle.rules.specs.Asked.{Asked, asked_with, size_of}
 use Rattle.places.proofs.Cells.{kept_trans}
 use Rattle.spares.proofs.Rating.{inside, swappable}
 use Rattle.pairs.specs.Pairs.{low_with_both, high_with_both}
@@ -14,7 +14,7 @@ use Rattle.pairs.proofs.rate_row.Goals as goal
 use Rattle.pairs.proofs.rate_row.Goals.{In-loop-j, Start}
 
 abbrev asked : Start → Asked
-asked c = asked_by c.args.question c.args.lists.now
+asked c = asked_with c.args.question c.args.lists.now
 
 -- the stretch, and the row's place in it
 stretch-in : (c : Start) → (1 ≤ (asked c).a) × ((asked c).a ≤ (asked c).b) × ((asked c).b ≤ 64) × (c.args.first < size_of (asked c))
@@ -33,10 +33,10 @@ pub loop-j-init : goal.loop-j-init
 loop-j-init c = (record { long = refl; rest = refl }, row-begins c.requires.tried)
 
 -- a turn's second place is one of the stretch
-in_row : (c : In-loop-j) → let q = asked_by c.args.question c.args.lists.now in
+in_row : (c : In-loop-j) → let q = asked_with c.args.question c.args.lists.now in
     c.loop-j.j < size_of q
 in_row c =
-    let q = asked_by c.args.question c.args.lists.now in
+    let q = asked_with c.args.question c.args.lists.now in
     let h = inside q c.args.p c.requires.accepted in
     omega (arith, c.loop-j-test.true, h.0, h.1)
 

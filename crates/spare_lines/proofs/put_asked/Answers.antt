@@ -4,7 +4,7 @@ use mathlib.Core.List.{[]}
 use Prim.Native.Nat.{◌+◌, ◌-◌}
 use native.Mathlib.Omega.{arith}
 use borrow.Author.Tests.{eq-eqb, ne_eqb}
-use Rattle.rules.specs.Asked.{Asked, asked_by, size_of}
+use Rattle.rules.specs.Asked.{Asked, asked_with, size_of}
 use Rattle.rules.proofs.Numbers.{number-some}
 use Rattle.rules.proofs.Unless.{unless-some}
 use Rattle.text.specs.Decimal.{text}
@@ -21,10 +21,10 @@ use Rattle.spare_lines.proofs.put_asked.Goals.{In_default, Start}
 
 -- what is asked, and that it is not refused
 abbrev asked : Start → Asked
-asked c = asked_by c.args.question c.args.lists.now
+asked c = asked_with c.args.question c.args.lists.now
 
 none : (c : In_default) →
-    spare_refusal (asked_by c.args.question c.args.lists.now) c.args.job.p ≡ 0
+    spare_refusal (asked_with c.args.question c.args.lists.now) c.args.job.p ≡ 0
 none c = sym c.in_default.ensures
 
 pub overflow_add-s : goal.overflow_add-s

@@ -4,14 +4,14 @@ use mathlib.Core.Path.{◌≡◌, refl}
 use mathlib.Core.List.{[]}
 use Prim.Native.Nat.{◌≤◌, ◌<◌}
 use native.Mathlib.Omega.{arith}
-use Rattle.rules.specs.Asked.{Asked, asked_by, size_of}
+use Rattle.rules.specs.Asked.{Asked, asked_with, size_of}
 use Rattle.places.proofs.Cells.{kept_trans}
 use Rattle.spares.proofs.Rating.{inside, swappable, place-within, no_place, one_place}
 use Rattle.spares.proofs.rate_places.Goals as goal
 use Rattle.spares.proofs.rate_places.Goals.{Start}
 
 abbrev asked : Start → Asked
-asked c = asked_by c.args.question c.args.lists.now
+asked c = asked_with c.args.question c.args.lists.now
 
 stretch-in : (c : Start) → (1 ≤ (asked c).a) × ((asked c).a ≤ (asked c).b) × ((asked c).b ≤ 64)
 stretch-in c = let h = inside (asked c) c.args.p c.requires in (h.0, h.1, omega arith)

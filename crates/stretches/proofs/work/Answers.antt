@@ -6,7 +6,7 @@ use Prim.Native.Nat.{ℕ, ◌-◌}
 use native.Mathlib.Omega.{arith}
 use lib.ListN.{take, drop}
 use borrow.Author.Rules.{rules}
-use Rattle.rules.specs.Asked.{Asked, asked_by}
+use Rattle.rules.specs.Asked.{Asked, asked_with}
 use Rattle.rules.specs.Boards.{boards_read}
 use Rattle.units.specs.Step.{whole}
 use Rattle.asked.proofs.Refused.{part-is}
@@ -17,7 +17,7 @@ use Rattle.stretches.proofs.work.Goals.{After-is_decimal-decimal}
 -- what is asked, and the part of a list that is handed on
 abbrev asked : After-is_decimal-decimal → Asked
 asked c =
-    asked_by c.args.question c.args.lists.now
+    asked_with c.args.question c.args.lists.now
 
 abbrev part : List ℕ → After-is_decimal-decimal → List ℕ
 part xs c = let q = asked c in take (q.b - (q.a - 1)) (drop (q.a - 1) xs)

@@ -5,7 +5,7 @@ use Prim.Native.Nat.{◌≤◌}
 use native.Mathlib.Omega.{arith}
 use lib.ListN.{length-set}
 use lib.Seq.{length-take-le}
-use Rattle.rules.specs.Asked.{Asked, asked_by, length_of}
+use Rattle.rules.specs.Asked.{Asked, asked_with, length_of}
 use Rattle.rules.specs.Refusal.{most}
 use Rattle.swaps.proofs.Replaced.{placed, listed, within-most, written-accepted, written-worked}
 use Rattle.swaps.proofs.rate.Goals as goal
@@ -15,7 +15,7 @@ use Rattle.swaps.proofs.rate.Goals.{Start}
 -- what is asked, and what is known of the fans' places and of the list's length
 abbrev asked : Start → Asked
 asked c =
-    asked_by c.args.question c.args.lists.now
+    asked_with c.args.question c.args.lists.now
 
 one : (c : Start) → let q = asked c in (1 ≤ q.a) × (q.a ≤ c.args.swap.first) × (c.args.swap.first ≤ q.b) × (q.b ≤ length_of q)
 one c = placed _ _ c.requires.none c.args.swap.first c.requires.first

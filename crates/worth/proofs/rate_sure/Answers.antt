@@ -3,7 +3,7 @@ use borrow.Author.Rules.{rules}
 use mathlib.Core.Path.{◌≡◌, refl, ◌∙◌}
 use Prim.Native.Nat.{◌≤◌, zero-le}
 use native.Mathlib.Omega.{arith}
-use Rattle.rules.specs.Asked.{Asked, asked_by, unit_in}
+use Rattle.rules.specs.Asked.{Asked, asked_with, unit_in}
 use Rattle.worth.proofs.Asking.{swappable, within, found}
 use Rattle.worth.proofs.rate_sure.Goals as goal
 use Rattle.worth.proofs.rate_sure.Goals.{After-whole}
@@ -11,7 +11,7 @@ use Rattle.worth.proofs.rate_sure.Goals.{After-whole}
 -- differences of the two ratings' figures. Assumes nothing.
 abbrev asked : After-whole → Asked
 asked c =
-    asked_by c.args.question c.args.lists.now
+    asked_with c.args.question c.args.lists.now
 
 -- the number of a fan that is sure to work
 unit : (c : After-whole) → c.whole.result ≡ unit_in (asked c)

@@ -1,7 +1,7 @@
 -- `weigh` refuses, or answers what the two ratings of what is not refused come to. Assumes nothing.
 use borrow.Author.Rules.{rules}
 use mathlib.Core.Path.{◌≡◌, sym, ap, ◌∙◌}
-use Rattle.rules.specs.Asked.{asked_by}
+use Rattle.rules.specs.Asked.{asked_with}
 use Rattle.rules.specs.Worth.{worth_refusal}
 use Rattle.rules.specs.Refusal.{refusal_in}
 use Rattle.rules.proofs.Numbers.{number-some}
@@ -13,7 +13,7 @@ use Rattle.worth.proofs.weigh.Goals.{After-fan_refusal}
 
 refused : (c : After-fan_refusal) → let x = c.args in
     refusal_in c.fan_refusal.result
-    ≡ worth_refusal (asked_by x.question x.lists.now) x.fan x.table.now
+    ≡ worth_refusal (asked_with x.question x.lists.now) x.fan x.table.now
 refused c =
     c.fan_refusal.ensures ∙ ap (λ own. fan_refusal own c.args.question.a c.args.fan c.args.question.b) c.refusal-own.ensures
 
