@@ -38,24 +38,6 @@ fn counted(left: bool, low: u64) -> u64
     if left { low } else { 0 }
 }
 
-fn both(a: bool, b: bool) -> bool
-    ensures { result ≡ a && b }
-{
-    if a { b } else { false }
-}
-
-fn only(a: bool, b: bool) -> bool
-    ensures { result ≡ a && not b }
-{
-    if a { !b } else { false }
-}
-
-fn one_if(b: bool) -> u64
-    ensures { result ≡ cond b 1 0 }
-{
-    if b { 1 } else { 0 }
-}
-
 // The highest low of the places that are left.
 fn highest(left: [bool; FANS], low: [u64; FANS], size: usize) -> u64
     requires { size ≤ most }
@@ -84,9 +66,10 @@ fn group_of(left: [bool; FANS], places: Places, before: Ends, size: usize) -> Gr
     for i in 0..size {
         let reaches = top <= high[i] + before.high;
         let was = left[i];
-        alike[i] = both(was, reaches);
-        rest[i] = only(was, reaches);
-        count += one_if(both(was, reaches));
+        let tied = was && reaches;
+        alike[i] = tied;
+        rest[i] = was && !reaches;
+        count += u64::from(tied);
     }
     Group {
         left: rest,

@@ -1,18 +1,24 @@
 -- `best::group_of` meets its contract: the places passed are sorted. Assumes nothing.
-use mathlib.Core.Path.{◌≡◌, sym, ap, ◌∙◌}
+use mathlib.Core.Path.{◌≡◌, refl, ap, ◌∙◌}
 use mathlib.Core.Bool.{Bool, true, false, cond}
 use Prim.Native.Nat.{◌+◌, ◌^◌, ◌≤◌, ◌<◌}
 use native.Mathlib.Omega.{arith}
 use lib.ListN.{get_or}
+use mir.Val.{bool_byte}
 use Rattle.rules.specs.State.{S}
 use Rattle.spare_lines.specs.Ranks.{left_in}
 use Rattle.spares.proofs.Highest.{highest-within}
 use Rattle.spare_lines.proofs.Grouping.{none_passed, one-passed, few-counted, all-passed}
 use Rattle.spare_lines.proofs.best.group_of.Goals as goal
+use Rattle.spare_lines.proofs.best.group_of.Goals.{then-was, else-was, then-was-2, else-was-2}
 
 one-most : (b : Bool) → cond b 1 0 ≤ 1
 one-most true = omega arith
 one-most false = omega arith
+
+as-byte : (b : Bool) → bool_byte b ≡ cond b 1 0
+as-byte true = refl
+as-byte false = refl
 
 pub highest-requires : goal.highest-requires
 highest-requires c = c.requires.few
@@ -44,13 +50,14 @@ bounds-rest-i c = omega (arith, c.loop-i-test.true, c.requires.few)
 
 pub overflow_add-count : goal.overflow_add-count
 overflow_add-count c =
-    omega (arith, c.loop-i-test.true, c.requires.few, few-counted c.loop-i.invariant, c.one_if-count.ensures, one-most c.both-in-loop-i.result)
+    omega (arith, c.loop-i-test.true, c.requires.few, few-counted c.loop-i.invariant, c.from.ensures, as-byte c.if-was.tied, one-most c.if-was.tied)
 
 pub loop-i-preserved : goal.loop-i-preserved
 loop-i-preserved c =
-    let same = c.both-in-loop-i.ensures ∙ sym c.both.ensures in
-    one-passed _ _ _ _ c.loop-i.invariant (omega (arith, c.loop-i-test.true, c.requires.few)) c.both.ensures c.only.ensures
-    (c.one_if-count.ensures ∙ ap (λ b. cond b 1 0) same)
+    one-passed _ _ _ _ c.loop-i.invariant (omega (arith, c.loop-i-test.true, c.requires.few))
+    (elim c.if-was.branch [ then-was w ↦ w.tied-is ∙ rw w.if-was.true | else-was w ↦ w.tied-is ∙ rw w.if-was.false ])
+    (elim c.if-was-2.branch [ then-was-2 w ↦ w.rest-is ∙ rw w.if-was-2.true | else-was-2 w ↦ w.rest-is ∙ rw w.if-was-2.false ])
+    (c.from.ensures ∙ as-byte c.if-was.tied)
 
 pub returns : goal.returns
 returns c =

@@ -1,7 +1,6 @@
 -- `best::highest` meets its contract: so far it is the highest of the places passed. Assumes nothing.
-use borrow.Author.Rules.{rules}
 use mathlib.Core.Path.{◌≡◌, refl, ap, ap₂, ◌∙◌}
-use Prim.Native.Nat.{◌-◌, max}
+use Prim.Native.Nat.{max}
 use native.Mathlib.Omega.{arith}
 use native.Mathlib.Numerals.{add-one}
 use Rattle.spares.specs.Highest.{highest}
