@@ -1,9 +1,8 @@
 -- Decimals and survival numbers, test by test: what each answer of the reader is in the definitions. Assumes nothing.
 use mathlib.Core.Path.{◌≡◌}
 use mathlib.Core.List.{List}
-use Prim.Native.Nat.{ℕ, ◌+◌, ◌-◌, ◌*◌, ◌/◌, ◌%◌, ◌^◌, ◌≤◌, ◌<◌}
+use Prim.Native.Nat.{ℕ, ◌+◌, ◌-◌, ◌*◌, ◌/◌, ◌%◌, ◌≤◌, ◌<◌}
 use native.Mathlib.Omega.{arith}
-use native.Mathlib.Nat.{mul-le-mul_left, pow-le-pow_right}
 use lib.ListN.{length, take, drop, length-drop}
 use lib.Seq.{take_all}
 use borrow.Author.Tests.{eq-eqb, ne_eqb, lt-ltb, le-ltb}
@@ -11,9 +10,6 @@ use Rattle.rules.specs.State.{unit_of}
 use Rattle.grammar.specs.Numbers.{none, whole, most, billion, joined, decimal_at, fraction, off_grid, share, parts}
 
 -- a product with a power of ten fits
-pub ten-fits : (x k : ℕ) → x ≤ none → k ≤ most → x * 10 ^ k ≤ none * 10 ^ most
-ten-fits x k h l = omega (arith, mul-le-mul_left x (pow-le-pow_right {n = 10} (omega arith) {i = k} {j = most} l), h)
-
 -- all of a word from a place on
 pub rest_all : (word : List ℕ) (from : ℕ) → take (length word - from) (drop from word) ≡ drop from word
 rest_all word from = take_all (length word - from) (drop from word) (simp length-drop (omega arith))
