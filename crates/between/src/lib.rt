@@ -40,10 +40,11 @@ pub fn chance_between(file: &[u8], system: u64) -> Chance
     ensures { Enclosed file.now system result }
 {
     let opened = deck::open(file);
-    if opened.refusal != 0 {
-        return Chance::Refused(opened.refusal);
+    match opened {
+        Ok(head) => {
+            let unit = units::whole(units::is_decimal(head.version));
+            told(unit, systems::rate_opened(file, opened, system))
+        }
+        Err(refused) => Chance::Refused(refused.number()),
     }
-    let head = opened.head;
-    let unit = units::whole(units::is_decimal(head.version));
-    told(unit, systems::rate_opened(file, opened, system))
 }

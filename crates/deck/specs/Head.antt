@@ -14,10 +14,6 @@ head_of bytes = record { version = version_in bytes; fans = fans_in bytes; syste
 abbrev pub head_for : Deck → Head
 head_for d = record { version = d.version; fans = length d.survival; systems = length d.systems; boards = length d.switchboards }
 
--- and the one of zeros, which stands beside a refusal
-abbrev pub no_head : Head
-no_head = record { version = 0; fans = 0; systems = 0; boards = 0 }
-
 -- a head says what these bytes say
 pub record Says (bytes : List ℕ) (head : Head) : Type 0 where
   pub version : head.version ≡ version_in bytes

@@ -1,24 +1,19 @@
 -- What opening a file answers, and what the functions that read a file's numbers ask of its head.
-use Rattle.std.specs.Prelude.{◌≡◌, List, [], ◌∷◌, ℕ, ◌<◌}
-use Rattle.rules.specs.Answer.{unless}
-use Rattle.rules.specs.Refusal.{after, first_of}
+use Rattle.std.specs.Prelude.{Result, IfOk, ◌≡◌, List, [], ◌∷◌, ℕ, ◌<◌}
+use Rattle.rules.specs.declared.refusal.Refusal.{Refusal}
+use Rattle.rules.specs.Refusal.{after, first_of, refusal_in}
 use Rattle.rules.specs.File.{bad_layout, misplaced_in, file_refusal}
 use Rattle.deck.specs.declared.Head.{Head}
-use Rattle.deck.specs.declared.Opened.{Opened}
-use Rattle.deck.specs.Head.{head_of, no_head, Says, counts_refusal}
+use Rattle.deck.specs.Head.{head_of, Says, counts_refusal}
 
 -- 2, 12, 20, 13 and 21, of a file whose header is there
 unfoldable pub body_refusal : List ℕ → ℕ
 body_refusal bytes = after (counts_refusal (head_of bytes)) (first_of ((13, bad_layout bytes) ∷ (21, misplaced_in bytes) ∷ []))
 
--- a refusal with no head beside it
-abbrev pub refused_by : ℕ → Opened
-refused_by refusal = record { refusal = refusal; head = no_head }
-
--- the outcome of opening a file: its refusal, and its head where there is none
-pub record Opens (bytes : List ℕ) (r : Opened) : Type 0 where
-  pub refusal : r.refusal ≡ file_refusal bytes
-  pub head : r.head ≡ unless (file_refusal bytes) (λ n. no_head) (head_of bytes)
+-- the outcome of opening a file: its refusal, or its head where there is none
+pub record Opens (bytes : List ℕ) (r : Result Head Refusal) : Type 0 where
+  pub refusal : refusal_in r ≡ file_refusal bytes
+  pub head : IfOk r (λ head. head ≡ head_of bytes)
 
 -- a file that is not refused, with its head
 pub record Headed (bytes : List ℕ) (head : Head) : Type 0 where

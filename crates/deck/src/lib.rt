@@ -10,10 +10,10 @@ ghost use Rattle.rules.specs.Doubles.{other_refusal};
 ghost use Rattle.arrays.specs.Padded.{padded};
 ghost use Rattle.deck.specs.Head.{Versioned, Begun, Small, Given};
 ghost use Rattle.deck.specs.Head.{lists_elsewhere, boards_by, length_by, counts_refusal};
-ghost use Rattle.deck.specs.Outcome.{body_refusal, refused_by, Opens, Headed, Placed};
+ghost use Rattle.deck.specs.Outcome.{body_refusal, Opens, Headed, Placed};
 
 use layout::number;
-use rules::refusal::{self, Refusal};
+use rules::refusal::Refusal;
 use rules::{System, limit};
 
 // A file's head: its version, and how many fans, systems and boards it has, n, m and g.
@@ -23,13 +23,6 @@ pub struct Head {
     pub fans: usize,
     pub systems: usize,
     pub boards: usize,
-}
-
-// What opening a file answers: refusal 0 and the file's head, or the refusal and a head of zeros.
-#[derive(Clone, Copy)]
-pub struct Opened {
-    pub refusal: u64,
-    pub head: Head,
 }
 
 // 11: there is no such version, or the zero field is not 0.
@@ -171,52 +164,37 @@ fn body_refusal(bytes: &[u8], head: Head) -> Result<(), Refusal>
     Ok(())
 }
 
-// A refusal, with a head of zeros beside it.
-pub fn refused(refusal: u64) -> Opened
-    ensures { result ≡ refused_by refusal }
-{
-    let head = Head {
-        version: 0,
-        fans: 0,
-        systems: 0,
-        boards: 0,
-    };
-    Opened { refusal, head }
-}
-
 // Opens a file: its refusal, checked 10, 11, 10 again, 2, 12, 20, 13, 21, or its head.
-pub fn open(file: &[u8]) -> Opened
+pub fn open(file: &[u8]) -> Result<Head, Refusal>
     ensures { Opens file.now result }
 {
     if file.len() < layout::SHORTEST_HEADER {
-        return refused(refusal::SHORT);
+        return Err(Refusal::Short);
     }
     let version = number::number2(file, layout::VERSION_FIELD);
     if bad_start(file, version) {
-        return refused(refusal::VERSION);
+        return Err(Refusal::Version);
     }
     if file.len() < layout::header_length(version) {
-        return refused(refusal::SHORT);
+        return Err(Refusal::Short);
     }
     let head = head_given(file, version);
-    if let Err(found) = body_refusal(file, head) {
-        return refused(found.number());
-    }
-    Opened { refusal: 0, head }
+    body_refusal(file, head)?;
+    Ok(head)
 }
 
-// The refusal of a file that is not of version 1: 10 where it has none, 11 where it has another; 0 for version 1,
-// whatever follows.
-pub fn other_refusal(bytes: &[u8]) -> u64
-    ensures { result ≡ other_refusal bytes.now }
+// The refusal of a file that is not of version 1: 10 where it has none, 11 where it has another; version 1 has
+// neither, whatever follows.
+pub fn other_refusal(bytes: &[u8]) -> Result<(), Refusal>
+    ensures { refusal_in result ≡ other_refusal bytes.now }
 {
     if bytes.len() < layout::SHORTEST_HEADER {
-        return refusal::SHORT;
+        return Err(Refusal::Short);
     }
     if number::number2(bytes, layout::VERSION_FIELD) != rules::version::FIRST {
-        return refusal::VERSION;
+        return Err(Refusal::Version);
     }
-    0
+    Ok(())
 }
 
 // A file's survival numbers, and zeros.

@@ -145,13 +145,13 @@ fn put_file(percent: bool, words: bool, file: &[u8], out: &mut [u8]) -> usize
     ensures { let text = worded_print words (list_text percent words) file.now in
         Added text out.old 0 out.new result }
 {
-    let opened = deck::open(file);
-    if opened.refusal != 0 {
-        return printing::put_worded_file(words, file, opened.refusal, out);
+    match deck::open(file) {
+        Ok(head) => {
+            let end = put_head(head.fans as u64, head.systems as u64, out);
+            put_systems(percent, words, file, head, out, end)
+        }
+        Err(refused) => printing::put_worded_file(words, file, refused.number(), out),
     }
-    let head = opened.head;
-    let end = put_head(head.fans as u64, head.systems as u64, out);
-    put_systems(percent, words, file, head, out, end)
 }
 
 // All that is printed for an input, of which the buffer holds the front: all of it, or as much as the buffer takes.

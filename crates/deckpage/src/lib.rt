@@ -54,22 +54,21 @@ fn put_page(file: &[u8], head: Head, out: &mut [u8]) -> usize
 fn put_file(file: &[u8], out: &mut [u8]) -> usize
     ensures { Within result out.new }
 {
-    let opened = deck::open(file);
-    if opened.refusal != 0 {
-        return page::put_refused(opened.refusal, file, out);
+    match deck::open(file) {
+        Ok(head) => put_page(file, head, out),
+        Err(refused) => page::put_refused(refused.number(), file, out),
     }
-    let head = opened.head;
-    put_page(file, head, out)
 }
 
 // Says in a line that a file is refused.
 fn tell_refused(rt: &HostRuntime, file: &[u8]) -> i32
     ensures { result ≡ refused }
 {
-    let opened = deck::open(file);
-    let mut line = [0u8; LINE];
-    let end = printing::put_refused_file(opened.refusal, &mut line);
-    writing::say(rt, &line[..end]);
+    if let Err(refused) = deck::open(file) {
+        let mut line = [0u8; LINE];
+        let end = printing::put_refused_file(refused.number(), &mut line);
+        writing::say(rt, &line[..end]);
+    }
     shell::REFUSED
 }
 

@@ -117,12 +117,10 @@ fn put_file(file: &[u8], out: &mut [u8]) -> usize
     requires { output_room ≤ length out.old }
     ensures { Added (print_text show_text file.now) out.old 0 out.new result }
 {
-    let opened = deck::open(file);
-    if opened.refusal != 0 {
-        return printing::put_refused_file(opened.refusal, out);
+    match deck::open(file) {
+        Ok(head) => put_deck(file, head, out),
+        Err(refused) => printing::put_refused_file(refused.number(), out),
     }
-    let head = opened.head;
-    put_deck(file, head, out)
 }
 
 // All that is printed for an input, of which the buffer holds the front: all of it, or as much as the buffer takes.

@@ -146,9 +146,8 @@ fn list_for(
     ensures ends { WholeEnds input.now filled result }
     ensures status { Status result }
 {
-    let opened = deck::open(printing::front_of(input, filled));
-    let p = grammar::numbers::parts(opened.head.version, word);
-    if opened.refusal == 0 {
+    if let Ok(head) = deck::open(printing::front_of(input, filled)) {
+        let p = grammar::numbers::parts(head.version, word);
         if p >= NONE {
             return tell_number(rt, p);
         }

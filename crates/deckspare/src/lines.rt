@@ -91,13 +91,13 @@ fn put_file(rt: &HostRuntime, word: &[u8], wanted: Wanted, file: &[u8], out: &mu
     ensures { let text = print_text (list_text word.now wanted) file.now in
         Added text out.old 0 out.new result }
 {
-    let opened = deck::open(file);
-    if opened.refusal != 0 {
-        return printing::put_refused_file(opened.refusal, out);
+    match deck::open(file) {
+        Ok(head) => {
+            let p = grammar::numbers::parts(head.version, word);
+            put_systems(rt, file, head, p, wanted, out)
+        }
+        Err(refused) => printing::put_refused_file(refused.number(), out),
     }
-    let head = opened.head;
-    let p = grammar::numbers::parts(head.version, word);
-    put_systems(rt, file, head, p, wanted, out)
 }
 
 // All that is printed for an input, of which the buffer holds the front: all of it, or as much as the buffer takes.

@@ -6,8 +6,9 @@ ghost use Rattle.options.specs.Words.{Sound};
 ghost use Rattle.deckstate.specs.Words.{faulty, fans_heard, board_heard, board_asked, heard, ended};
 ghost use Rattle.deckstate.specs.Words.{hearing_none, hears_word, SaidOf};
 
-use deck::Opened;
+use deck::Head;
 use options::Asked;
+use rules::refusal::Refusal;
 use shell::words;
 
 // The longest word that is read: a longer one is cut to none, which names nothing.
@@ -203,27 +204,31 @@ fn hear_words(rt: &HostRuntime, n: u64, g: u64, boards: &[u8]) -> AllHeard
 }
 
 // The same for the deck of a file that was opened; of a refused file no word is heard.
-pub fn hear_all(rt: &HostRuntime, file: &[u8], opened: Opened) -> AllHeard
+pub fn hear_all(rt: &HostRuntime, file: &[u8], opened: Result<Head, Refusal>) -> AllHeard
     requires { Opens file.now opened }
 {
-    if opened.refusal != 0 {
-        let hearing = silence();
-        return AllHeard { hearing, at: 0 };
+    match opened {
+        Ok(head) => {
+            let boards = deck::boards_in(file, head);
+            hear_words(rt, head.fans as u64, head.boards as u64, boards)
+        }
+        Err(_) => {
+            let hearing = silence();
+            AllHeard { hearing, at: 0 }
+        }
     }
-    let head = opened.head;
-    let boards = deck::boards_in(file, head);
-    hear_words(rt, head.fans as u64, head.boards as u64, boards)
 }
 
 // What the words that were heard say of that deck.
-pub fn settled(file: &[u8], opened: Opened, hearing: Hearing) -> Said
+pub fn settled(file: &[u8], opened: Result<Head, Refusal>, hearing: Hearing) -> Said
     requires { Opens file.now opened }
     ensures { SaidOf file.now hearing result }
 {
-    if opened.refusal != 0 {
-        return sound(0, false);
+    match opened {
+        Ok(head) => {
+            let said = hearing.said;
+            end_words(head.boards as u64, hearing.heard, said)
+        }
+        Err(_) => sound(0, false),
     }
-    let head = opened.head;
-    let said = hearing.said;
-    end_words(head.boards as u64, hearing.heard, said)
 }

@@ -10,9 +10,10 @@ ghost use Rattle.deckstate.specs.Lines.{most_text, wanted_text, wrong_text};
 ghost use Rattle.deckstate.specs.Lines.{verdict_room, line_room, lines_room, output_room, wanted_room, wrong_room};
 
 use crate::hearing;
-use deck::{Head, Opened};
+use deck::Head;
 use printing::INPUT;
 use rules::Verdict;
+use rules::refusal::Refusal;
 use text::lines;
 
 // Room for all lines, and for the line of a wrong word.
@@ -69,17 +70,16 @@ fn put_systems(file: &[u8], head: Head, state: u64, out: &mut [u8]) -> usize
 }
 
 // All that is printed for a file that was opened, and a state.
-fn put_file(file: &[u8], opened: Opened, state: u64, out: &mut [u8]) -> usize
+fn put_file(file: &[u8], opened: Result<Head, Refusal>, state: u64, out: &mut [u8]) -> usize
     requires opens { Opens file.now opened }
     requires room { output_room ≤ length out.old }
     ensures { let text = print_text (states_text state) file.now in
         Added text out.old 0 out.new result }
 {
-    if opened.refusal != 0 {
-        return printing::put_refused_file(opened.refusal, out);
+    match opened {
+        Ok(head) => put_systems(file, head, state, out),
+        Err(refused) => printing::put_refused_file(refused.number(), out),
     }
-    let head = opened.head;
-    put_systems(file, head, state, out)
 }
 
 // All that is printed for an input and a state, where the buffer holds the input's front, which was opened: all of it,
@@ -88,7 +88,7 @@ pub fn state_front(
     state: u64,
     input: &[u8; INPUT],
     filled: usize,
-    opened: Opened,
+    opened: Result<Head, Refusal>,
     out: &mut [u8],
 ) -> usize
     requires within { filled ≤ length input.now }

@@ -150,16 +150,13 @@ fn put_file(words: bool, file: &[u8], out: &mut [u8], more: &mut [u8]) -> Ends
     ensures { let text = worded_print words (list_text words) file.now in
         InTwo text out.new result.first more.new result.second }
 {
-    let opened = deck::open(file);
-    if opened.refusal != 0 {
-        let line = printing::put_worded_file(words, file, opened.refusal, out);
-        return Ends {
-            first: line,
-            second: 0,
-        };
+    match deck::open(file) {
+        Ok(head) => put_systems(words, file, head, out, more),
+        Err(refused) => {
+            let first = printing::put_worded_file(words, file, refused.number(), out);
+            Ends { first, second: 0 }
+        }
     }
-    let head = opened.head;
-    put_systems(words, file, head, out, more)
 }
 
 // All that is printed for an input, of which the buffer holds the front: all of it, or as much as the buffer takes.

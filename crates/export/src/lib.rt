@@ -51,9 +51,8 @@ fn told(rating: Rating) -> Chance
 pub fn chance_of(file: &[u8], system: u64) -> Chance
     ensures { Exported file.now system result }
 {
-    let other = deck::other_refusal(file);
-    if other != 0 {
-        return Chance::Refused(other);
+    if let Err(other) = deck::other_refusal(file) {
+        return Chance::Refused(other.number());
     }
     told(systems::rate_file(file, system))
 }

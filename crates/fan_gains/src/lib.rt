@@ -56,11 +56,8 @@ pub fn weigh(file: &[u8], head: Head, s: usize, spare: Spare) -> Worth
 pub fn weigh_file(file: &[u8], system: u64, spare: Spare) -> Worth
     ensures { result ≡ gain_loading_of file.now system spare.fan spare.p }
 {
-    let opened = deck::open(file);
-    let refused = systems::refusal(opened, system);
-    if refused != 0 {
-        return Worth::Refused(refused);
+    match systems::head_for(deck::open(file), system) {
+        Ok(head) => weigh(file, head, (system - 1) as usize, spare),
+        Err(refused) => Worth::Refused(refused.number()),
     }
-    let head = opened.head;
-    weigh(file, head, (system - 1) as usize, spare)
 }

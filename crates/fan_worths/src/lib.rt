@@ -56,11 +56,8 @@ pub fn weigh(file: &[u8], head: Head, s: usize, fan: u64) -> Worth
 pub fn weigh_file(file: &[u8], system: u64, fan: u64) -> Worth
     ensures { result ≡ worth_loading_of file.now system fan }
 {
-    let opened = deck::open(file);
-    let refused = systems::refusal(opened, system);
-    if refused != 0 {
-        return Worth::Refused(refused);
+    match systems::head_for(deck::open(file), system) {
+        Ok(head) => weigh(file, head, (system - 1) as usize, fan),
+        Err(refused) => Worth::Refused(refused.number()),
     }
-    let head = opened.head;
-    weigh(file, head, (system - 1) as usize, fan)
 }

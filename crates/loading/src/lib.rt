@@ -19,13 +19,13 @@ pub fn foambeetle_rate(file: &[u8], system: u64) -> u64
 pub fn foambeetle_unit(file: &[u8]) -> u64
     ensures { Parted file.now result }
 {
-    let opened = deck::open(file);
-    if opened.refusal != 0 {
-        return 0;
+    match deck::open(file) {
+        Ok(head) => {
+            let decimal = units::is_decimal(head.version);
+            units::whole(decimal)
+        }
+        Err(_) => 0,
     }
-    let head = opened.head;
-    let decimal = units::is_decimal(head.version);
-    units::whole(decimal)
 }
 
 // A worth or a gain as C gets it: 0 and both ends, or the refusal and the ends as they were.

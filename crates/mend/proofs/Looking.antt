@@ -7,22 +7,20 @@ use native.Mathlib.Omega.{arith}
 use Rattle.rules.specs.File.{length_in}
 use Rattle.rules.specs.Mending.{header_for, beyond_mending}
 use Rattle.deck.specs.declared.Head.{Head}
-use Rattle.deck.specs.declared.Opened.{Opened}
+use Rattle.std.proofs.Common.{Ok, Err}
+use Rattle.rules.specs.declared.refusal.Refusal.{Refusal}
+use Rattle.rules.specs.Refusal.{number}
 use Rattle.deck.specs.Head.{Small, length_by}
-use Rattle.deck.specs.Outcome.{refused_by}
 use Rattle.deck.proofs.Outcome.{head-is}
 use Rattle.mend.specs.Looked.{Looks, Looked, Sized, header_by}
 use Rattle.mend.proofs.Mendable.{mendable, few}
 
 module _ {bytes : List ℕ} where
-  pub looks-refused : {number : ℕ} {r : Opened} → number ≡ beyond_mending bytes → (number ≡ 0 → ⊥) → r ≡ refused_by number → Looks bytes r
-  looks-refused e some is = record {
-    refusal = ap (λ o. o.refusal) is ∙ e;
-    says = λ none. absurd (some (sym (ap (λ o. o.refusal) is) ∙ none));
-  }
+  pub looks-refused : (r : Refusal) → number r ≡ beyond_mending bytes → Looks bytes (Err r)
+  looks-refused r e = record { refusal = e; says = tt }
 
-  pub looks_on : {r : Opened} → Looks bytes r → r.refusal ≡ 0 → Looked bytes r.head
-  looks_on looks none = record { none = sym looks.refusal ∙ none; says = looks.says none }
+  pub looks_on : {head : Head} → Looks bytes (Ok head) → Looked bytes head
+  looks_on looks = record { none = sym looks.refusal; says = looks.says }
 
   module _ {head : Head} (looked : Looked bytes head) where
     pub sized : Sized head

@@ -13,7 +13,7 @@ ghost use Rattle.writer.specs.Laid.{laid};
 ghost use Rattle.mend.specs.Looked.{cut_refusal, Looks, Looked, Sized, header_by};
 ghost use Rattle.mend.specs.Outcome.{longest_header, Mended};
 
-use deck::{Head, Opened};
+use deck::Head;
 use layout::number;
 use rules::Mending;
 use rules::refusal::{self, Refusal};
@@ -38,25 +38,22 @@ fn cut_refusal(bytes: &[u8], head: Head) -> Result<(), Refusal>
 
 // Looks at a file: its refusal, 10, 11 for the version only, 10 again, 2, 12, 20 and 22, checked in that order, or its
 // head.
-fn look(bytes: &[u8]) -> Opened
+fn look(bytes: &[u8]) -> Result<Head, Refusal>
     ensures { Looks bytes.now result }
 {
     if bytes.len() < layout::SHORTEST_HEADER {
-        return deck::refused(refusal::SHORT);
+        return Err(Refusal::Short);
     }
     let version = number::number2(bytes, layout::VERSION_FIELD);
     if refusals::version_out(version) {
-        return deck::refused(refusal::VERSION);
+        return Err(Refusal::Version);
     }
     if bytes.len() < layout::header_length(version) {
-        return deck::refused(refusal::SHORT);
+        return Err(Refusal::Short);
     }
     let head = deck::head_given(bytes, version);
-    let refusal = match cut_refusal(bytes, head) {
-        Ok(()) => 0,
-        Err(found) => found.number(),
-    };
-    Opened { refusal, head }
+    cut_refusal(bytes, head)?;
+    Ok(head)
 }
 
 // How long the header is.
@@ -151,10 +148,8 @@ pub fn mend(bytes: &[u8], room: &mut [u8], list: &mut [u64]) -> Mending
     ensures { let file = bytes.now in
         Mended file room.old list.old room.new list.new result }
 {
-    let looked = look(bytes);
-    if looked.refusal != 0 {
-        return Mending::Refused(looked.refusal);
+    match look(bytes) {
+        Ok(head) => mend_by(bytes, head, room, list),
+        Err(refused) => Mending::Refused(refused.number()),
     }
-    let head = looked.head;
-    mend_by(bytes, head, room, list)
 }

@@ -32,7 +32,7 @@ pub fn refused(input: &[u8; INPUT], filled: usize) -> bool
     ensures { WholeRefused input.now filled result }
 {
     let opened = deck::open(front_of(input, filled));
-    opened.refusal != 0
+    opened.is_err()
 }
 
 // A refused file's line, which is all that is printed for it.

@@ -31,19 +31,15 @@ pub fn plus_file(totals: Totals, file: &[u8]) -> Totals
     requires { Open totals }
     ensures { result ≡ file_plus totals file.now }
 {
-    let opened = deck::open(file);
-    let refusal = opened.refusal;
-    if refusal != 0 {
-        return Totals {
+    match deck::open(file) {
+        Ok(head) => {
+            let decks = totals.decks + 1;
+            plus_systems(Totals { decks, ..totals }, file, head)
+        }
+        Err(refusal) => Totals {
             refused: totals.refused + 1,
-            number: refusal,
+            number: refusal.number(),
             ..totals
-        };
+        },
     }
-    let more = Totals {
-        decks: totals.decks + 1,
-        ..totals
-    };
-    let head = opened.head;
-    plus_systems(more, file, head)
 }

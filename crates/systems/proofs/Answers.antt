@@ -10,11 +10,13 @@ use Rattle.rules.specs.Below.{within}
 use Rattle.rules.specs.Refusal.{after}
 use Rattle.rules.specs.Answer.{unless}
 use Rattle.rules.specs.File.{file_refusal, bad_number}
-use Rattle.deck.specs.declared.Opened.{Opened}
+use Rattle.std.proofs.Common.{Result, Ok, Err}
+use Rattle.rules.specs.declared.refusal.Refusal.{Refusal}
+use Rattle.deck.specs.declared.Head.{Head}
 use Rattle.deck.specs.Outcome.{Opens, Placed}
-use Rattle.deck.proofs.Outcome.{opened-headed}
+use Rattle.deck.proofs.Outcome.{opened-accepted, opened-headed, opened-refused}
 use Rattle.rules.proofs.EachKind.{within-true}
-use Rattle.rules.proofs.Unless.{after-some}
+use Rattle.rules.proofs.Unless.{after_none, after-some}
 use Rattle.systems.specs.Opened.{open_refusal}
 
 both-refusals : {A : Type 0} (refused : ℕ → A) (answer : A) (r : ℕ) (b : Bool)
@@ -24,32 +26,24 @@ both-refusals refused answer zero true = refl
 both-refusals refused answer zero false = refl
 both-refusals refused answer (suc r) b = refl
 
-neither : (r : ℕ) (b : Bool) → after r (cond b 14 0) ≡ 0 → (r ≡ 0) × (b ≡ false)
-unfolding after
-neither zero true e = absurd (omega arith)
-neither zero false e = (refl, refl)
-neither (suc r) b e = absurd (omega arith)
+-- no refusal of the number: it is within
+fourteen : (b : Bool) → ◌≡◌ {A = ℕ} (cond b 14 0) 0 → b ≡ false
+fourteen true e = absurd (omega arith)
+fourteen false e = refl
 
-module _ {bytes : List ℕ} {opened : Opened} (opens : Opens bytes opened) (s : ℕ) where
+module _ {bytes : List ℕ} (s : ℕ) where
   -- beside a refusal no number is looked at, and without one the head's count is the file's
-  opened-refusal : (r : ℕ) → opened.refusal ≡ r → after (file_refusal bytes) (cond (bad_number bytes s) 14 0) ≡ open_refusal opened s
-  unfolding open_refusal
-  opened-refusal zero none =
-      let systems = (opened-headed opens none).says.systems in
-      sym (λ x. after (opens.refusal x) (cond (not (within 1 s (systems x))) 14 0))
-  opened-refusal (suc r) some =
-      let given : opened.refusal ≡ 0 → ⊥ = λ none. omega (arith, sym some ∙ none) in
-      after-some _ _ (λ none. given (opens.refusal ∙ none)) ∙ sym opens.refusal ∙ sym (after-some _ _ given)
+  opened-refusal : (opened : Result Head Refusal) → Opens bytes opened → after (file_refusal bytes) (cond (bad_number bytes s) 14 0) ≡ open_refusal opened s
+  opened-refusal (Ok head) opens = after_none _ _ (opened-accepted opens) ∙ ap (λ (h : Head). cond (not (within 1 s h.systems)) 14 0) (sym opens.head)
+  opened-refusal (Err refused) opens = after-some _ _ (opened-refused opens) ∙ sym opens.refusal
 
-  pub opened-answer : {A : Type 0} (refused : ℕ → A) (answer : A)
+  pub opened-answer : {A : Type 0} {opened : Result Head Refusal} → Opens bytes opened → (refused : ℕ → A) (answer : A)
       → unless (file_refusal bytes) refused (cond (bad_number bytes s) (refused 14) answer) ≡ unless (open_refusal opened s) refused answer
-  opened-answer refused answer =
-      both-refusals refused answer (file_refusal bytes) (bad_number bytes s) ∙ ap (λ r. unless r refused answer) (opened-refusal opened.refusal refl)
+  opened-answer {opened = opened} opens refused answer =
+      both-refusals refused answer (file_refusal bytes) (bad_number bytes s) ∙ ap (λ r. unless r refused answer) (opened-refusal opened opens)
 
   -- past both the number is that of one of the file's systems
-  pub numbered : open_refusal opened s ≡ 0 → (1 ≤ s) × Placed bytes opened.head (s - 1)
-  unfolding open_refusal
-  numbered none =
-      let past = neither opened.refusal _ none in
-      let l = within-true 1 s opened.head.systems (not-false _ past.1) in
-      (l.0, record { headed = opened-headed opens past.0; place = omega (arith, l) })
+  pub numbered : {opened : Result Head Refusal} {head : Head} → Opens bytes opened → opened ≡ Ok head → open_refusal opened s ≡ 0 → (1 ≤ s) × Placed bytes head (s - 1)
+  numbered {head = head} opens is none =
+      let l = within-true 1 s head.systems (not-false _ (fourteen _ (rw is at none))) in
+      (l.0, record { headed = opened-headed (rw is at opens); place = omega (arith, l) })

@@ -1,9 +1,11 @@
 -- The refusal of a file that was opened and of a system number, before the system's own.
-use Rattle.std.specs.Prelude.{cond, not, ℕ}
+use Rattle.std.specs.Prelude.{Result, Ok, Err, cond, not, ℕ}
+use Rattle.rules.specs.declared.refusal.Refusal.{Refusal}
 use Rattle.rules.specs.Below.{within}
-use Rattle.rules.specs.Refusal.{after}
-use Rattle.deck.specs.declared.Opened.{Opened}
+use Rattle.rules.specs.Refusal.{number}
+use Rattle.deck.specs.declared.Head.{Head}
 
 -- a file's own refusal, then 14
-unfoldable pub open_refusal : Opened → ℕ → ℕ
-open_refusal opened s = after opened.refusal (cond (not (within 1 s opened.head.systems)) 14 0)
+abbrev pub open_refusal : Result Head Refusal → ℕ → ℕ
+open_refusal (Ok head) s = cond (not (within 1 s head.systems)) 14 0
+open_refusal (Err refused) s = number refused

@@ -1,16 +1,17 @@
 // The figures of a system of a deck.
 #![tactic(auto)]
 
-ghost use Rattle.std.specs.Prelude.{◌≡◌, replicate};
+ghost use Rattle.std.specs.Prelude.{◌≡◌, IfOk, Ok, replicate};
 ghost use Rattle.rules.specs.Asked.{question_of, asked_with};
-ghost use Rattle.rules.specs.Refusal.{cells};
+ghost use Rattle.rules.specs.Refusal.{cells, refusal_in};
 ghost use Rattle.rules.specs.Answer.{figures_of};
 ghost use Rattle.rules.specs.File.{answer_in, loading_of};
 ghost use Rattle.deck.specs.Outcome.{Opens, Placed};
 ghost use Rattle.systems.specs.Opened.{open_refusal};
 
-use deck::{Head, Opened};
+use deck::Head;
 use rules::limit::CELLS;
+use rules::refusal::Refusal;
 use rules::{NO_MORE, Question, RatedLists, Rating, System};
 
 // The rating call over a deck's lists, in a working table of its own, which nobody sees after it and nobody clears.
@@ -53,33 +54,28 @@ pub fn rate(file: &[u8], head: Head, s: usize) -> Rating
     rate_lists(head.version, system, &lists)
 }
 
-// The refusal of a file that was opened, then 14 for a system that it does not have; 0 for none.
-pub fn refusal(opened: Opened, system: u64) -> u64
-    ensures { result ≡ open_refusal opened system }
+// The head of a file that was opened, where the file has a system of this number; else the file's refusal, or 14.
+pub fn head_for(opened: Result<Head, Refusal>, system: u64) -> Result<Head, Refusal>
+    ensures refusal { refusal_in result ≡ open_refusal opened system }
+    ensures head { IfOk result (λ head. opened ≡ Ok head) }
 {
-    let own = opened.refusal;
-    if own != 0 {
-        return own;
-    }
-    let head = opened.head;
+    let head = opened?;
     if refusals::outside(1, system, head.systems as u64) {
-        return rules::refusal::SYSTEM;
+        return Err(Refusal::System);
     }
-    0
+    Ok(head)
 }
 
 // The answer for a system, counted from 1, of a file that was opened: the file's refusal, then 14, then the system's
 // own.
-pub fn rate_opened(file: &[u8], opened: Opened, system: u64) -> Rating
+pub fn rate_opened(file: &[u8], opened: Result<Head, Refusal>, system: u64) -> Rating
     requires { Opens file.now opened }
     ensures { result ≡ loading_of file.now system }
 {
-    let refused = refusal(opened, system);
-    if refused != 0 {
-        return Rating::Refused(refused);
+    match head_for(opened, system) {
+        Ok(head) => rate(file, head, (system - 1) as usize),
+        Err(refused) => Rating::Refused(refused.number()),
     }
-    let head = opened.head;
-    rate(file, head, (system - 1) as usize)
 }
 
 // The same of a file that was not.

@@ -13,7 +13,9 @@ use Rattle.rules.specs.Refusal.{first_of}
 use Rattle.rules.specs.File.{Deck, per_system, most_systems, file_of, deck_in, file_refusal}
 use Rattle.rules.specs.Writing.{Typed, deck_of, bytes_for, typed_from, write_refusal, writing_of, room_written}
 use Rattle.rules.proofs.Unless.{unless-none}
-use Rattle.deck.specs.declared.Opened.{Opened}
+use Rattle.std.proofs.Common.{Result, Ok}
+use Rattle.rules.specs.declared.refusal.Refusal.{Refusal}
+use Rattle.deck.specs.declared.Head.{Head}
 use Rattle.deck.specs.Head.{head_for}
 use Rattle.deck.specs.Outcome.{Opens}
 use Rattle.layout.specs.Fits.{Under, Bytes}
@@ -66,8 +68,8 @@ module _ (t : Typed) (room : List ℕ) (small : Typable t) (none : write_refusal
   reads-back = deck-back (deck_of t) typed-bounds
 
   -- and of what opening the room's front answers: it has that deck's head, and that deck is what every function over its bytes reads
-  pub written_read : (after : List ℕ) (r : Writing) → Wrote t room after r → (opened : Opened) → Opens (take (length (bytes_for t)) after) opened
-      → (opened ≡ record { refusal = 0; head = head_for (deck_of t) }) × (deck_in (take (length (bytes_for t)) after) ≡ deck_of t)
+  pub written_read : (after : List ℕ) (r : Writing) → Wrote t room after r → (opened : Result Head Refusal) → Opens (take (length (bytes_for t)) after) opened
+      → (opened ≡ Ok (head_for (deck_of t))) × (deck_in (take (length (bytes_for t)) after) ≡ deck_of t)
   written_read after r is opened opens = (
     open-file (deck_of t) typed-bounds opened (rw (front after r is) at opens),
     ap deck_in (front after r is) ∙ reads-back,

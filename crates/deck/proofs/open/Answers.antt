@@ -4,7 +4,7 @@ use mathlib.Core.Bool.{false}
 use native.Mathlib.Omega.{arith}
 use borrow.Author.Tests.{lt-ltb, le-ltb}
 use Rattle.rules.specs.File.{header_length, version_in, bad_start, file_refusal}
-use Rattle.rules.proofs.Numbers.{number-some}
+use Rattle.std.proofs.lemmas.Result.{err_from_is_err_and}
 use Rattle.rules.proofs.Accepted.{first-of, first-after}
 use Rattle.deck.specs.Outcome.{body_refusal}
 use Rattle.deck.proofs.Checks.{body-after}
@@ -26,32 +26,31 @@ past c =
 
 pub returns-then-file-lt-SHORTEST_HEADER : goal.returns-then-file-lt-SHORTEST_HEADER
 unfolding file_refusal
-returns-then-file-lt-SHORTEST_HEADER c = opens-refused (sym (first-of 10 _ _ (lt-ltb _ _ c.if-file-lt-SHORTEST_HEADER.true))) (λ z. omega arith) c.refused.ensures
+returns-then-file-lt-SHORTEST_HEADER c = opens-refused _ (sym (first-of 10 _ _ (lt-ltb _ _ c.if-file-lt-SHORTEST_HEADER.true)))
 
 pub returns-then-bad_start : goal.returns-then-bad_start
 unfolding file_refusal
 returns-then-bad_start c =
-    opens-refused
+    opens-refused _
     (sym (first-after 10 _ _ (le-ltb _ _ c.if-file-lt-SHORTEST_HEADER.false) ∙ first-of 11 _ _ (sym c.bad_start.ensures ∙ c.if-bad_start.true)))
-    (λ z. omega arith) c.refused-then-bad_start.ensures
 
 pub returns-then-file-header_length : goal.returns-then-file-header_length
 unfolding file_refusal
 returns-then-file-header_length c =
-    opens-refused
+    opens-refused _
     (sym
     (first-after 10 _ _ (le-ltb _ _ c.if-file-lt-SHORTEST_HEADER.false)
     ∙ first-after 11 _ _ (started ((goal.at.returns-then-file-header_length c).Else-bad_start))
     ∙ first-of 10 _ _ (lt-ltb _ _ (rw (header ((goal.at.returns-then-file-header_length c).After-header_length)) at c.if-file-header_length.true))))
-    (λ z. omega arith) c.refused-then-file-header_length.ensures
 
 pub head_given-head-requires : goal.head_given-head-requires
 head_given-head-requires c = record { long = rw (header ((goal.at.head_given-head-requires c).After-header_length)) at c.if-file-header_length.false; is = c.number2-version.ensures }
 
-pub returns-in-Err : goal.returns-in-Err
-returns-in-Err c =
-    opens-refused (c.number.ensures ∙ c.in-Err.ensures ∙ sym (past ((goal.at.returns-in-Err c).Else-file-header_length))) (λ none. number-some _ (sym c.number.ensures ∙ none)) c.refused-in-Err.ensures
+pub returns-in_err-body_refusal : goal.returns-in_err-body_refusal
+returns-in_err-body_refusal c =
+    let p = err_from_is_err_and c.from_residual.result c.from_residual.ensures.1 in
+    rw (p.1, p.2) (opens-refused _ (c.in_err-body_refusal.ensures ∙ sym (past ((goal.at.returns-in_err-body_refusal c).Else-file-header_length))))
 
 pub returns : goal.returns
 returns c =
-    opens-head c.head_given-head.ensures.says (past ((goal.at.returns c).Else-file-header_length) ∙ sym c.in_default.ensures)
+    opens-head c.head_given-head.ensures.says (past ((goal.at.returns c).Else-file-header_length) ∙ sym c.in_ok-body_refusal.ensures)

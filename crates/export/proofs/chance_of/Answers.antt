@@ -3,16 +3,17 @@ use mathlib.Core.Path.{sym, subst, ◌∙◌}
 use borrow.Author.Rules.{rules}
 use Rattle.rules.specs.declared.Rating.{Rating}
 use Rattle.rules.specs.Doubles.{export_of}
+use Rattle.rules.proofs.Numbers.{number-some}
 use Rattle.rules.proofs.Unless.{unless-none, unless-some}
 use Rattle.rules.proofs.Within.{loading-within}
 use Rattle.doubles.specs.Floats.{Over}
 use Rattle.export.specs.Outcome.{Tells}
 use Rattle.export.proofs.chance_of.Goals as goal
 
-pub returns-then-other-ne0 : goal.returns-then-other-ne0
+pub returns-in-Err : goal.returns-in-Err
 unfolding export_of
-returns-then-other-ne0 c =
-    record { answer = rw (unless-some _ _ _ (λ none. c.if-other-ne0.true (c.other_refusal-other.ensures ∙ none))) c.other_refusal-other.ensures }
+returns-in-Err c =
+    record { answer = rw (unless-some _ _ _ (λ none. number-some _ (c.in-Err.ensures ∙ none))) (c.number.ensures ∙ c.in-Err.ensures) }
 
 pub told-requires : goal.told-requires
 told-requires c = rw c.rate_file.ensures (loading-within _ _)
@@ -20,5 +21,5 @@ told-requires c = rw c.rate_file.ensures (loading-within _ _)
 pub returns : goal.returns
 unfolding export_of
 returns c =
-    let none = sym c.other_refusal-other.ensures ∙ c.if-other-ne0.false in
+    let none = sym c.in_default.ensures in
     record { answer = subst (λ (q : Rating). Tells Over Over q c.told.result) (c.rate_file.ensures ∙ sym (unless-none _ _ _ none)) c.told.ensures }

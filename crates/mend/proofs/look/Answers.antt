@@ -3,6 +3,7 @@ use mathlib.Core.Path.{◌≡◌, sym, ap, ◌∙◌}
 use mathlib.Core.Bool.{false}
 use native.Mathlib.Omega.{arith}
 use borrow.Author.Tests.{lt-ltb, le-ltb}
+use Rattle.std.proofs.lemmas.Result.{err_from_is_err_and}
 use Rattle.rules.specs.Refusal.{bad_version}
 use Rattle.rules.specs.File.{header_length, version_in}
 use Rattle.rules.specs.Mending.{beyond_mending}
@@ -22,33 +23,33 @@ versioned c = ap bad_version (sym c.number2-version.ensures) ∙ sym c.version_o
 
 pub returns-then-bytes-lt-SHORTEST_HEADER : goal.returns-then-bytes-lt-SHORTEST_HEADER
 unfolding beyond_mending
-returns-then-bytes-lt-SHORTEST_HEADER c = looks-refused (sym (first-of 10 _ _ (lt-ltb _ _ c.if-bytes-lt-SHORTEST_HEADER.true))) (λ z. omega arith) c.refused.ensures
+returns-then-bytes-lt-SHORTEST_HEADER c = looks-refused _ (sym (first-of 10 _ _ (lt-ltb _ _ c.if-bytes-lt-SHORTEST_HEADER.true)))
 
 pub returns-then-version_out : goal.returns-then-version_out
 unfolding beyond_mending
 returns-then-version_out c =
     let bad = ap bad_version (sym c.number2-version.ensures) ∙ sym c.version_out.ensures ∙ c.if-version_out.true in
-    looks-refused (sym (first-after 10 _ _ (le-ltb _ _ c.if-bytes-lt-SHORTEST_HEADER.false) ∙ first-of 11 _ _ bad)) (λ z. omega arith) c.refused-then-version_out.ensures
+    looks-refused _ (sym (first-after 10 _ _ (le-ltb _ _ c.if-bytes-lt-SHORTEST_HEADER.false) ∙ first-of 11 _ _ bad))
 
 pub returns-then-bytes-header_length : goal.returns-then-bytes-header_length
 unfolding beyond_mending
 returns-then-bytes-header_length c =
-    looks-refused
+    looks-refused _
     (sym
     (first-after 10 _ _ (le-ltb _ _ c.if-bytes-lt-SHORTEST_HEADER.false)
     ∙ first-after 11 _ _ (versioned ((goal.at.returns-then-bytes-header_length c).Else-version_out))
     ∙ first-of 10 _ _ (lt-ltb _ _ (rw (header ((goal.at.returns-then-bytes-header_length c).After-header_length)) at c.if-bytes-header_length.true))))
-    (λ z. omega arith) c.refused-then-bytes-header_length.ensures
 
 pub head_given-head-requires : goal.head_given-head-requires
 head_given-head-requires c = record { long = rw (header ((goal.at.head_given-head-requires c).After-header_length)) at c.if-bytes-header_length.false; is = c.number2-version.ensures }
 
-pub returns-in-Ok : goal.returns-in-Ok
-returns-in-Ok c =
-    let past = counts-then _ (le-ltb _ _ c.if-bytes-lt-SHORTEST_HEADER.false) (versioned ((goal.at.returns-in-Ok c).Else-version_out)) (le-ltb _ _ (rw (header ((goal.at.returns-in-Ok c).After-header_length)) at c.if-bytes-header_length.false)) in
-    record { refusal = c.in-Ok.ensures ∙ sym past; says = λ none. c.head_given-head.ensures.says }
+pub returns-in_err-cut_refusal : goal.returns-in_err-cut_refusal
+returns-in_err-cut_refusal c =
+    let past = counts-then _ (le-ltb _ _ c.if-bytes-lt-SHORTEST_HEADER.false) (versioned ((goal.at.returns-in_err-cut_refusal c).Else-version_out)) (le-ltb _ _ (rw (header ((goal.at.returns-in_err-cut_refusal c).After-header_length)) at c.if-bytes-header_length.false)) in
+    let p = err_from_is_err_and c.from_residual.result c.from_residual.ensures.1 in
+    rw (p.1, p.2) (looks-refused _ (c.in_err-cut_refusal.ensures ∙ sym past))
 
-pub returns-in-Err : goal.returns-in-Err
-returns-in-Err c =
-    let past = counts-then _ (le-ltb _ _ c.if-bytes-lt-SHORTEST_HEADER.false) (versioned ((goal.at.returns-in-Err c).Else-version_out)) (le-ltb _ _ (rw (header ((goal.at.returns-in-Err c).After-header_length)) at c.if-bytes-header_length.false)) in
-    record { refusal = c.number-refusal.ensures ∙ c.in-Err.ensures ∙ sym past; says = λ none. c.head_given-head.ensures.says }
+pub returns : goal.returns
+returns c =
+    let past = counts-then _ (le-ltb _ _ c.if-bytes-lt-SHORTEST_HEADER.false) (versioned ((goal.at.returns c).Else-version_out)) (le-ltb _ _ (rw (header ((goal.at.returns c).After-header_length)) at c.if-bytes-header_length.false)) in
+    record { refusal = c.in_ok-cut_refusal.ensures ∙ sym past; says = c.head_given-head.ensures.says }

@@ -2,9 +2,9 @@
 use lib.Dec.{eqb}
 use mathlib.Core.Bool.{not}
 use mathlib.Core.Path.{ap, ◌∙◌}
+use Rattle.printing.proofs.Printed.{refused-is}
 use Rattle.printing.proofs.refused.Goals as goal
-use Rattle.printing.proofs.refused.Goals.{After-open-opened}
 
 pub returns : goal.returns
 returns c =
-    record { tells = λ input front. ap (λ r. not (eqb r 0)) (((goal.at.returns c).After-open-opened).open-opened.ensures.refusal ∙ c.front_of.ensures.refusal input front) }
+    record { tells = λ input front. c.is_err.ensures.value ∙ refused-is _ ∙ ap (λ r. not (eqb r 0)) (c.open-opened.ensures.refusal ∙ c.front_of.ensures.refusal input front) }

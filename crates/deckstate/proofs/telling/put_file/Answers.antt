@@ -5,14 +5,14 @@ use Rattle.printing.proofs.Printed.{refused-printed, body-printed}
 use Rattle.deckstate.specs.Lines.{states_text}
 use Rattle.deckstate.proofs.telling.put_file.Goals as goal
 
-pub returns-then-opened-ne0 : goal.returns-then-opened-ne0
-returns-then-opened-ne0 c =
-    refused-printed (states_text c.args.state) c.requires.opens c.if-opened-ne0.true c.put_refused_file.ensures
+pub returns-in-Err : goal.returns-in-Err
+returns-in-Err c =
+    refused-printed (states_text c.args.state) (rw c.in-Err.is at c.requires.opens) (rw c.number.ensures at c.put_refused_file.ensures)
 
 pub put_systems-requires : goal.put_systems-requires
 put_systems-requires c =
-    record { headed = opened-headed c.requires.opens c.if-opened-ne0.false; room = omega (arith, c.requires.room) }
+    record { headed = opened-headed (rw c.in-Ok.is at c.requires.opens); room = omega (arith, c.requires.room) }
 
-pub returns : goal.returns
-returns c =
-    body-printed (states_text c.args.state) c.requires.opens c.if-opened-ne0.false c.put_systems.ensures
+pub returns-in-Ok : goal.returns-in-Ok
+returns-in-Ok c =
+    body-printed (states_text c.args.state) (rw c.in-Ok.is at c.requires.opens) c.put_systems.ensures
