@@ -1,5 +1,5 @@
 // The rubbish that lent tables hold before a call, and the checksum of what they hold after.
-ghost use Rattle.std.specs.Prelude.{◌≡◌, ◌+◌, ◌*◌, ◌%◌, ◌^◌, length};
+ghost use Rattle.std.specs.Prelude.{◌≡◌, length};
 ghost use Rattle.casefile.specs.Begins.{Begins};
 ghost use Rattle.casefile.specs.Tables.{rubbish_at, rubbish_in, checksum_of};
 

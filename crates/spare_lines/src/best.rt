@@ -1,5 +1,5 @@
 // The best places of a stretch, ties told as ties, put into a buffer.
-ghost use Rattle.std.specs.Prelude.{◌≡◌, true, not, cond, ◌&&◌, [], ◌+◌, ◌≤◌, max, length, get_or};
+ghost use Rattle.std.specs.Prelude.{◌≡◌, true, cond, [], ◌+◌, ◌≤◌, length, get_or};
 ghost use Rattle.rules.specs.State.{S};
 ghost use Rattle.rules.specs.Refusal.{most};
 ghost use Rattle.text.specs.Added.{Added};
