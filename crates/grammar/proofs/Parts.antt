@@ -9,7 +9,6 @@ use borrow.Author.Tests.{eq-eqb, ne_eqb, lt-ltb, le-ltb}
 use Rattle.rules.specs.State.{unit_of}
 use Rattle.grammar.specs.Numbers.{none, whole, most, billion, joined, decimal_at, fraction, off_grid, share, parts}
 
--- a product with a power of ten fits
 -- all of a word from a place on
 pub rest_all : (word : List ℕ) (from : ℕ) → take (length word - from) (drop from word) ≡ drop from word
 rest_all word from = take_all (length word - from) (drop from word) (simp length-drop (omega arith))
