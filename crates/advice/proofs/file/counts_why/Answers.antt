@@ -1,4 +1,4 @@
--- `file::counts_why` takes the tests of `countsWhy`. Assumes nothing.
+-- `file::counts_why` takes the tests of the definition of that name. Assumes nothing.
 use mathlib.Core.Path.{sym, ap, ◌∙◌}
 use mathlib.Core.Bool.{not}
 use Rattle.rules.specs.Below.{within}

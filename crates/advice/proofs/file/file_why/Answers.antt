@@ -1,4 +1,4 @@
--- `file::file_why` takes the tests of `fileWhy`. Assumes nothing.
+-- `file::file_why` takes the tests of the definition of that name. Assumes nothing.
 use mathlib.Core.Path.{sym, ap, ◌∙◌}
 use lib.ListN.{length}
 use borrow.Author.Tests.{lt-ltb, le-ltb}

@@ -1,4 +1,4 @@
--- `file::header_why` takes the tests of `headerWhy`. Assumes nothing.
+-- `file::header_why` takes the tests of the definition of that name. Assumes nothing.
 use mathlib.Core.Path.{sym, ap, ◌∙◌}
 use lib.ListN.{length}
 use borrow.Author.Tests.{eq-eqb, ne_eqb, lt-ltb, le-ltb}

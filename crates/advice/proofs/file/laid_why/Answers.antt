@@ -1,4 +1,4 @@
--- `file::laid_why` takes the tests of `laidWhy`. Assumes nothing.
+-- `file::laid_why` takes the tests of the definition of that name. Assumes nothing.
 use mathlib.Core.Path.{sym, ap, ◌∙◌}
 use lib.ListN.{length}
 use borrow.Author.Tests.{lt-ltb, le-ltb}

@@ -1,4 +1,4 @@
--- `system::above_why` takes the test of `aboveWhy`, on what was looked through. Assumes nothing.
+-- `system::above_why` takes the test of the definition of that name, on what was looked through. Assumes nothing.
 use mathlib.Core.Path.{◌≡◌, ap, ◌∙◌}
 use Prim.Native.Nat.{◌+◌}
 use native.Mathlib.Omega.{arith}

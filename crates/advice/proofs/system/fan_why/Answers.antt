@@ -1,4 +1,4 @@
--- `system::fan_why` takes the test of `fanWhy`: 17, or what the system is refused by. Assumes nothing.
+-- `system::fan_why` takes the test of the definition of that name: 17, or what the system is refused by. Assumes nothing.
 use mathlib.Core.Path.{ap, ◌∙◌}
 use borrow.Author.Tests.{eq-eqb, ne_eqb}
 use Rattle.advice.specs.declared.cause.Cause.TheVariants.{FanOutside}

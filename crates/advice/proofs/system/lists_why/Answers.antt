@@ -1,4 +1,4 @@
--- `system::lists_why` takes the tests of `whyOf`: 1, then the stretch. Assumes nothing.
+-- `system::lists_why` takes the tests of `why_of`: 1, then the stretch. Assumes nothing.
 use mathlib.Core.Path.{sym, ◌∙◌}
 use borrow.Author.Tests.{eq-eqb, ne_eqb}
 use Rattle.advice.specs.System.{why_of}

@@ -1,4 +1,4 @@
--- `system::rated_why` takes the tests of `ratedWhy`. Assumes nothing.
+-- `system::rated_why` takes the tests of the definition of that name. Assumes nothing.
 use mathlib.Core.Path.{ap, ◌∙◌}
 use Prim.Native.Nat.{◌-◌}
 use native.Mathlib.Omega.{arith}

@@ -1,4 +1,4 @@
--- `why::near_why` takes the tests of `nearWhy`; the first is that the window has room for as many as fail. Assumes nothing.
+-- `why::near_why` takes the tests of the definition of that name; the first is that the window has room for as many as fail. Assumes nothing.
 use mathlib.Core.Path.{sym, ◌∙◌}
 use mathlib.Core.List.{[]}
 use Prim.Native.Nat.{◌+◌, ◌-◌}

@@ -1,4 +1,4 @@
--- `why::one_why` takes the test of `oneWhy`. Assumes nothing.
+-- `why::one_why` takes the test of the definition of that name. Assumes nothing.
 use borrow.Author.Tests.{eq-eqb, ne_eqb}
 use Rattle.advice.proofs.why.one_why.Goals as goal
 

@@ -1,4 +1,4 @@
--- `why::range_why` meets its contract: each arm is the row of its kind, and what is left are the kinds of failed ones in a row. Assumes nothing.
+-- `why::range_why` meets its contract: each arm has the cause of its kind, and what is left are the kinds of failed ones in a row. Assumes nothing.
 use native.Mathlib.Omega.{arith}
 use borrow.Author.Tests.{ne_eqb}
 use Rattle.advice.specs.System.{range_why}

@@ -1,4 +1,4 @@
--- `why::ring_why` takes the test of `ringWhy`. Assumes nothing.
+-- `why::ring_why` takes the test of the definition of that name. Assumes nothing.
 use borrow.Author.Tests.{le-leb, lt-leb}
 use Rattle.advice.proofs.why.ring_why.Goals as goal
 

@@ -1,4 +1,4 @@
--- `why::weight_why` takes the test of `weightWhy`. Assumes nothing.
+-- `why::weight_why` takes the test of the definition of that name. Assumes nothing.
 use borrow.Author.Tests.{eq-eqb, ne_eqb}
 use Rattle.advice.proofs.why.weight_why.Goals as goal
 
