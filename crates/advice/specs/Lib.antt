@@ -1,5 +1,4 @@
 -- Refusals in words, and what to do about them.
-pub mod Causes
 pub mod Words
 pub mod File
 pub mod System

@@ -1,79 +1,126 @@
-// The causes of a refusal: the rows of the table of forms, in its order.
+// The causes of a refusal, and the form that each is told in.
+ghost use Rattle.std.specs.Prelude.{◌≡◌};
+ghost use Rattle.advice.specs.Words.{form_of};
 
-// A file ends before its version's header does.
-pub const HEADER_SHORT: u64 = 0;
+#[derive(Clone, Copy)]
+pub enum Cause {
+    // A file ends before its version's header does.
+    HeaderShort,
 
-// Its version is none that is known.
-pub const UNKNOWN_VERSION: u64 = 1;
+    // Its version is none that is known.
+    UnknownVersion,
 
-// Its zero field is not 0.
-pub const ZERO_FIELD_SET: u64 = 2;
+    // Its zero field is not 0.
+    ZeroFieldSet,
 
-// It has no fans, or more than a deck has.
-pub const FANS_OUT: u64 = 3;
+    // It has no fans, or more than a deck has.
+    FansOut,
 
-// No systems, or more than a deck has.
-pub const SYSTEMS_OUT: u64 = 4;
+    // No systems, or more than a deck has.
+    SystemsOut,
 
-// No boards, or more than a deck has.
-pub const BOARDS_OUT: u64 = 5;
+    // No boards, or more than a deck has.
+    BoardsOut,
 
-// It ends before its last system does.
-pub const ENDS_EARLY: u64 = 6;
+    // It ends before its last system does.
+    EndsEarly,
 
-// Its offsets or its length are not the layout's.
-pub const LAID_WRONGLY: u64 = 7;
+    // Its offsets or its length are not the layout's.
+    LaidWrongly,
 
-// A fan is on a board that is not there.
-pub const BOARD_PAST_LAST: u64 = 8;
+    // A fan is on a board that is not there.
+    BoardPastLast,
 
-// A system's kind is none.
-pub const NO_SUCH_KIND: u64 = 9;
+    // A system's kind is none.
+    NoSuchKind,
 
-// Its stretch is not on the deck.
-pub const NO_STRETCH: u64 = 10;
+    // Its stretch is not on the deck.
+    NoStretch,
 
-// A fan's survival number is above the unit.
-pub const FAN_ABOVE: u64 = 11;
+    // A fan's survival number is above the unit.
+    FanAbove,
 
-// A board's is.
-pub const BOARD_ABOVE: u64 = 12;
+    // A board's is.
+    BoardAbove,
 
-// Its fans weigh too much.
-pub const TOO_HEAVY: u64 = 13;
+    // Its fans weigh too much.
+    TooHeavy,
 
-// Its rule has one number, and a second is set.
-pub const SECOND_SET: u64 = 14;
+    // Its rule has one number, and a second is set.
+    SecondSet,
 
-// That number is out of range: of dead fans.
-pub const NUMBER_OUT: u64 = 15;
+    // That number is out of range: of dead fans.
+    NumberOut,
 
-// Of dead fans in a row.
-pub const RUN_OUT: u64 = 16;
+    // Of dead fans in a row.
+    RunOut,
 
-// Of a weight.
-pub const WEIGHT_OUT: u64 = 17;
+    // Of a weight.
+    WeightOut,
 
-// Its fans have no weight.
-pub const NO_WEIGHT: u64 = 18;
+    // Its fans have no weight.
+    NoWeight,
 
-// Its rule has two numbers, out of range: at least and at most so many dead.
-pub const BETWEEN_OUT: u64 = 19;
+    // Its rule has two numbers, out of range: at least and at most so many dead.
+    BetweenOut,
 
-// So many dead in a window.
-pub const NEAR_OUT: u64 = 20;
+    // So many dead in a window.
+    NearOut,
 
-// The same where a rule of kind 8 says what was meant.
-pub const NEAR_LACKING: u64 = 21;
+    // The same where a rule of kind 8 says what was meant.
+    NearLacking,
 
-// So many dead in a window round the ring.
-pub const RING_OUT: u64 = 22;
+    // So many dead in a window round the ring.
+    RingOut,
 
-// The same on a ring of one fan.
-pub const RING_OF_ONE: u64 = 23;
+    // The same on a ring of one fan.
+    RingOfOne,
 
-// So many needed of a window.
-pub const LACKING_OUT: u64 = 24;
+    // So many needed of a window.
+    LackingOut,
 
-// A fan is not in the system's stretch.
-pub const FAN_OUTSIDE: u64 = 25;
+    // A fan is not in the system's stretch.
+    FanOutside,
+}
+
+// K and R in a form are a rule's numbers as a typed text has them.
+pub fn form_of(cause: Cause) -> &'static [u8]
+    ensures { result.now ≡ form_of cause }
+{
+    match cause {
+        Cause::HeaderShort => b"it has # bytes, and its header alone has #; send it again",
+        Cause::UnknownVersion =>
+            b"its version is #, and 1 to 3 are known; see that it is a deck file",
+        Cause::ZeroFieldSet => b"its zero field is #; deckmend sets it to 0",
+        Cause::FansOut => b"it has # fans, and a deck has 1 to 64; make it anew with deckmake",
+        Cause::SystemsOut =>
+            b"it has # systems, and a deck has 1 to 32; make it anew with deckmake",
+        Cause::BoardsOut =>
+            b"it has # boards, and a deck of version 3 has 1 to 4; make it anew with deckmake",
+        Cause::EndsEarly => b"it ends after # of its # bytes; send it again",
+        Cause::LaidWrongly => b"its offsets or its length are wrong; deckmend mends them",
+        Cause::BoardPastLast => b"a fan is on a board past the last, #; make it anew with deckmake",
+        Cause::NoSuchKind => b"there is no kind #; kinds are 1 to #",
+        Cause::NoStretch =>
+            b"fans # to # are no stretch of # fans; it runs from fan 1 or later to a fan not before that, # at most",
+        Cause::FanAbove => b"fan # has survival number #; # is the most",
+        Cause::BoardAbove => b"board # has survival number #; # is the most",
+        Cause::TooHeavy => b"its fans weigh # together; 120 is the most",
+        Cause::SecondSet => b"its second number is #; make that 0 and K from 1 to #",
+        Cause::NumberOut => b"# dead of # fans cannot be; K is from 1 to #",
+        Cause::RunOut => b"# in a row of # fans cannot be; K is from 1 to #",
+        Cause::WeightOut => b"weight # of # in all cannot be; K is from 1 to #",
+        Cause::NoWeight =>
+            b"its fans have no weight; give them some, K from 1 to their sum and a second number of 0",
+        Cause::BetweenOut =>
+            b"# to # dead of # fans cannot be; the first is at most the second, and the second at most #",
+        Cause::NearOut => b"# in # cannot be; K is 2 and R from 2 to 64",
+        Cause::NearLacking => b"# in # cannot be, K is 2; needs # of any # says it",
+        Cause::RingOut => b"# in # round of # fans cannot be; K is 2 and R from 2 to #",
+        Cause::RingOfOne =>
+            b"# in # round of one fan cannot be; take more fans, K 2 and R from 2 to how many they are",
+        Cause::LackingOut =>
+            b"needs # of any # among # fans cannot be; R is at most # and at most 10, K from 1 to R",
+        Cause::FanOutside => b"fan # is outside the stretch, fans # to #; look at one of those",
+    }
+}

@@ -3,8 +3,8 @@ ghost use Rattle.std.specs.Prelude.{◌≡◌};
 ghost use Rattle.deck.specs.Head.{Versioned, Given};
 ghost use Rattle.advice.specs.File.{laid_why, counts_why, header_why, file_why};
 
-use crate::why::Why;
-use crate::{cause, why};
+use crate::cause::Cause;
+use crate::why::{self, Why};
 use deck::Head;
 use layout::number;
 use rules::limit;
@@ -16,12 +16,12 @@ fn laid_why(file: &[u8], head: Head) -> Why
 {
     let length = deck::length_given(head);
     if file.len() < length {
-        return why::because(cause::ENDS_EARLY, file.len() as u64, length as u64, 0, 0);
+        return why::because(Cause::EndsEarly, file.len() as u64, length as u64, 0, 0);
     }
     if deck::bad_layout(file, head) {
-        return why::because(cause::LAID_WRONGLY, 0, 0, 0, 0);
+        return why::because(Cause::LaidWrongly, 0, 0, 0, 0);
     }
-    why::because(cause::BOARD_PAST_LAST, head.boards as u64, 0, 0, 0)
+    why::because(Cause::BoardPastLast, head.boards as u64, 0, 0, 0)
 }
 
 // By its counts.
@@ -31,15 +31,15 @@ fn counts_why(file: &[u8], head: Head) -> Why
 {
     let n = head.fans as u64;
     if refusals::size_out(n) {
-        return why::because(cause::FANS_OUT, n, 0, 0, 0);
+        return why::because(Cause::FansOut, n, 0, 0, 0);
     }
     let m = head.systems as u64;
     if refusals::outside(1, m, limit::SYSTEMS as u64) {
-        return why::because(cause::SYSTEMS_OUT, m, 0, 0, 0);
+        return why::because(Cause::SystemsOut, m, 0, 0, 0);
     }
     let g = head.boards as u64;
     if board_lists::boards_out(head.version, g) {
-        return why::because(cause::BOARDS_OUT, g, 0, 0, 0);
+        return why::because(Cause::BoardsOut, g, 0, 0, 0);
     }
     laid_why(file, head)
 }
@@ -51,11 +51,11 @@ fn header_why(file: &[u8], version: u64) -> Why
 {
     let zeros = number::number2(file, layout::ZERO_FIELD);
     if zeros != 0 {
-        return why::because(cause::ZERO_FIELD_SET, zeros, 0, 0, 0);
+        return why::because(Cause::ZeroFieldSet, zeros, 0, 0, 0);
     }
     let header = layout::header_length(version);
     if file.len() < header {
-        return why::because(cause::HEADER_SHORT, file.len() as u64, header as u64, 0, 0);
+        return why::because(Cause::HeaderShort, file.len() as u64, header as u64, 0, 0);
     }
     let head = deck::head_given(file, version);
     counts_why(file, head)
@@ -67,7 +67,7 @@ pub fn file_why(file: &[u8]) -> Why
 {
     if file.len() < layout::SHORTEST_HEADER {
         return why::because(
-            cause::HEADER_SHORT,
+            Cause::HeaderShort,
             file.len() as u64,
             layout::SHORTEST_HEADER as u64,
             0,
@@ -76,7 +76,7 @@ pub fn file_why(file: &[u8]) -> Why
     }
     let version = number::number2(file, layout::VERSION_FIELD);
     if refusals::version_out(version) {
-        return why::because(cause::UNKNOWN_VERSION, version, 0, 0, 0);
+        return why::because(Cause::UnknownVersion, version, 0, 0, 0);
     }
     header_why(file, version)
 }

@@ -5,8 +5,8 @@ ghost use Rattle.rules.specs.File.{deck_in, system_in};
 ghost use Rattle.deck.specs.Outcome.{Placed};
 ghost use Rattle.advice.specs.System.{above_why, rated_why, why_of, system_why, fan_why};
 
-use crate::why::Why;
-use crate::{cause, why};
+use crate::cause::Cause;
+use crate::why::{self, Why};
 use deck::Head;
 use rules::{System, kind, refusal};
 
@@ -30,7 +30,7 @@ fn above_why(unit: u64, a: u64, b: u64, survival: &[u32], switchboards: &[u32]) 
     let i = why::above_from(survival, a as usize - 1, upto, unit);
     if i < upto {
         return why::because(
-            cause::FAN_ABOVE,
+            Cause::FanAbove,
             i as u64 + 1,
             number_at(survival, i),
             unit,
@@ -39,7 +39,7 @@ fn above_why(unit: u64, a: u64, b: u64, survival: &[u32], switchboards: &[u32]) 
     }
     let j = why::above_from(switchboards, 0, switchboards.len(), unit);
     why::because(
-        cause::BOARD_ABOVE,
+        Cause::BoardAbove,
         j as u64 + 1,
         number_at(switchboards, j),
         unit,
@@ -70,7 +70,7 @@ fn rated_why(
     }
     let weight = why::weight_from(weights, from, upto);
     if number == refusal::WEIGHTS {
-        return why::because(cause::TOO_HEAVY, weight, 0, 0, 0);
+        return why::because(Cause::TooHeavy, weight, 0, 0, 0);
     }
     let rule = system.rule;
     why::range_why(rule, (upto - from) as u64, weight)
@@ -92,10 +92,10 @@ fn lists_why(
 {
     let n = survival.len() as u64;
     if number == refusal::KIND {
-        return why::because(cause::NO_SUCH_KIND, system.rule.kind, kind::LAST, 0, 0);
+        return why::because(Cause::NoSuchKind, system.rule.kind, kind::LAST, 0, 0);
     }
     if asked::stretch_out(system.a, system.b, n) {
-        return why::because(cause::NO_STRETCH, system.a, system.b, n, n);
+        return why::because(Cause::NoStretch, system.a, system.b, n, n);
     }
     rated_why(version, system, number, survival, weights, switchboards)
 }
@@ -128,7 +128,7 @@ pub fn fan_why(file: &[u8], head: Head, s: usize, fan: u64, number: u64) -> Why
 {
     if number == refusal::FAN {
         let system = deck::system_in(file, head, s);
-        return why::because(cause::FAN_OUTSIDE, fan, system.a, system.b, 0);
+        return why::because(Cause::FanOutside, fan, system.a, system.b, 0);
     }
     system_why(file, head, s, number)
 }

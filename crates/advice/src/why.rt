@@ -1,10 +1,10 @@
-// Why something is refused: a row of the table of forms, and the numbers that the form is filled with.
+// Why something is refused: the cause, and the numbers that its form is filled with.
 ghost use Rattle.std.specs.Prelude.{◌≡◌, ◌-◌, ◌≤◌, length};
 ghost use Rattle.rules.specs.Refusal.{most};
 ghost use Rattle.advice.specs.Words.{because};
 ghost use Rattle.advice.specs.System.{one_why, weight_why, near_why, ring_why, range_why, above_from, weight_from};
 
-use crate::cause;
+use crate::cause::Cause;
 use rules::{Rule, kind};
 
 // A file's rule has no further pairs.
@@ -12,43 +12,43 @@ const NO_MORE: [u64; 0] = [];
 
 #[derive(Clone, Copy)]
 pub struct Why {
-    pub row: u64,
+    pub cause: Cause,
     pub a: u64,
     pub b: u64,
     pub c: u64,
     pub d: u64,
 }
 
-pub fn because(row: u64, a: u64, b: u64, c: u64, d: u64) -> Why
-    ensures { result ≡ because row a b c d }
+pub fn because(cause: Cause, a: u64, b: u64, c: u64, d: u64) -> Why
+    ensures { result ≡ because cause a b c d }
 {
-    Why { row, a, b, c, d }
+    Why { cause, a, b, c, d }
 }
 
 // A rule whose first number is out of range, or whose second one is not 0.
-fn one_why(row: u64, first: u64, second: u64, most: u64) -> Why
-    ensures { result ≡ one_why row first second most }
+fn one_why(cause: Cause, first: u64, second: u64, most: u64) -> Why
+    ensures { result ≡ one_why cause first second most }
 {
     if second == 0 {
-        return because(row, first, most, most, 0);
+        return because(cause, first, most, most, 0);
     }
-    because(cause::SECOND_SET, second, most, 0, 0)
+    because(Cause::SecondSet, second, most, 0, 0)
 }
 
 fn weight_why(first: u64, second: u64, total: u64) -> Why
     ensures { result ≡ weight_why first second total }
 {
     if total == 0 {
-        return because(cause::NO_WEIGHT, 0, 0, 0, 0);
+        return because(Cause::NoWeight, 0, 0, 0, 0);
     }
-    one_why(cause::WEIGHT_OUT, first, second, total)
+    one_why(Cause::WeightOut, first, second, total)
 }
 
 fn near_why(first: u64, second: u64, n: u64) -> Why
     ensures { result ≡ near_why first second n }
 {
     if refusals::outside(1, first, second) {
-        return because(cause::NEAR_OUT, first, second, 0, 0);
+        return because(Cause::NearOut, first, second, 0, 0);
     }
     let needed = second - first + 1;
     let lacking = Rule {
@@ -57,18 +57,18 @@ fn near_why(first: u64, second: u64, n: u64) -> Why
         second,
     };
     if refusals::range_out(lacking, n, 0, &NO_MORE) {
-        return because(cause::NEAR_OUT, first, second, 0, 0);
+        return because(Cause::NearOut, first, second, 0, 0);
     }
-    because(cause::NEAR_LACKING, first, second, needed, second)
+    because(Cause::NearLacking, first, second, needed, second)
 }
 
 fn ring_why(first: u64, second: u64, n: u64) -> Why
     ensures { result ≡ ring_why first second n }
 {
     if n <= 1 {
-        return because(cause::RING_OF_ONE, first, second, 0, 0);
+        return because(Cause::RingOfOne, first, second, 0, 0);
     }
-    because(cause::RING_OUT, first, second, n, n)
+    because(Cause::RingOut, first, second, n, n)
 }
 
 // A rule whose numbers are out of range for so many fans of such a weight.
@@ -79,13 +79,13 @@ pub fn range_why(rule: Rule, n: u64, total: u64) -> Why
     let first = rule.first;
     let second = rule.second;
     match asked {
-        kind::NUMBER => one_why(cause::NUMBER_OUT, first, second, n),
+        kind::NUMBER => one_why(Cause::NumberOut, first, second, n),
         kind::WEIGHT => weight_why(first, second, total),
-        kind::BETWEEN => because(cause::BETWEEN_OUT, first, second, n, n),
+        kind::BETWEEN => because(Cause::BetweenOut, first, second, n, n),
         kind::NEAR => near_why(first, second, n),
         kind::NEAR_ROUND => ring_why(first, second, n),
-        kind::LACKING => because(cause::LACKING_OUT, first, second, n, n),
-        _ => one_why(cause::RUN_OUT, first, second, n),
+        kind::LACKING => because(Cause::LackingOut, first, second, n, n),
+        _ => one_why(Cause::RunOut, first, second, n),
     }
 }
 

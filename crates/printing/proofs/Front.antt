@@ -21,7 +21,7 @@ use Rattle.deck.proofs.Sound.{sound, sound-few}
 use Rattle.ending.proofs.Asking.{same_number}
 use Rattle.advice.specs.Words.{because}
 use Rattle.advice.specs.File.{laid_why, counts_why, header_why, file_why}
-use Rattle.advice.specs.Causes.{header_short, unknown_version, zero_field_set, fans_out, systems_out, boards_out, board_past_last}
+use Rattle.advice.specs.declared.cause.Cause.TheVariants.{HeaderShort, UnknownVersion, ZeroFieldSet, FansOut, SystemsOut, BoardsOut, BoardPastLast}
 use Rattle.printing.specs.Front.{Front, Fronted}
 
 -- of two choices: by tests that both fail, and by tests that are the same
@@ -120,14 +120,14 @@ module _ (bytes : List ℕ) (k : ℕ) (long : longest < k) (inside : k ≤ lengt
       let lengths : length_in front ≡ length_in bytes = λ i. file_length (version-same i) (fans-same i) (boards-same i) (count_same i) in
       past _ _ _ _ _ _ (le-ltb (length front) (length_in front) (omega (arith, size, early, lengths))) (le-ltb (length bytes) (length_in bytes) (omega (arith, early)))
       (either _ _ _ _ _ _ (long-layout front (rw size long) n m counted ∙ sym (long-layout bytes (omega arith) n' m' counted')) refl
-      (λ none. ap (λ g. because board_past_last g 0 0 0) boards-same))
+      (λ none. ap (λ g. because BoardPastLast g 0 0 0) boards-same))
 
   counts_same : counts_why front ≡ counts_why bytes
   unfolding counts_why
   counts_same =
-      either _ _ _ _ _ _ (ap bad_size fans-same) (ap (λ n. because fans_out n 0 0 0) fans-same) (λ fans.
-      either _ _ _ _ _ _ (ap (λ m. not (within 1 m most_systems)) count_same) (ap (λ m. because systems_out m 0 0 0) count_same) (λ systems.
-      either _ _ _ _ _ _ (λ i. bad_boards (version-same i) (boards-same i)) (ap (λ g. because boards_out g 0 0 0) boards-same) (λ counted. laid_same fans systems counted)))
+      either _ _ _ _ _ _ (ap bad_size fans-same) (ap (λ n. because FansOut n 0 0 0) fans-same) (λ fans.
+      either _ _ _ _ _ _ (ap (λ m. not (within 1 m most_systems)) count_same) (ap (λ m. because SystemsOut m 0 0 0) count_same) (λ systems.
+      either _ _ _ _ _ _ (λ i. bad_boards (version-same i) (boards-same i)) (ap (λ g. because BoardsOut g 0 0 0) boards-same) (λ counted. laid_same fans systems counted)))
 
   header-same : header_why front ≡ header_why bytes
   unfolding header_why
@@ -135,17 +135,17 @@ module _ (bytes : List ℕ) (k : ℕ) (long : longest < k) (inside : k ≤ lengt
       let zeros = same_number bytes k 2 zero_field (omega arith) in
       let header = header-bounds (version_in bytes) in
       let lengths = ap header_length version-same in
-      let whole : cond (short_header front) (because header_short (length front) (header_length (version_in front)) 0 0) (counts_why front)
-      ≡ cond (short_header bytes) (because header_short (length bytes) (header_length (version_in bytes)) 0 0) (counts_why bytes) =
+      let whole : cond (short_header front) (because HeaderShort (length front) (header_length (version_in front)) 0 0) (counts_why front)
+      ≡ cond (short_header bytes) (because HeaderShort (length bytes) (header_length (version_in bytes)) 0 0) (counts_why bytes) =
       past _ _ _ _ _ _ (le-ltb (length front) (header_length (version_in front)) (omega (arith, size, lengths))) (le-ltb (length bytes) (header_length (version_in bytes)) (omega arith))
       counts_same in
-      λ i. cond (eqb (zeros i) 0) (whole i) (because zero_field_set (zeros i) 0 0 0)
+      λ i. cond (eqb (zeros i) 0) (whole i) (because ZeroFieldSet (zeros i) 0 0 0)
 
   same-why : file_why front ≡ file_why bytes
   unfolding file_why
   same-why =
       past _ _ _ _ _ _ (le-ltb (length front) shortest_header (omega (arith, size))) (le-ltb (length bytes) shortest_header (omega arith))
-      (either _ _ _ _ _ _ (ap bad_version version-same) (ap (λ v. because unknown_version v 0 0 0) version-same) (λ known. header-same))
+      (either _ _ _ _ _ _ (ap bad_version version-same) (ap (λ v. because UnknownVersion v 0 0 0) version-same) (λ known. header-same))
 
   front-refused : file_refusal front ≡ 0 → ⊥
   front-refused = long-refused front (rw size long)

@@ -1,30 +1,17 @@
--- `file::header_why` takes the tests of `headerWhy`. Assumes nothing.
+-- `file::header_why` takes the tests of the definition of that name. Assumes nothing.
 use mathlib.Core.Path.{sym, ap, ◌∙◌}
 use lib.ListN.{length}
 use borrow.Author.Tests.{eq-eqb, ne_eqb, lt-ltb, le-ltb}
 use Rattle.rules.specs.File.{zero_field, header_length, number_at, version_in}
 use Rattle.advice.specs.Words.{because}
 use Rattle.advice.specs.File.{header_why}
-use Rattle.advice.specs.Causes.{header_short, zero_field_set}
-use borrow.Author.Rules.{rules}
+use Rattle.advice.specs.declared.cause.Cause.TheVariants.{HeaderShort, ZeroFieldSet}
 use Rattle.advice.proofs.file.header_why.Goals as goal
-
-pub number2-zeros-requires : goal.number2-zeros-requires
-number2-zeros-requires c = search rules
-
-pub because-requires : goal.because-requires
-because-requires c = search rules
 
 pub returns-then-zeros-ne0 : goal.returns-then-zeros-ne0
 unfolding header_why
 returns-then-zeros-ne0 c =
-    rw (ne_eqb (number_at 2 c.args.file.now zero_field) 0 (λ e. c.if-zeros-ne0.true (c.number2-zeros.ensures ∙ e))) (c.because.ensures ∙ ap (λ z. because zero_field_set z 0 0 0) c.number2-zeros.ensures)
-
-pub header_length-header-requires : goal.header_length-header-requires
-header_length-header-requires c = search rules
-
-pub because-requires-then-file-header : goal.because-requires-then-file-header
-because-requires-then-file-header c = search rules
+    rw (ne_eqb (number_at 2 c.args.file.now zero_field) 0 (λ e. c.if-zeros-ne0.true (c.number2-zeros.ensures ∙ e))) (c.because.ensures ∙ ap (λ z. because ZeroFieldSet z 0 0 0) c.number2-zeros.ensures)
 
 pub returns-then-file-header : goal.returns-then-file-header
 unfolding header_why
@@ -33,15 +20,12 @@ returns-then-file-header c =
     rw (
       eq-eqb (number_at 2 c.args.file.now zero_field) 0 (sym c.number2-zeros.ensures ∙ c.if-zeros-ne0.false),
       lt-ltb (length c.args.file.now) (header_length (version_in c.args.file.now)) (rw header at c.if-file-header.true),
-    ) (c.because-then-file-header.ensures ∙ ap (λ h. because header_short (length c.args.file.now) h 0 0) header)
+    ) (c.because-then-file-header.ensures ∙ ap (λ h. because HeaderShort (length c.args.file.now) h 0 0) header)
 
 pub head_given-head-requires : goal.head_given-head-requires
 head_given-head-requires c =
     let header = c.header_length-header.ensures.0 ∙ ap header_length c.requires.is in
     record { long = rw header at c.if-file-header.false; is = c.requires.is }
-
-pub counts_why-requires : goal.counts_why-requires
-counts_why-requires c = search rules
 
 pub returns : goal.returns
 unfolding header_why

@@ -1,23 +1,13 @@
--- `system::lists_why` takes the tests of `whyOf`: 1, then the stretch. Assumes nothing.
+-- `system::lists_why` takes the tests of `why_of`: 1, then the stretch. Assumes nothing.
 use mathlib.Core.Path.{sym, ◌∙◌}
 use borrow.Author.Tests.{eq-eqb, ne_eqb}
 use Rattle.advice.specs.System.{why_of}
-use borrow.Author.Rules.{rules}
 use Rattle.advice.proofs.system.lists_why.Goals as goal
-
-pub because-requires : goal.because-requires
-because-requires c = search rules
 
 pub returns-then-number-eq-KIND : goal.returns-then-number-eq-KIND
 unfolding why_of
 returns-then-number-eq-KIND c =
     rw (eq-eqb c.args.number 1 c.if-number-eq-KIND.true) c.because.ensures
-
-pub stretch_out-requires : goal.stretch_out-requires
-stretch_out-requires c = search rules
-
-pub because-requires-then-stretch_out : goal.because-requires-then-stretch_out
-because-requires-then-stretch_out c = search rules
 
 pub returns-then-stretch_out : goal.returns-then-stretch_out
 unfolding why_of

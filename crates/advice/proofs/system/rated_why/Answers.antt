@@ -1,4 +1,4 @@
--- `system::rated_why` takes the tests of `ratedWhy`. Assumes nothing.
+-- `system::rated_why` takes the tests of the definition of that name. Assumes nothing.
 use mathlib.Core.Path.{ap, ◌∙◌}
 use Prim.Native.Nat.{◌-◌}
 use native.Mathlib.Omega.{arith}
@@ -7,22 +7,12 @@ use borrow.Author.Tests.{eq-eqb, ne_eqb}
 use Rattle.rules.proofs.Accepted.{in-stretch}
 use Rattle.advice.specs.Words.{because}
 use Rattle.advice.specs.System.{above_why, range_why, rated_why}
-use Rattle.advice.specs.Causes.{too_heavy}
-use borrow.Author.Rules.{rules}
+use Rattle.advice.specs.declared.cause.Cause.TheVariants.{TooHeavy}
 use Rattle.advice.proofs.system.rated_why.Goals as goal
 
 pub overflow_sub-from : goal.overflow_sub-from
 overflow_sub-from c =
     omega (arith, in-stretch c.args.system.a c.args.system.b (length c.args.survival.now) c.requires.stretch)
-
-pub is_decimal-requires : goal.is_decimal-requires
-is_decimal-requires c = search rules
-
-pub whole-unit-requires : goal.whole-unit-requires
-whole-unit-requires c = search rules
-
-pub above_why-requires : goal.above_why-requires
-above_why-requires c = search rules
 
 pub returns-then-number-eq-SURVIVAL : goal.returns-then-number-eq-SURVIVAL
 unfolding rated_why
@@ -36,21 +26,15 @@ weight_from-weight-requires c =
     let on-deck = in-stretch c.args.system.a c.args.system.b (length c.args.survival.now) c.requires.stretch in
     (omega (arith, on-deck), omega (arith, on-deck, c.requires.alike), omega (arith, c.requires.alike, c.requires.few))
 
-pub because-requires : goal.because-requires
-because-requires c = search rules
-
 pub returns-then-number-eq-WEIGHTS : goal.returns-then-number-eq-WEIGHTS
 unfolding rated_why
 returns-then-number-eq-WEIGHTS c =
     rw (ne_eqb c.args.number 4 c.if-number-eq-SURVIVAL.false, eq-eqb c.args.number 5 c.if-number-eq-WEIGHTS.true)
-    (c.because.ensures ∙ ap (λ w. because too_heavy w 0 0 0) c.weight_from-weight.ensures)
+    (c.because.ensures ∙ ap (λ w. because TooHeavy w 0 0 0) c.weight_from-weight.ensures)
 
 pub overflow_sub-upto : goal.overflow_sub-upto
 overflow_sub-upto c =
     omega (arith, in-stretch c.args.system.a c.args.system.b (length c.args.survival.now) c.requires.stretch)
-
-pub range_why-requires : goal.range_why-requires
-range_why-requires c = search rules
 
 pub returns : goal.returns
 unfolding rated_why

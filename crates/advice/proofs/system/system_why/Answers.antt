@@ -6,20 +6,7 @@ use lib.Seq.{length-take-le}
 use Rattle.rules.specs.File.{deck_in}
 use Rattle.deck.proofs.Kept.{few-fans, few-boards, lent-survival, lent-weights, lent-numbers}
 use Rattle.advice.specs.System.{why_of, system_why}
-use borrow.Author.Rules.{rules}
 use Rattle.advice.proofs.system.system_why.Goals as goal
-
-pub survival_in-survival-requires : goal.survival_in-survival-requires
-survival_in-survival-requires c = search rules
-
-pub weights_in-weights-requires : goal.weights_in-weights-requires
-weights_in-weights-requires c = search rules
-
-pub board_survival_in-switchboards-requires : goal.board_survival_in-switchboards-requires
-board_survival_in-switchboards-requires c = search rules
-
-pub system_in-system-requires : goal.system_in-system-requires
-system_in-system-requires c = search rules
 
 pub slice_bounds-survival-end : goal.slice_bounds-survival-end
 slice_bounds-survival-end c =

@@ -1,4 +1,4 @@
--- `why::near_why` takes the tests of `nearWhy`; the first is that the window has room for as many as fail. Assumes nothing.
+-- `why::near_why` takes the tests of the definition of that name; the first is that the window has room for as many as fail. Assumes nothing.
 use mathlib.Core.Path.{sym, ◌∙◌}
 use mathlib.Core.List.{[]}
 use Prim.Native.Nat.{◌+◌, ◌-◌}
@@ -8,14 +8,7 @@ use Rattle.rules.specs.Below.{within}
 use Rattle.rules.specs.Refusal.{ranged}
 use Rattle.rules.proofs.EachKind.{within-true}
 use Rattle.advice.specs.System.{lacking_rule}
-use borrow.Author.Rules.{rules}
 use Rattle.advice.proofs.why.near_why.Goals as goal
-
-pub outside-requires : goal.outside-requires
-outside-requires c = search rules
-
-pub because-requires : goal.because-requires
-because-requires c = search rules
 
 pub returns-then-outside : goal.returns-then-outside
 returns-then-outside c =
@@ -29,21 +22,12 @@ pub overflow_add-needed : goal.overflow_add-needed
 overflow_add-needed c =
     omega (arith, within-true 1 c.args.first c.args.second (not-false (within 1 c.args.first c.args.second) (sym c.outside.ensures ∙ c.if-outside.false)))
 
-pub range_out-requires : goal.range_out-requires
-range_out-requires c = search rules
-
-pub because-requires-then-range_out : goal.because-requires-then-range_out
-because-requires-then-range_out c = search rules
-
 pub returns-then-range_out : goal.returns-then-range_out
 returns-then-range_out c =
     rw (
       not-false (within 1 c.args.first c.args.second) (sym c.outside.ensures ∙ c.if-outside.false),
       not-true (ranged (lacking_rule (c.args.second - c.args.first + 1) c.args.second) c.args.n 0 []) (sym c.range_out.ensures ∙ c.if-range_out.true),
     ) c.because-then-range_out.ensures
-
-pub because-requires-2 : goal.because-requires-2
-because-requires-2 c = search rules
 
 pub returns : goal.returns
 returns c =

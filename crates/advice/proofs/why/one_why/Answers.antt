@@ -1,16 +1,9 @@
--- `why::one_why` takes the test of `oneWhy`. Assumes nothing.
+-- `why::one_why` takes the test of the definition of that name. Assumes nothing.
 use borrow.Author.Tests.{eq-eqb, ne_eqb}
-use borrow.Author.Rules.{rules}
 use Rattle.advice.proofs.why.one_why.Goals as goal
-
-pub because-requires : goal.because-requires
-because-requires c = search rules
 
 pub returns-then-second-eq0 : goal.returns-then-second-eq0
 returns-then-second-eq0 c = rw (eq-eqb c.args.second 0 c.if-second-eq0.true) c.because.ensures
-
-pub because-requires-2 : goal.because-requires-2
-because-requires-2 c = search rules
 
 pub returns : goal.returns
 returns c = rw (ne_eqb c.args.second 0 c.if-second-eq0.false) c.because-2.ensures

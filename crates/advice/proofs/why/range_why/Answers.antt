@@ -1,30 +1,8 @@
--- `why::range_why` meets its contract: each arm is the row of its kind, and what is left are the kinds of failed ones in a row. Assumes nothing.
+-- `why::range_why` meets its contract: each arm has the cause of its kind, and what is left are the kinds of failed ones in a row. Assumes nothing.
 use native.Mathlib.Omega.{arith}
 use borrow.Author.Tests.{ne_eqb}
 use Rattle.advice.specs.System.{range_why}
-use borrow.Author.Rules.{rules}
 use Rattle.advice.proofs.why.range_why.Goals as goal
-
-pub one_why-requires : goal.one_why-requires
-one_why-requires c = search rules
-
-pub weight_why-requires : goal.weight_why-requires
-weight_why-requires c = search rules
-
-pub because-requires : goal.because-requires
-because-requires c = search rules
-
-pub near_why-requires : goal.near_why-requires
-near_why-requires c = search rules
-
-pub ring_why-requires : goal.ring_why-requires
-ring_why-requires c = search rules
-
-pub because-requires-in-8 : goal.because-requires-in-8
-because-requires-in-8 c = search rules
-
-pub one_why-requires-in_default : goal.one_why-requires-in_default
-one_why-requires-in_default c = search rules
 
 pub returns-in-1 : goal.returns-in-1
 unfolding range_why
