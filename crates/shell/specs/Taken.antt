@@ -2,26 +2,38 @@
 use Rattle.std.specs.Prelude.{◌≡◌, Bool, true, false, cond, ℕ, ◌+◌, ◌^◌, ◌≤◌, ◌<◌, eqb}
 use Rattle.shell.specs.declared.reading.Input.{Input}
 use Rattle.shell.specs.declared.reading.Input.TheVariants.{Filled, Failed}
+use Rattle.shell.specs.declared.taking.State.{State}
+use Rattle.shell.specs.declared.taking.State.TheVariants as state
 use Rattle.shell.specs.declared.taking.Taken.{Taken}
 use Rattle.shell.specs.declared.reading.Whole.{Whole}
 
 abbrev pub nothing : Taken
-nothing = record { count = 0; state = 0 }
+nothing = record { count = 0; state = state.Going }
 
 abbrev pub unopened : Taken
-unopened = record { count = 0; state = 2 }
+unopened = record { count = 0; state = state.Failed }
+
+abbrev pub is_going : State → Bool
+is_going state.Going = true
+is_going state.Ended = false
+is_going state.Failed = false
 
 -- no read met the end or failed
 abbrev pub goes_on : Taken → Bool
-goes_on t = eqb t.state 0
+goes_on t = is_going t.state
+
+abbrev pub is_failed : State → Bool
+is_failed state.Going = false
+is_failed state.Ended = false
+is_failed state.Failed = true
 
 abbrev pub has_failed : Taken → Bool
-has_failed t = eqb t.state 2
+has_failed t = is_failed t.state
 
 -- with what one read more gave: nothing at the input's end, some, or it failed
 abbrev pub taken_with : Taken → Input → Taken
-taken_with t (Filled n) = cond (eqb n 0) (record { count = t.count; state = 1 }) (record { count = t.count + n; state = 0 })
-taken_with t Failed = record { count = t.count; state = 2 }
+taken_with t (Filled n) = cond (eqb n 0) (record { count = t.count; state = state.Ended }) (record { count = t.count + n; state = state.Going })
+taken_with t Failed = record { count = t.count; state = state.Failed }
 
 -- so few bytes that they can be added
 abbrev pub Adds : Taken → Input → Type 0

@@ -7,16 +7,17 @@ use crate::reading;
 use crate::reading::{Input, Opened};
 
 // Bytes were taken, or none yet; a read met the input's end; a read failed.
-const GOING: u64 = 0;
-
-const ENDED: u64 = 1;
-
-const FAILED: u64 = 2;
+#[derive(Clone, Copy)]
+enum State {
+    Going,
+    Ended,
+    Failed,
+}
 
 #[derive(Clone, Copy)]
 pub struct Taken {
     count: usize,
-    state: u64,
+    state: State,
 }
 
 // Before any read.
@@ -25,7 +26,7 @@ pub fn nothing() -> Taken
 {
     Taken {
         count: 0,
-        state: GOING,
+        state: State::Going,
     }
 }
 
@@ -35,7 +36,7 @@ pub fn unopened() -> Taken
 {
     Taken {
         count: 0,
-        state: FAILED,
+        state: State::Failed,
     }
 }
 
@@ -50,14 +51,14 @@ pub fn count(taken: Taken) -> usize
 pub fn goes_on(taken: Taken) -> bool
     ensures { result ≡ goes_on taken }
 {
-    taken.state == GOING
+    matches!(taken.state, State::Going)
 }
 
 // Has a read failed?
 pub fn has_failed(taken: Taken) -> bool
     ensures { result ≡ has_failed taken }
 {
-    taken.state == FAILED
+    matches!(taken.state, State::Failed)
 }
 
 // With what one read more gave: a read of nothing is the input's end.
@@ -71,17 +72,17 @@ fn added(taken: Taken, got: Input) -> Taken
             if more == 0 {
                 return Taken {
                     count,
-                    state: ENDED,
+                    state: State::Ended,
                 };
             }
             Taken {
                 count: count + more,
-                state: GOING,
+                state: State::Going,
             }
         }
         Input::Failed => Taken {
             count,
-            state: FAILED,
+            state: State::Failed,
         },
     }
 }
