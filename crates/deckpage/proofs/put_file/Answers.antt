@@ -4,4 +4,4 @@ use Rattle.deckpage.proofs.put_file.Goals as goal
 
 pub put_page-requires : goal.put_page-requires
 put_page-requires c =
-    opened-headed c.open-opened.ensures c.if-opened-ne0.false
+    opened-headed c.in-Ok.ensures

@@ -5,10 +5,10 @@ use Rattle.deckstate.proofs.Words.{boards-few}
 use Rattle.deckstate.proofs.hearing.hear_all.Goals as goal
 
 pub boards_in-boards-requires : goal.boards_in-boards-requires
-boards_in-boards-requires c = opened-headed c.requires c.if-opened-ne0.false
+boards_in-boards-requires c = opened-headed (rw c.in-Ok.is at c.requires)
 
 pub hear_words-requires : goal.hear_words-requires
 hear_words-requires c = (
-  few-fans (opened-headed c.requires c.if-opened-ne0.false),
-  rw c.boards_in-boards.ensures (boards-few _ (opened-accepted c.requires c.if-opened-ne0.false)),
+  few-fans (opened-headed (rw c.in-Ok.is at c.requires)),
+  rw c.boards_in-boards.ensures (boards-few _ (opened-accepted (rw c.in-Ok.is at c.requires))),
 )
