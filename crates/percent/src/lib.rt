@@ -36,9 +36,7 @@ fn last_digits(n: u64) -> [u8; POINT_DIGITS]
 {
     let mut digits = [0u8; POINT_DIGITS];
     let mut left = n;
-    let mut k = POINT_DIGITS;
-    'places: while k > 0 {
-        k -= 1;
+    for k in (0..POINT_DIGITS).rev() {
         digits[k] = ZERO + (left % 10) as u8;
         left = left / 10;
     }

@@ -4,3 +4,4 @@ pub mod Shares
 pub mod Making
 pub mod Rows
 pub mod Debts
+pub mod Halves
