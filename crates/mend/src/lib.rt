@@ -4,10 +4,10 @@
 
 mod changes; // changes.rt: where two lists of bytes differ
 
-ghost use Rattle.std.specs.Prelude.{◌≡◌, ◌*◌, ◌≤◌, length, replicate};
+ghost use Rattle.std.specs.Prelude.{◌≡◌, [], ◌∷◌, ◌*◌, ◌≤◌, length, replicate};
 ghost use Rattle.rules.specs.File.{header_length};
-ghost use Rattle.rules.specs.Refusal.{refusal_in};
-ghost use Rattle.rules.specs.Mending.{mended, per_change, changes_in, changed_in};
+ghost use Rattle.rules.specs.Refusal.{refusal_in, first_of};
+ghost use Rattle.rules.specs.Mending.{ends_early, mended, per_change, changes_in, changed_in};
 ghost use Rattle.deck.specs.Head.{Given};
 ghost use Rattle.writer.specs.Laid.{laid};
 ghost use Rattle.mend.specs.Looked.{cut_refusal, Looks, Looked, Sized, header_by};
@@ -22,18 +22,25 @@ use writer::bytes as laying;
 // The longest header.
 const HEADER: usize = 28;
 
+// Refusal 22: the file ends before its last system is whole.
+fn cut(bytes: &[u8], head: Head) -> Result<(), Refusal>
+    requires { Given bytes.now head }
+    ensures { refusal_in result ≡ first_of ((22, ends_early bytes.now) ∷ []) }
+{
+    if bytes.len() < deck::length_given(head) {
+        return Err(Refusal::Cut);
+    }
+    Ok(())
+}
+
 // Refusals 2, 12, 20 and 22, of a file whose header is there, checked in that order.
 fn cut_refusal(bytes: &[u8], head: Head) -> Result<(), Refusal>
     requires { Given bytes.now head }
     ensures { refusal_in result ≡ cut_refusal bytes.now }
 {
     let counted = deck::counts_refusal(head);
-    let early = bytes.len() < deck::length_given(head);
-    counted?;
-    if early {
-        return Err(Refusal::Cut);
-    }
-    Ok(())
+    let whole = cut(bytes, head);
+    counted.and(whole)
 }
 
 // Looks at a file: its refusal, 10, 11 for the version only, 10 again, 2, 12, 20 and 22, checked in that order, or its

@@ -36,7 +36,10 @@ fn last_digits(n: u64) -> [u8; POINT_DIGITS]
 {
     let mut digits = [0u8; POINT_DIGITS];
     let mut left = n;
-    for k in (0..POINT_DIGITS).rev() {
+    let mut k = POINT_DIGITS;
+    // by hand, since `zeros_lost` of must-fail asks what is left in the place of k
+    'places: while k > 0 {
+        k -= 1;
         digits[k] = ZERO + (left % 10) as u8;
         left = left / 10;
     }

@@ -26,16 +26,23 @@ pub struct Swap {
     pub p: u64,
 }
 
-// A rating's own refusal, then 17: the fan is outside the stretch.
-pub fn fan_refusal(own: Result<(), Refusal>, a: u64, fan: u64, b: u64) -> Result<(), Refusal>
-    ensures { refusal_in result ≡ fan_refusal (refusal_in own) a fan b }
+// Refusal 17: the fan is outside the stretch.
+fn fan_out(a: u64, fan: u64, b: u64) -> Result<(), Refusal>
+    ensures { refusal_in result ≡ fan_refusal 0 a fan b }
 {
     let outside = refusals::outside(a, fan, b);
-    own?;
     if outside {
         return Err(Refusal::Fan);
     }
     Ok(())
+}
+
+// A rating's own refusal, then 17.
+pub fn fan_refusal(own: Result<(), Refusal>, a: u64, fan: u64, b: u64) -> Result<(), Refusal>
+    ensures { refusal_in result ≡ fan_refusal (refusal_in own) a fan b }
+{
+    let placed = fan_out(a, fan, b);
+    own.and(placed)
 }
 
 // A copy of the survival numbers from one place up to another, each in its own place: the lent list is never written,

@@ -2,19 +2,35 @@
 use mathlib.Core.Path.{sym, ◌∙◌}
 use mathlib.Core.List.{append-nil}
 use native.Mathlib.Omega.{arith}
-use lib.ListN.{length-set}
+use lib.ListN.{length, length-set}
 use Rattle.percent.proofs.Digits.{digit-more, all_digits}
 use Rattle.percent.proofs.last_digits.Goals as goal
 
-pub loop-k-init : goal.loop-k-init
-loop-k-init c = (omega arith, append-nil _)
+pub places-init : goal.places-init
+places-init c = (omega arith, omega arith, append-nil _)
 
-pub loop-k-preserved : goal.loop-k-preserved
-loop-k-preserved c = (
-  length-set c.loop-k.digits _ _ ∙ c.loop-k.invariant.0,
-  digit-more c.loop-k.k c.loop-k.left c.loop-k.digits c.loop-k-test.true (omega arith) ∙ c.loop-k.invariant.1,
+pub overflow_sub-k : goal.overflow_sub-k
+overflow_sub-k c = omega arith
+
+pub overflow_cast-digits : goal.overflow_cast-digits
+overflow_cast-digits c = omega arith
+
+pub overflow_add-digits : goal.overflow_add-digits
+overflow_add-digits c = omega arith
+
+pub bounds-digits-k : goal.bounds-digits-k
+bounds-digits-k c = omega arith
+
+pub places-smaller : goal.places-smaller
+places-smaller c = omega arith
+
+pub places-preserved : goal.places-preserved
+places-preserved c = (
+  omega arith,
+  length-set c.places.digits _ _ ∙ c.places.invariant.1,
+  digit-more c.places.k c.places.left c.places.digits c.places-test.true (omega arith) ∙ c.places.invariant.2,
 )
 
 pub returns : goal.returns
 returns c =
-    sym (all_digits c.loop-k.k c.loop-k.left c.loop-k.digits (omega arith)) ∙ c.loop-k.invariant.1
+    sym (all_digits c.places.k c.places.left c.places.digits (omega arith)) ∙ c.places.invariant.2

@@ -1,20 +1,17 @@
--- `fan_refusal` gives the figures' own, then 17. Assumes nothing.
-use mathlib.Core.Path.{sym, ap, ◌∙◌}
-use mathlib.Core.Bool.{cond}
-use Rattle.rules.specs.Refusal.{refusal_in}
-use Rattle.rules.proofs.Numbers.{number-some, handed_on}
+-- `fan_refusal` gives the figures' own, then 17: of two results the first refusal. Assumes nothing.
+use mathlib.Core.Path.{◌≡◌, refl, sym, ap, ◌∙◌}
+use Prim.Native.Nat.{ℕ}
+use Rattle.std.proofs.Common.{Result, Ok, Err}
+use Rattle.std.specs.Result.{result_and}
+use Rattle.rules.specs.declared.refusal.Refusal.{Refusal}
+use Rattle.rules.specs.Refusal.{after, refusal_in}
+use Rattle.rules.proofs.Numbers.{number-some}
 use Rattle.rules.proofs.Unless.{after_none, after-some}
 use Rattle.swaps.proofs.fan_refusal.Goals as goal
 
-pub returns-in_err-own : goal.returns-in_err-own
-returns-in_err-own c =
-    handed_on _ _ c.from_residual.ensures.1
-    (sym (ap refusal_in c.in_err-own.was) ∙ sym (after-some _ _ (λ none. number-some _ (sym (ap refusal_in c.in_err-own.was) ∙ none))))
-
-pub returns-then-outside : goal.returns-then-outside
-returns-then-outside c =
-    sym (after_none _ _ (ap refusal_in c.in_ok-own.was) ∙ ap (λ b. cond b 17 0) (sym c.outside-outside.ensures ∙ c.if-outside.true))
+first-refused : {A B : Type 0} (r : Result A Refusal) (q : Result B Refusal) (next : ℕ) → refusal_in q ≡ after 0 next → refusal_in (result_and r q) ≡ after (refusal_in r) next
+first-refused (Ok x) q next e = e
+first-refused (Err e) q next f = sym (after-some _ _ (number-some e))
 
 pub returns : goal.returns
-returns c =
-    sym (after_none _ _ (ap refusal_in c.in_ok-own.was) ∙ ap (λ b. cond b 17 0) (sym c.outside-outside.ensures ∙ c.if-outside.false))
+returns c = ap refusal_in c.and.ensures ∙ first-refused c.args.own c.fan_out-placed.result _ c.fan_out-placed.ensures
