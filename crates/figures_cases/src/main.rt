@@ -36,12 +36,7 @@ fn question_at(bytes: &[u8], at: usize) -> Question
 }
 
 // The answer that the case at `at` asks of its lists.
-fn asked(
-    bytes: &[u8],
-    at: usize,
-    lists: &RatedLists,
-    table: &mut [u64],
-) -> Answer
+fn asked(bytes: &[u8], at: usize, lists: &RatedLists, table: &mut [u64]) -> Answer
     requires { at + head_words ≤ length bytes.now }
 {
     let question = question_at(bytes, at);
