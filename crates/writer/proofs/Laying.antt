@@ -50,7 +50,11 @@ pub laid-front : (bytes room : List ℕ) → laid 0 bytes room ≡ bytes ++ drop
 unfolding laid
 laid-front bytes room = rw (zero-add (length bytes))
 
--- two bytes stored one after the other are laid
+-- a byte stored, and two stored one after the other, are laid
+pub laid_one : (at a : ℕ) (room : List ℕ) → at + 1 ≤ length room → set room at a ≡ laid at (a ∷ []) room
+unfolding laid
+laid_one at a room fits = sets-eq (a ∷ []) room at fits
+
 pub laid-two : (at a b : ℕ) (room : List ℕ) → at + 2 ≤ length room → set (set room at a) (at + 1) b ≡ laid at (a ∷ b ∷ []) room
 unfolding laid
 laid-two at a b room fits = rw (add-one at) (sets-eq (a ∷ b ∷ []) room at fits)

@@ -8,6 +8,14 @@ const BYTE: u16 = 256;
 
 const TWO_BYTES: u32 = 65536;
 
+// A number in one byte.
+fn put1(x: u8, room: &mut [u8], at: usize)
+    requires { at + 1 ≤ length room.old }
+    ensures { room.new ≡ laid at (bytes_of 1 x) room.old }
+{
+    room[at] = x;
+}
+
 // A number in two bytes, lowest first.
 fn put2(x: u16, room: &mut [u8], at: usize)
     requires { at + 2 ≤ length room.old }
@@ -28,15 +36,18 @@ fn put4(x: u32, room: &mut [u8], at: usize)
     put2((x / TWO_BYTES) as u16, room, at + 2);
 }
 
-// The numbers of a list in a byte each, which is the list itself.
+// The numbers of a list in a byte each, one after the other: `copy_from_slice` needs `memmove`, which the archives for C
+// do without.
 pub fn put_all1(numbers: &[u8], room: &mut [u8], at: usize)
     requires { at + 1 * length numbers.now ≤ length room.old }
     ensures { room.new ≡ laid at (all_bytes 1 numbers.now) room.old }
 {
-    room[at..at + numbers.len()].copy_from_slice(numbers);
+    for (i, number) in numbers.iter().enumerate() {
+        put1(*number, room, at + 1 * i);
+    }
 }
 
-// In two bytes each, one after the other.
+// In two bytes each.
 pub fn put_all2(numbers: &[u16], room: &mut [u8], at: usize)
     requires { at + 2 * length numbers.now ≤ length room.old }
     ensures { room.new ≡ laid at (all_bytes 2 numbers.now) room.old }
