@@ -36,8 +36,8 @@ fn put4(x: u32, room: &mut [u8], at: usize)
     put2((x / TWO_BYTES) as u16, room, at + 2);
 }
 
-// The numbers of a list in a byte each, one after the other: `copy_from_slice` needs `memmove`, which the archives for C
-// do without.
+// The numbers of a list in a byte each, one after the other. `copy_from_slice` would need `memmove`, which the archives
+// for C do without.
 pub fn put_all1(numbers: &[u8], room: &mut [u8], at: usize)
     requires { at + 1 * length numbers.now ≤ length room.old }
     ensures { room.new ≡ laid at (all_bytes 1 numbers.now) room.old }
