@@ -8,7 +8,7 @@ use Rattle.forms.proofs.Filling.{form-short}
 use Rattle.forms.specs.Form.{form_text, form_room, PutText}
 use Rattle.advice.specs.declared.why.Why.{Why}
 use Rattle.advice.specs.declared.cause.Cause.{Cause}
-use Rattle.advice.specs.declared.cause.Cause.TheVariants.{HeaderShort, UnknownVersion, ZeroFieldSet, FansOut, SystemsOut, BoardsOut, EndsEarly, LaidWrongly, BoardPastLast, NoSuchKind, NoStretch, FanAbove, BoardAbove, TooHeavy, SecondSet, NumberOut, RunOut, WeightOut, NoWeight, BetweenOut, NearOut, NearLacking, RingOut, RingOfOne, LackingOut, FanOutside}
+use Rattle.advice.specs.declared.cause.Cause.TheVariants.{HeaderShort, UnknownVersion, ZeroFieldSet, FansOut, SystemsOut, BoardsOut, EndsEarly, LaidWrongly, BoardPastLast, NoSuchKind, NoStretch, FanAbove, BoardAbove, TooHeavy, SecondSet, NumberOut, RunOut, WeightOut, NoWeight, BetweenOut, NearOut, NearLacking, RingOut, RingOfOne, LackingOut, FanOutside, Untold}
 use Rattle.advice.specs.Words.{form_of, numbers_of, why_text, longest_form, why_room}
 
 short-at : (cause : Cause) → length (form_of cause) ≤ longest_form
@@ -38,6 +38,7 @@ short-at RingOut = omega arith
 short-at RingOfOne = omega arith
 short-at LackingOut = omega arith
 short-at FanOutside = omega arith
+short-at Untold = omega arith
 
 pub worded : {out after : List ℕ} {at end : ℕ} (w : Why) {form numbers : List ℕ} → form ≡ form_of w.cause → numbers ≡ numbers_of w
     → PutText (form_text form numbers) (form_room form) out at after end → PutText (why_text w) why_room out at after end

@@ -4,7 +4,7 @@ use Rattle.text.specs.Decimal.{text, most_digits}
 use Rattle.forms.specs.Form.{most_marks, form_text}
 use Rattle.advice.specs.declared.why.Why.{Why}
 use Rattle.advice.specs.declared.cause.Cause.{Cause}
-use Rattle.advice.specs.declared.cause.Cause.TheVariants.{HeaderShort, UnknownVersion, ZeroFieldSet, FansOut, SystemsOut, BoardsOut, EndsEarly, LaidWrongly, BoardPastLast, NoSuchKind, NoStretch, FanAbove, BoardAbove, TooHeavy, SecondSet, NumberOut, RunOut, WeightOut, NoWeight, BetweenOut, NearOut, NearLacking, RingOut, RingOfOne, LackingOut, FanOutside}
+use Rattle.advice.specs.declared.cause.Cause.TheVariants.{HeaderShort, UnknownVersion, ZeroFieldSet, FansOut, SystemsOut, BoardsOut, EndsEarly, LaidWrongly, BoardPastLast, NoSuchKind, NoStretch, FanAbove, BoardAbove, TooHeavy, SecondSet, NumberOut, RunOut, WeightOut, NoWeight, BetweenOut, NearOut, NearLacking, RingOut, RingOfOne, LackingOut, FanOutside, Untold}
 
 -- why: the cause, and the numbers that its form is filled with
 abbrev pub because : Cause → (a b c d : ℕ) → Why
@@ -37,6 +37,7 @@ form_of RingOut = text "# in # round of # fans cannot be; K is 2 and R from 2 to
 form_of RingOfOne = text "# in # round of one fan cannot be; take more fans, K 2 and R from 2 to how many they are"
 form_of LackingOut = text "needs # of any # among # fans cannot be; R is at most # and at most 10, K from 1 to R"
 form_of FanOutside = text "fan # is outside the stretch, fans # to #; look at one of those"
+form_of Untold = []
 
 -- its text, and the room that it takes at most
 abbrev pub numbers_of : Why → List ℕ

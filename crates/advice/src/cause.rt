@@ -81,6 +81,9 @@ pub enum Cause {
 
     // A fan is not in the system's stretch.
     FanOutside,
+
+    // None of these: nothing is told.
+    Untold,
 }
 
 // K and R in a form are a rule's numbers as a typed text has them.
@@ -122,5 +125,6 @@ pub fn form_of(cause: Cause) -> &'static [u8]
         Cause::LackingOut =>
             b"needs # of any # among # fans cannot be; R is at most # and at most 10, K from 1 to R",
         Cause::FanOutside => b"fan # is outside the stretch, fans # to #; look at one of those",
+        Cause::Untold => b"",
     }
 }

@@ -34,11 +34,17 @@ pub fn dealt(unit: u64, x: u64) -> u64
     0
 }
 
-// The upper half of a product of 128 bits.
+// The upper half of a product of 128 bits, by digits: the compiler sees that it is one multiplication.
 fn upper_half(x: u64, y: u64) -> u64
     ensures { result ≡ x * y / word_parts }
 {
-    (u128::from(x) * u128::from(y) >> 64) as u64
+    let x1 = x / DIGIT;
+    let x0 = x % DIGIT;
+    let y1 = y / DIGIT;
+    let y0 = y % DIGIT;
+    let lower = x1 * y0 + x0 * y0 / DIGIT;
+    let middle = x0 * y1 + lower % DIGIT;
+    x1 * y1 + lower / DIGIT + middle / DIGIT
 }
 
 // A value times a share, rounded down.
